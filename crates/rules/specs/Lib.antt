@@ -1,0 +1,17 @@
+pub mod Lists
+pub mod Bytes
+pub mod Headers
+pub mod Device
+pub mod Region
+pub mod Path
+pub mod Syntax
+pub mod Table
+pub mod Program
+pub mod Slots
+pub mod Commands
+pub mod Typing
+pub mod Figures
+pub mod Machine
+pub mod Run
+pub mod Promises
+pub mod Marked

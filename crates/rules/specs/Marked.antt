@@ -1,0 +1,72 @@
+-- The document's marked cases (P), on device G, from the bytes of its file and of the programs, as one table: what is asked, and what the document
+-- says the answer is. That the promises give these answers is proved in proofs/Marked.antt.
+use mathlib.Core.List.{List, [], _∷_, _++_}
+use Prim.Native.Nat.{ℕ}
+use lib.ListN.{replicate}
+use Rattle.answers.specs.Check.{Check, ok, refused}
+use Rattle.answers.specs.declared.File.{File}
+use Rattle.answers.specs.declared.File.the-variants.{NoFile, Program}
+use Rattle.rules.specs.Promises.{checkOf, Routed, routeOf}
+
+-- 2 rows of 3, locations 0 1 2 / 3 4 5, all owned by 1; 29 bytes
+abbrev pub G : List ℕ
+G =
+    0x51 ∷ 0x4C ∷ 0x47 ∷ 0x00 ∷ 0x01 ∷ 0x00 ∷ 0x06 ∷ 0x00 ∷ 0x07 ∷ 0x01 ∷ 0x01 ∷ 0x01 ∷ 0x01 ∷ 0x01 ∷ 0x01
+    ∷ 0x00 ∷ 0x01 ∷ 0x00 ∷ 0x03 ∷ 0x01 ∷ 0x02 ∷ 0x01 ∷ 0x04 ∷ 0x02 ∷ 0x05 ∷ 0x03 ∷ 0x04 ∷ 0x04 ∷ 0x05 ∷ []
+
+abbrev pub header : List ℕ
+header = 0x51 ∷ 0x4C ∷ 0x53 ∷ 0x00 ∷ 0x01 ∷ 0x00 ∷ []
+
+abbrev pub A : List ℕ
+A = header ++ (0x00 ∷ 0x10 ∷ 0x01 ∷ 0x00 ∷ 0x00 ∷ 0x01 ∷ 0x01 ∷ 0x02 ∷ 0x06 ∷ 0x02 ∷ 0x00 ∷ 0x00 ∷ 0x00 ∷ 0x01 ∷ 0x03 ∷ 0x00 ∷ 0x03 ∷ 0x01 ∷ [])
+
+-- A without its last two bytes
+abbrev pub withoutLast : List ℕ
+withoutLast = header ++ (0x00 ∷ 0x0E ∷ 0x01 ∷ 0x00 ∷ 0x00 ∷ 0x01 ∷ 0x01 ∷ 0x02 ∷ 0x06 ∷ 0x02 ∷ 0x00 ∷ 0x00 ∷ 0x00 ∷ 0x01 ∷ 0x03 ∷ 0x00 ∷ [])
+
+-- A with second measured slot 0
+abbrev pub measuredTwice : List ℕ
+measuredTwice = header ++ (0x00 ∷ 0x10 ∷ 0x01 ∷ 0x00 ∷ 0x00 ∷ 0x01 ∷ 0x01 ∷ 0x02 ∷ 0x06 ∷ 0x02 ∷ 0x00 ∷ 0x00 ∷ 0x00 ∷ 0x00 ∷ 0x03 ∷ 0x00 ∷ 0x03 ∷ 0x01 ∷ [])
+
+pub data Asked : Type 0 where
+  route : List ℕ → ℕ → ℕ → Asked
+  check : List ℕ → Asked
+
+-- what the promises say, for job 1; the route's buffer has eight bytes, a check has none
+abbrev pub answered : Asked → Routed
+answered (route occupancy a b) = routeOf G 1 occupancy a b (replicate 8 0xAA)
+answered (check program) = record { answer = checkOf G program 1; buffer = [] }
+
+pub record Case : Type 0 where
+  pub asked : Asked
+  pub answer : Routed
+
+abbrev found : ℕ → List ℕ → Routed
+found n buffer = record { answer = ok n; buffer = buffer }
+
+abbrev noPath : Routed
+noPath = record { answer = refused (record { number = 21; place = 0; file = NoFile }); buffer = replicate 8 0xAA }
+
+abbrev counted : ℕ → Routed
+counted n = record { answer = ok n; buffer = [] }
+
+abbrev refusedAt : ℕ → ℕ → Routed
+refusedAt number place = record { answer = refused (record { number = number; place = place; file = Program 1 }); buffer = [] }
+
+abbrev case : Asked → Routed → Case
+case asked answer = record { asked = asked; answer = answer }
+
+abbrev pub marked : List Case
+marked =
+    case (route (0 ∷ 0 ∷ 0 ∷ 0 ∷ 0 ∷ 0 ∷ []) 0 2) (found 3 (0 ∷ 1 ∷ 2 ∷ 0xAA ∷ 0xAA ∷ 0xAA ∷ 0xAA ∷ 0xAA ∷ []))
+    ∷ case (route (0 ∷ 1 ∷ 0 ∷ 0 ∷ 0 ∷ 0 ∷ []) 0 2) (found 5 (0 ∷ 3 ∷ 4 ∷ 5 ∷ 2 ∷ 0xAA ∷ 0xAA ∷ 0xAA ∷ []))
+    ∷ case (route (0 ∷ 1 ∷ 0 ∷ 0 ∷ 1 ∷ 0 ∷ []) 0 2) noPath
+    ∷ case (route (0 ∷ 0 ∷ 0 ∷ 0 ∷ 0 ∷ 0 ∷ []) 0 4) (found 3 (0 ∷ 1 ∷ 4 ∷ 0xAA ∷ 0xAA ∷ 0xAA ∷ 0xAA ∷ 0xAA ∷ []))
+    ∷ case (route (0 ∷ 1 ∷ 0 ∷ 1 ∷ 0 ∷ 0 ∷ []) 0 4) noPath
+    ∷ case (route (0 ∷ 1 ∷ 0 ∷ 1 ∷ 0 ∷ 0 ∷ []) 0 1) (found 2 (0 ∷ 1 ∷ 0xAA ∷ 0xAA ∷ 0xAA ∷ 0xAA ∷ 0xAA ∷ 0xAA ∷ []))
+    ∷ case (check (header ++ (0x00 ∷ 0x00 ∷ []))) (counted 0)
+    ∷ case (check (header ++ (0x00 ∷ 0x00 ∷ 0x00 ∷ []))) (refusedAt 8 8)
+    ∷ case (check A) (counted 5)
+    ∷ case (check withoutLast) (refusedAt 17 6)
+    ∷ case (check measuredTwice) (refusedAt 15 14)
+    ∷ []

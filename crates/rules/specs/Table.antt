@@ -1,0 +1,59 @@
+-- The one table of the thirteen statement kinds, by statement byte from 1 on: what the operands are, and the meaning. The size of a statement's
+-- fixed part is one more than the number of its operands.
+use mathlib.Core.List.{List, [], _∷_}
+use mathlib.Core.Option.{Option, none, some}
+use Prim.Native.Nat.{ℕ, zero, suc}
+use lib.Dec.{eqb}
+use lib.ListN.{getD, getElem?, length}
+use Rattle.rules.specs.declared.statements.Operand.{Operand}
+use Rattle.rules.specs.declared.statements.Operand.the-variants.{Slot, Location, Gate, Basis, Value, Callee, CalleeK, CalleeM, Nothing}
+use Rattle.rules.specs.Syntax.{Side, plain, magic, Op, init, free, gate, measure, merge, newRef, getRef, setRef, constant}
+
+-- an operation of its operands x 1, x 2, .. , or what follows the operands: two blocks, a block, or a call's list
+pub data Meaning : Type 0 where
+  simple : ((s : Side) → (ℕ → ℕ) → Op s) → Meaning
+  branches loops calls : Meaning
+
+pub record Row : Type 0 where
+  pub operands : List Operand
+  pub meaning : Meaning
+
+abbrev row : List Operand → Meaning → Row
+row ks m = record { operands = ks; meaning = m }
+
+abbrev pub table : List Row
+table =
+    row (Slot ∷ Location ∷ []) (simple λ s x. init plain (x 1) (record { no = x 2 }))
+    ∷ row (Slot ∷ Location ∷ []) (simple λ s x. init magic (x 1) (record { no = x 2 }))
+    ∷ row (Slot ∷ []) (simple λ s x. free (x 1))
+    ∷ row (Gate ∷ Slot ∷ []) (simple λ s x. gate (x 1) (x 2))
+    ∷ row (Slot ∷ Basis ∷ Slot ∷ []) (simple λ s x. measure (x 1) (x 2) (x 3))
+    ∷ row (Slot ∷ Basis ∷ Slot ∷ Basis ∷ Slot ∷ []) (simple λ s x. merge (x 1) (x 2) (x 3) (x 4) (x 5))
+    ∷ row (Slot ∷ Slot ∷ []) (simple λ s x. newRef (x 1) (x 2))
+    ∷ row (Slot ∷ Slot ∷ []) (simple λ s x. getRef (x 1) (x 2))
+    ∷ row (Slot ∷ Slot ∷ []) (simple λ s x. setRef (x 1) (x 2))
+    ∷ row (Slot ∷ []) branches
+    ∷ row (Slot ∷ []) loops
+    ∷ row (Callee ∷ CalleeK ∷ CalleeM ∷ []) calls
+    ∷ row (Slot ∷ Value ∷ []) (simple λ s x. constant (x 1) (eqb (x 2) 1))
+    ∷ []
+
+-- the row of a statement byte
+abbrev pub rowOf : ℕ → Option Row
+rowOf zero = none
+rowOf (suc b) = getElem? table b
+
+abbrev pub size : Row → ℕ
+size r = suc (length (r .operands))
+
+-- by statement byte: the size of the fixed part, and operand number i from 1 on; 0 and `Nothing` where there is none
+abbrev pub sizeOf : ℕ → ℕ
+sizeOf b = elim (rowOf b) [ none ↦ 0 | some r ↦ size r ]
+
+abbrev pub operandOf : Option Row → ℕ → Operand
+operandOf none i = Nothing
+operandOf (some r) zero = Nothing
+operandOf (some r) (suc i) = getD (r .operands) i Nothing
+
+abbrev pub operandAt : ℕ → ℕ → Operand
+operandAt b i = operandOf (rowOf b) i

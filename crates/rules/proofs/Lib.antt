@@ -1,1 +1,3 @@
+pub mod Basics
+mod Table
 mod Marked

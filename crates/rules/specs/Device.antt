@@ -7,7 +7,9 @@ use lib.Dec.{eqb, ltb, leb}
 use lib.ListN.{length}
 use Rattle.answers.specs.Check.{Check, ok, refused, _>>=_, _>>_, need}
 use Rattle.rules.specs.declared.device.DeviceHeader.{DeviceHeader}
-use Rattle.rules.specs.Bytes.{byte, word, hasMark}
+use Rattle.rules.specs.declared.device.DeviceHeaderAnswer.{DeviceHeaderAnswer}
+use Rattle.rules.specs.declared.device.DeviceHeaderAnswer.the-variants.{Made, Refused}
+use Rattle.rules.specs.Basics.{byte, word, hasMark}
 
 pub record Edge : Type 0 where
   pub from : ℕ
@@ -23,6 +25,11 @@ deviceHeader n e = do
   need (leb 1 n && leb n 256) 4 5
   need (leb e 1024) 4 7
   ok (record { locations = n; edges = e })
+
+-- what the header's constructor answers
+abbrev pub deviceHeaderSaid : DeviceHeaderAnswer → Check DeviceHeader
+deviceHeaderSaid (Made h) = ok h
+deviceHeaderSaid (Refused r) = refused r
 
 -- m owner bytes from i on: 0 nobody, 1 or 2 that job
 abbrev pub owners : List ℕ → ℕ → ℕ → Check (List ℕ)

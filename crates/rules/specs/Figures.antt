@@ -7,7 +7,7 @@ use mathlib.Core.Logic.{_≢_}
 use mathlib.Core.Path.{_≡_}
 use Prim.Native.Nat.{ℕ, _<_, _≤_}
 use lib.ListN.{getD, set, length, drop}
-use Rattle.rules.specs.Lists.{all, upTo, distinct}
+use Rattle.rules.specs.Basics.{all, upTo, distinct}
 use Rattle.rules.specs.Region.{Region}
 use Rattle.rules.specs.Path.{Path}
 use Rattle.rules.specs.Syntax.{Side, device, parameter, Place, at, Preparation, plain, magic, Op, init, free, gate, measure, merge, newRef, getRef, setRef, constant, Statement, op, if, while, call, Statements, done, _⨾_, Block, block, Function, Program}
@@ -45,7 +45,8 @@ module _ {s : Side} where
   abbrev pub substituted : Signature → List (Place s) → List ℕ → Env s → Env s
   substituted g ls xs Γ = record {
     slots = stored (upTo 0 (g .m) λ i. kindAt ls (slot (g .ends .slots) i)) xs (Γ .slots);
-    free = stored (g .ends .free) (map (λ l. l .no) ls) (Γ .free) }
+    free = stored (g .ends .free) (map (λ l. l .no) ls) (Γ .free);
+  }
 
   -- `Γ ⊢ a ⇒ Δ | c` for an operation at offset o
   pub data OpRule (C : Context s) (Γ : Env s) (o : ℕ) : Op s → Env s → Commands s → Type 0 where

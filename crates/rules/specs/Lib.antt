@@ -1,6 +1,4 @@
-pub mod Lists
-pub mod Bytes
-pub mod Headers
+pub mod Basics
 pub mod Device
 pub mod Region
 pub mod Path

@@ -4,11 +4,11 @@ use mathlib.Core.List.{List, [], _∷_, map}
 use Prim.Native.Nat.{ℕ, _-_}
 use lib.ListN.{length, replicate}
 use Rattle.answers.specs.Check.{Check, ok, refused, _>>=_, _>>_}
-use Rattle.rules.specs.Lists.{chosen}
+use Rattle.rules.specs.Basics.{chosen, without, setAll}
 use Rattle.rules.specs.Region.{Region, owns}
 use Rattle.rules.specs.Path.{route}
-use Rattle.rules.specs.Syntax.{Side, device, parameter, Place, at, Op, init, free, gate, measure, merge, newRef, getRef, setRef, constant, Statement, op, if, while, call, Statements, done, _⨾_, Block, block, Function, function, Program}
-use Rattle.rules.specs.Slots.{Slot, unbound, slot, needBool, needRef, holdsNoQubit, Setting, Act, quiet, takes, gives, merges, perform, callable, entered, kept, handedBack}
+use Rattle.rules.specs.Syntax.{Side, device, parameter, Place, at, Statement, op, if, while, call, Statements, done, _⨾_, Block, block, Function, function, Program}
+use Rattle.rules.specs.Slots.{Slot, unbound, slot, needBool, needRef, holdsNoQubit, Setting, Act, quiet, takes, gives, merges, perform, callable, entered, kept}
 use Rattle.rules.specs.Commands.{needRoute}
 
 abbrev pub Frame : Type 0
@@ -22,18 +22,6 @@ pub data Actual : Side → Type 0 where
 abbrev pub locate : {s : Side} → Actual s → Place s → Place device
 locate themselves l = l
 locate (locations ls) p = at ls (p .no)
-
--- an operation at its actual places
-abbrev pub opAt : {s : Side} → Actual s → Op s → Op device
-opAt σ (init q x l) = init q x (locate σ l)
-opAt σ (free x) = free x
-opAt σ (gate g x) = gate g x
-opAt σ (measure y b x) = measure y b x
-opAt σ (merge y b x c z) = merge y b x c z
-opAt σ (newRef r y) = newRef r y
-opAt σ (getRef y r) = getRef y r
-opAt σ (setRef r y) = setRef r y
-opAt σ (constant y v) = constant y v
 
 -- An item to come: a statement of a body, or the return from a call, with the call's offset, locations and argument slots
 pub data Item : Type 0 where
@@ -79,8 +67,8 @@ silent φ φs is = record { next = record { top = φ; below = φs; items = is };
 -- over the job's region, its functions, the outcome given, and which locations of the region are free
 module _ (R : Region) (fs : List Function) (outcome : Bool) (isFree : ℕ → Bool) where
   -- binding overwrites a bool or a reference but not a qubit
-  abbrev pub floor : Setting device Bool
-  floor = record { mayBind = holdsNoQubit; inside = λ l. owns R (l .no); isFree = λ l. isFree (l .no); outcome = outcome; known = λ v. v }
+  abbrev pub floor : {s : Side} → Actual s → Setting s device Bool
+  floor σ = record { named = locate σ; mayBind = holdsNoQubit; inside = λ l. owns R (l .no); isFree = λ l. isFree (l .no); outcome = outcome; known = λ v. v }
 
   -- 21 comes last
   abbrev pub edgesOf : Act device → ℕ → Check ℕ
@@ -94,7 +82,7 @@ module _ (R : Region) (fs : List Function) (outcome : Bool) (isFree : ℕ → Bo
   -- An if puts the chosen block before the rest; a while whose reference holds true its body and itself; a call the callee's body and a return.
   abbrev pub move : Frame → List Frame → Item → List Item → Check Move
   move φ φs (run σ (op o a)) rest = do
-    d ← perform floor o φ (opAt σ a)
+    d ← perform (floor σ) o φ a
     e ← edgesOf (d .act) o
     ok (record { next = record { top = d .slots; below = φs; items = rest }; act = d .act; edges = e })
   move φ φs (run σ (if o y b c)) rest = do
@@ -105,11 +93,11 @@ module _ (R : Region) (fs : List Function) (outcome : Bool) (isFree : ℕ → Bo
     ok (silent φ φs (chosen v (blockBefore σ b (run σ (while o r b) ∷ rest)) rest))
   move φ φs (run σ (call o f ls xs)) rest = do
     let actual : List (Place device) = map (locate σ) ls
-    callable floor o φ actual xs
+    callable (floor σ) o φ actual xs
     ok (silent (entered (at actual) (length xs)) (φ ∷ φs) (blockBefore (locations actual) (function fs f .body) (return o actual xs ∷ rest)))
   -- The caller's slot given for argument i stays bound exactly when callee slot i holds a qubit at the call's location i.
   move φ [] (return o ls xs) rest = ok (silent φ [] rest)
-  move φ (χ ∷ φs) (return o ls xs) rest = ok (silent (handedBack (kept φ (at ls) (length xs)) xs χ) φs rest)
+  move φ (χ ∷ φs) (return o ls xs) rest = ok (silent (setAll unbound (without (kept φ (at ls) (length xs)) xs) χ) φs rest)
 
 -- What a step writes: 0 moved, 1 finished or the reason; the edges of a moved merge; the item's offset
 pub record Record : Type 0 where

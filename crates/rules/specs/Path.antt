@@ -7,7 +7,7 @@ use mathlib.Core.Path.{_≡_}
 use Prim.Native.Nat.{ℕ, zero, suc, _≤_, _<_}
 use lib.Dec.{eqb}
 use lib.ListN.{getD, length}
-use Rattle.rules.specs.Lists.{any, distinct, upTo, firstFrom}
+use Rattle.rules.specs.Basics.{any, distinct, upTo, firstFrom}
 use Rattle.rules.specs.Region.{Region, joined}
 
 -- compared location by location, p is not after q
@@ -57,10 +57,6 @@ module _ (R : Region) (free : ℕ → Bool) (a b : ℕ) where
       let t : List Bool = reach k in
       x ∷ smallestFrom k (firstFrom (λ y. joined R x y && between y && getD t y false) 0 (length (R .owned)))
 
-  abbrev pub traced : Option ℕ → Option (List ℕ)
-  traced none = none
-  traced (some k) = some (smallestFrom k a)
-
   -- a path has no location twice, so it has fewer edges than the device has locations
   abbrev pub route : Option (List ℕ)
-  route = traced (fewest (length (R .owned)) 0 (reach zero))
+  route = elim (fewest (length (R .owned)) 0 (reach zero)) [ none ↦ none | some k ↦ some (smallestFrom k a) ]

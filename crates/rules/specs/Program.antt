@@ -8,11 +8,14 @@ use lib.Dec.{eqb, ltb, leb}
 use lib.ListN.{length, replicate}
 use Rattle.answers.specs.Check.{Check, ok, refused, refusal, _>>=_, _>>_, need}
 use Rattle.rules.specs.declared.program.ProgramHeader.{ProgramHeader}
+use Rattle.rules.specs.declared.program.ProgramHeaderAnswer.{ProgramHeaderAnswer}
+use Rattle.rules.specs.declared.program.ProgramHeaderAnswer.the-variants.{Made as MadeProgram, Refused as NotProgram}
 use Rattle.rules.specs.declared.program.FunctionHeader.{FunctionHeader}
+use Rattle.rules.specs.declared.program.FunctionHeaderAnswer.{FunctionHeaderAnswer}
+use Rattle.rules.specs.declared.program.FunctionHeaderAnswer.the-variants.{Made as MadeFunction, Refused as NotFunction}
 use Rattle.rules.specs.declared.statements.Operand.{Operand}
 use Rattle.rules.specs.declared.statements.Operand.the-variants.{Slot, Location, Gate, Basis, Value, Callee, CalleeK, CalleeM, Nothing}
-use Rattle.rules.specs.Lists.{upTo}
-use Rattle.rules.specs.Bytes.{byte, word, hasMark, Read}
+use Rattle.rules.specs.Basics.{upTo, byte, word, hasMark}
 use Rattle.rules.specs.Syntax.{Side, device, parameter, Place, Op, Statement, op, if, while, call, Statements, done, _⨾_, Block, block, Function, function, Program}
 use Rattle.rules.specs.Table.{Meaning, simple, branches, loops, calls, Row, rowOf, size}
 
@@ -28,6 +31,20 @@ functionHeader i k m = do
   need (leb k 16) 4 i
   need (leb m 8 && leb m k) 4 (i + 1)
   ok (record { locations = k; arguments = m })
+
+-- what the headers' constructors answer
+abbrev pub programHeaderSaid : ProgramHeaderAnswer → Check ProgramHeader
+programHeaderSaid (MadeProgram h) = ok h
+programHeaderSaid (NotProgram r) = refused r
+
+abbrev pub functionHeaderSaid : FunctionHeaderAnswer → Check FunctionHeader
+functionHeaderSaid (MadeFunction h) = ok h
+functionHeaderSaid (NotFunction r) = refused r
+
+-- a value read, and the position after it
+pub record Read (A : Type 0) : Type 0 where
+  pub it : A
+  pub next : ℕ
 
 -- What a body may name: places below a number, and the functions before it
 pub record Scope : Type 0 where
@@ -92,10 +109,13 @@ module _ (s : List ℕ) where
     -- the statements from i to the block's end e; there are no more of them than bytes
     abbrev pub statements : Inner → ℕ → ℕ → ℕ → Check (Statements d)
     statements inner zero i e = ok done
-    statements inner (suc more) i e = elim (ltb i e) [ false ↦ ok done | true ↦ do
-      t ← statement inner i e
-      rest ← statements inner more (t .next) e
-      ok (t .it ⨾ rest) ]
+    statements inner (suc more) i e = elim (ltb i e) [
+      | false ↦ ok done
+      | true ↦ do
+        t ← statement inner i e
+        rest ← statements inner more (t .next) e
+        ok (t .it ⨾ rest)
+    ]
 
     -- Block: 8 if its length word doesn't fit, 4 for depth, 8 if its bytes don't fit. The number is how many depths are left.
     abbrev pub readBlock : ℕ → Inner

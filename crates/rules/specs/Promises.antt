@@ -7,8 +7,7 @@ use lib.ListN.{length, drop}
 use Rattle.answers.specs.Check.{Check, ok, refused, _>>=_, _>>_, need, within}
 use Rattle.answers.specs.declared.File.the-variants.{Device, Schedule, Program}
 use Rattle.answers.specs.declared.Moved.{Moved}
-use Rattle.rules.specs.Lists.{chosen}
-use Rattle.rules.specs.Device as device
+use Rattle.rules.specs.Basics.{chosen}
 use Rattle.rules.specs.Device.{readDevice}
 use Rattle.rules.specs.Region.{Region, regionOf, owns, freeIn}
 use Rattle.rules.specs.Path.{route}
@@ -103,7 +102,8 @@ abbrev pub runWritten : List ℕ → List ℕ → Check Finished → Ran
 runWritten buffer map (ok f) = record {
   answer = ok (record { first = movedBy 1 (f .records); second = movedBy 2 (f .records) });
   records = over (recordBytes (f .records)) buffer;
-  map = over (f .machine .occupancy) map }
+  map = over (f .machine .occupancy) map;
+}
 runWritten buffer map (refused r) = record { answer = refused r; records = buffer; map = map }
 
 abbrev pub runOf : List ℕ → List ℕ → List ℕ → List ℕ → List ℕ → List ℕ → Ran

@@ -4,7 +4,7 @@ use mathlib.Core.List.{List, map}
 use Prim.Native.Nat.{ℕ}
 use lib.Dec.{eqb}
 use lib.ListN.{getD, length}
-use Rattle.rules.specs.Lists.{any}
+use Rattle.rules.specs.Basics.{any}
 use Rattle.rules.specs.Device.{Edge, Device}
 
 -- which of the device's locations are the job's own, and the edges

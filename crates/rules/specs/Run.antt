@@ -5,7 +5,7 @@ use Prim.Native.Nat.{ℕ, suc, _+_, _/_, _%_}
 use lib.Dec.{eqb, leb}
 use lib.ListN.{set, length, replicate}
 use Rattle.answers.specs.Check.{Check, ok, refused, _>>=_, _>>_, need}
-use Rattle.rules.specs.Lists.{chosen}
+use Rattle.rules.specs.Basics.{chosen}
 use Rattle.rules.specs.Device.{Device}
 use Rattle.rules.specs.Region.{Region, regionOf, freeIn}
 use Rattle.rules.specs.Syntax.{device, Place, Program}
@@ -53,7 +53,8 @@ module _ (D : Device) (programs : ℕ → Program) where
   abbrev pub after : Turn → Machine → Machine
   after t M = record {
     occupancy = written (t .job) (stepOf t M .act) (M .occupancy);
-    jobs = λ i. chosen (eqb i (t .job)) (stepOf t M .next) (M .jobs i) }
+    jobs = λ i. chosen (eqb i (t .job)) (stepOf t M .next) (M .jobs i);
+  }
 
   abbrev pub final : List Turn → Machine → Machine
   final [] M = M

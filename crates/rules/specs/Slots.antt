@@ -6,7 +6,7 @@ use Prim.Native.Nat.{ℕ, _-_}
 use lib.Dec.{eqb}
 use lib.ListN.{getD, set, length, drop, replicate}
 use Rattle.answers.specs.Check.{Check, ok, refused, refusal, _>>=_, _>>_, need}
-use Rattle.rules.specs.Lists.{all, upTo, pairs, distinct}
+use Rattle.rules.specs.Basics.{all, upTo, distinct}
 use Rattle.rules.specs.Syntax.{Side, Place, at, Preparation, Op, init, free, gate, measure, merge, newRef, getRef, setRef, constant}
 
 -- A slot is unbound, a qubit at a place, a bool, or a reference to a bool. Typing knows no bool's value (B is `Unit`), a step does (B is `Bool`).
@@ -50,18 +50,25 @@ module _ {s : Side} {B : Type 0} where
   holdsNoQubit (bool b) = true
   holdsNoQubit (ref b) = true
 
+  abbrev pub isClassical : Slot s B → Bool
+  isClassical unbound = false
+  isClassical (qubit l) = false
+  isClassical (bool b) = true
+  isClassical (ref b) = true
+
   abbrev pub isQubitAt : Slot s B → Place s → Bool
   isQubitAt unbound l = false
   isQubitAt (qubit k) l = eqb (k .no) (l .no)
   isQubitAt (bool b) l = false
   isQubitAt (ref b) l = false
 
--- What differs between typing and a step: which slot may be bound (12), which place is inside (13), which is free (14), what a measurement's
--- outcome is, and what is known of a bool that the program names.
-pub record Setting (s : Side) (B : Type 0) : Type 0 where
-  pub mayBind : Slot s B → Bool
-  pub inside : Place s → Bool
-  pub isFree : Place s → Bool
+-- What differs between typing and a step: what a body's place is called, which slot may be bound (12), which place is inside (13), which is free
+-- (14), what a measurement's outcome is, and what is known of a bool that the program names.
+pub record Setting (s t : Side) (B : Type 0) : Type 0 where
+  pub named : Place s → Place t
+  pub mayBind : Slot t B → Bool
+  pub inside : Place t → Bool
+  pub isFree : Place t → Bool
   pub outcome : B
   pub known : Bool → B
 
@@ -76,14 +83,14 @@ pub record Done (s : Side) (B : Type 0) : Type 0 where
   pub slots : List (Slot s B)
   pub act : Act s
 
-module _ {s : Side} {B : Type 0} (W : Setting s B) where
+module _ {s t : Side} {B : Type 0} (W : Setting s t B) where
   -- 12, then 11 left to right, then 13, 14, 15
-  abbrev pub perform : ℕ → List (Slot s B) → Op s → Check (Done s B)
+  abbrev pub perform : ℕ → List (Slot t B) → Op s → Check (Done t B)
   perform o φ (init q x l) = do
     need (W .mayBind (slot φ x)) 12 o
-    need (W .inside l) 13 o
-    need (W .isFree l) 14 o
-    ok (record { slots = set φ x (qubit l); act = takes q l })
+    need (W .inside (W .named l)) 13 o
+    need (W .isFree (W .named l)) 14 o
+    ok (record { slots = set φ x (qubit (W .named l)); act = takes q (W .named l) })
   perform o φ (free x) = do
     l ← needQubit (slot φ x) o
     ok (record { slots = set φ x unbound; act = gives l })
@@ -116,20 +123,21 @@ module _ {s : Side} {B : Type 0} (W : Setting s B) where
     need (W .mayBind (slot φ y)) 12 o
     ok (record { slots = set φ y (bool (W .known v)); act = quiet })
 
-  -- each argument with its place: it is a qubit (11) at that place (16)
-  abbrev pub argumentsAt : ℕ → List (Slot s B) → List (ℕ × Place s) → Check (Unit {0})
-  argumentsAt o φ [] = ok tt
-  argumentsAt o φ (a ∷ more) = do
-    k ← needQubit (slot φ (a .0)) o
-    need (eqb (k .no) (a .1 .no)) 16 o
-    argumentsAt o φ more
+  -- argument i is a qubit (11) at place i (16), for each in turn; there are no fewer places than arguments
+  abbrev pub argumentsAt : ℕ → List (Slot t B) → List ℕ → List (Place t) → Check (Unit {0})
+  argumentsAt o φ [] ls = ok tt
+  argumentsAt o φ (x ∷ xs) [] = ok tt
+  argumentsAt o φ (x ∷ xs) (l ∷ ls) = do
+    k ← needQubit (slot φ x) o
+    need (eqb (k .no) (l .no)) 16 o
+    argumentsAt o φ xs ls
 
   -- what a call asks: 13 for each location, 15, then 11 and 16 for each argument in turn, then 14 for the locations that hold no argument
-  abbrev pub callable : ℕ → List (Slot s B) → List (Place s) → List ℕ → Check (Unit {0})
+  abbrev pub callable : ℕ → List (Slot t B) → List (Place t) → List ℕ → Check (Unit {0})
   callable o φ ls xs = do
     need (all (W .inside) ls) 13 o
     need (distinct (map (λ l. l .no) ls) && distinct xs) 15 o
-    argumentsAt o φ (pairs xs ls)
+    argumentsAt o φ xs ls
     need (all (W .isFree) (drop (length xs) ls)) 14 o
 
 module _ {s : Side} {B : Type 0} where
@@ -140,10 +148,3 @@ module _ {s : Side} {B : Type 0} where
   -- which of the m arguments the callee ended with: slot i holds a qubit at place i
   abbrev pub kept : List (Slot s B) → (ℕ → Place s) → ℕ → List Bool
   kept ψ place m = upTo 0 m λ i. isQubitAt (slot ψ i) (place i)
-
-  -- the caller's slots after a call: the slot given for an argument stays bound exactly when the callee kept the argument
-  abbrev pub handedBack : List Bool → List ℕ → List (Slot s B) → List (Slot s B)
-  handedBack [] xs φ = φ
-  handedBack (b ∷ bs) [] φ = φ
-  handedBack (true ∷ bs) (x ∷ xs) φ = handedBack bs xs φ
-  handedBack (false ∷ bs) (x ∷ xs) φ = set (handedBack bs xs φ) x unbound

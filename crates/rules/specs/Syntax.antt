@@ -50,7 +50,6 @@ mutual
     block : ℕ → Statements s → Block s
 
 infixr 50 _⨾_
-
 -- k location parameters, of which the first m hold the arguments
 pub record Function : Type 0 where
   pub k : ℕ

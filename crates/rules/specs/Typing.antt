@@ -1,13 +1,13 @@
 -- Typing: the environment after a statement or a block and its commands, or the first refusal.
-use mathlib.Core.Bool.{Bool, true, false, _&&_, Bool·beq, cond}
-use mathlib.Core.List.{List, [], _∷_, _++_}
-use Prim.Native.Nat.{ℕ, _-_}
+use mathlib.Core.Bool.{Bool, true, false, not, _&&_, _||_, Bool·beq, cond}
+use mathlib.Core.List.{List, [], _∷_, _++_, map}
+use Prim.Native.Nat.{ℕ, _+_, _-_}
 use lib.Dec.{eqb, ltb}
 use lib.ListN.{getD, set, length, replicate}
 use Rattle.answers.specs.Check.{Check, ok, refused, _>>=_, _>>_, need}
-use Rattle.rules.specs.Lists.{sameList}
+use Rattle.rules.specs.Basics.{chosen, all, sameList, upTo, without, setAll}
 use Rattle.rules.specs.Syntax.{Side, device, parameter, Place, param, at, Statement, op, if, while, call, Statements, done, _⨾_, Block, block, Function, Program}
-use Rattle.rules.specs.Slots.{Slot, unbound, qubit, bool, ref, slot, needBool, needRef, isUnbound, isQubitAt, Setting, Act, quiet, takes, gives, merges, perform, callable, entered, kept, handedBack}
+use Rattle.rules.specs.Slots.{Slot, unbound, qubit, bool, ref, slot, needBool, needRef, isUnbound, holdsNoQubit, isClassical, Setting, Act, quiet, takes, gives, merges, perform, callable, entered, kept}
 use Rattle.rules.specs.Commands.{Commands, ε, alloc, release, connect, either, repeat, _then_, commandsAt}
 
 -- typing knows a slot's kind and no bool's value
@@ -41,8 +41,8 @@ signature [] f = record { k = 0; m = 0; ends = record { slots = []; free = [] };
 signature (g ∷ gs) f = cond (eqb f (length gs)) g (signature gs f)
 
 module _ {s : Side} where
-  abbrev pub kinds : Context s → Env s → Setting s (Unit {0})
-  kinds C Γ = record { mayBind = isUnbound; inside = C .inside; isFree = λ l. getD (Γ .free) (l .no) false; outcome = tt; known = λ v. tt }
+  abbrev pub kinds : Context s → Env s → Setting s s (Unit {0})
+  kinds C Γ = record { named = λ l. l; mayBind = isUnbound; inside = C .inside; isFree = λ l. getD (Γ .free) (l .no) false; outcome = tt; known = λ v. tt }
 
   -- an init takes its place, a free gives it back, nothing else changes places
   abbrev pub afterAct : Act s → List Bool → List Bool
@@ -57,68 +57,34 @@ module _ {s : Side} where
   command o (gives l) = release l ε
   command o (merges b l e k) = connect o b l e k ε
 
-  -- after a call the place of an argument that the callee ended without is free
-  abbrev pub freed : List Bool → List (Place s) → List Bool → List Bool
-  freed [] ls fs = fs
-  freed (b ∷ bs) [] fs = fs
-  freed (true ∷ bs) (l ∷ ls) fs = freed bs ls fs
-  freed (false ∷ bs) (l ∷ ls) fs = set (freed bs ls fs) (l .no) true
-
+  -- after a call, an argument that the callee ended without is unbound and its location free
   abbrev pub afterCall : Signature → List (Place s) → List ℕ → Env s → Env s
   afterCall g ls xs Γ =
-      let bs : List Bool = kept (g .ends .slots) param (g .m) in
-      record { slots = handedBack bs xs (Γ .slots); free = freed bs ls (Γ .free) }
+      let stay : List Bool = kept (g .ends .slots) param (g .m) in
+      record { slots = setAll unbound (without stay xs) (Γ .slots); free = setAll true (map (λ l. l .no) (without stay ls)) (Γ .free) }
 
-  -- The end of a block, slot by slot. A live qubit sits in the same slot at the same location as on entry (17) ..
-  abbrev pub stays : Kind s → Kind s → Bool
-  stays v unbound = true
-  stays v (qubit l) = isQubitAt v l
-  stays v (bool b) = true
-  stays v (ref b) = true
+  abbrev pub kindNumber : Kind s → ℕ
+  kindNumber unbound = 0
+  kindNumber (bool b) = 1
+  kindNumber (ref b) = 2
+  kindNumber (qubit l) = 3 + l .no
 
+  abbrev pub sameKind : Kind s → Kind s → Bool
+  sameKind v w = eqb (kindNumber v) (kindNumber w)
+
+  -- The end of a block, for each of the slots 0 to 31. A live qubit sits in the same slot at the same location as on entry (17) ..
   abbrev pub allStay : List (Kind s) → List (Kind s) → Bool
-  allStay vs [] = true
-  allStay [] (w ∷ ws) = stays unbound w && allStay [] ws
-  allStay (v ∷ vs) (w ∷ ws) = stays v w && allStay vs ws
+  allStay vs ws = all (λ x. holdsNoQubit (slot ws x) || sameKind (slot vs x) (slot ws x)) (upTo 0 32 λ x. x)
 
   -- .. and what was unbound or a qubit on entry and now holds a bool or a reference becomes unbound
-  abbrev pub forgotten : Kind s → Kind s
-  forgotten unbound = unbound
-  forgotten (qubit l) = qubit l
-  forgotten (bool b) = unbound
-  forgotten (ref b) = unbound
-
-  abbrev pub narrow : Kind s → Kind s → Kind s
-  narrow unbound w = forgotten w
-  narrow (qubit l) w = forgotten w
-  narrow (bool b) w = w
-  narrow (ref b) w = w
-
   abbrev pub narrowed : List (Kind s) → List (Kind s) → List (Kind s)
-  narrowed vs [] = []
-  narrowed [] (w ∷ ws) = forgotten w ∷ narrowed [] ws
-  narrowed (v ∷ vs) (w ∷ ws) = narrow v w ∷ narrowed vs ws
+  narrowed vs ws = upTo 0 32 λ x. chosen (isClassical (slot ws x) && not (isClassical (slot vs x))) unbound (slot ws x)
 
   -- the closing of the block whose length word is at o, entered with Γ
   abbrev pub close : ℕ → Env s → Typed s → Check (Typed s)
   close o Γ t = do
     need (allStay (Γ .slots) (t .env .slots)) 17 o
     ok (record { env = record { slots = narrowed (Γ .slots) (t .env .slots); free = t .env .free }; commands = t .commands })
-
-  abbrev pub sameKind : Kind s → Kind s → Bool
-  sameKind unbound unbound = true
-  sameKind unbound (qubit l) = false
-  sameKind unbound (bool b) = false
-  sameKind unbound (ref b) = false
-  sameKind (qubit k) w = isQubitAt w k
-  sameKind (bool a) unbound = false
-  sameKind (bool a) (qubit l) = false
-  sameKind (bool a) (bool b) = true
-  sameKind (bool a) (ref b) = false
-  sameKind (ref a) unbound = false
-  sameKind (ref a) (qubit l) = false
-  sameKind (ref a) (bool b) = false
-  sameKind (ref a) (ref b) = true
 
   unfoldable pub sameEnv : Env s → Env s → Bool
   sameEnv Γ Δ = sameList sameKind (Γ .slots) (Δ .slots) && sameList Bool·beq (Γ .free) (Δ .free)

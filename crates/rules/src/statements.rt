@@ -18,20 +18,90 @@ pub enum Operand {
 
 // Six bytes for each statement byte from 0 on: the size of the fixed part, then the kinds of at most five operands, 0 where there is none.
 const STATEMENTS: [u8; 84] = [
-    0, 0, 0, 0, 0, 0, //
-    3, 1, 2, 0, 0, 0, // 1 init
-    3, 1, 2, 0, 0, 0, // 2 magic init
-    2, 1, 0, 0, 0, 0, // 3 free
-    3, 3, 1, 0, 0, 0, // 4 gate
-    4, 1, 4, 1, 0, 0, // 5 measure
-    6, 1, 4, 1, 4, 1, // 6 measure two
-    3, 1, 1, 0, 0, 0, // 7 new reference
-    3, 1, 1, 0, 0, 0, // 8 get
-    3, 1, 1, 0, 0, 0, // 9 assign
-    2, 1, 0, 0, 0, 0, // 10 if
-    2, 1, 0, 0, 0, 0, // 11 while
-    4, 6, 7, 8, 0, 0, // 12 call
-    3, 1, 5, 0, 0, 0, // 13 bool
+    0,
+    0,
+    0,
+    0,
+    0,
+    0, //
+    3,
+    1,
+    2,
+    0,
+    0,
+    0, // 1 init
+    3,
+    1,
+    2,
+    0,
+    0,
+    0, // 2 magic init
+    2,
+    1,
+    0,
+    0,
+    0,
+    0, // 3 free
+    3,
+    3,
+    1,
+    0,
+    0,
+    0, // 4 gate
+    4,
+    1,
+    4,
+    1,
+    0,
+    0, // 5 measure
+    6,
+    1,
+    4,
+    1,
+    4,
+    1, // 6 measure two
+    3,
+    1,
+    1,
+    0,
+    0,
+    0, // 7 new reference
+    3,
+    1,
+    1,
+    0,
+    0,
+    0, // 8 get
+    3,
+    1,
+    1,
+    0,
+    0,
+    0, // 9 assign
+    2,
+    1,
+    0,
+    0,
+    0,
+    0, // 10 if
+    2,
+    1,
+    0,
+    0,
+    0,
+    0, // 11 while
+    4,
+    6,
+    7,
+    8,
+    0,
+    0, // 12 call
+    3,
+    1,
+    5,
+    0,
+    0,
+    0, // 13 bool
 ];
 
 // The fixed part of a statement: its byte and the operands before any block or list.

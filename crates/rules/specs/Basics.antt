@@ -1,8 +1,9 @@
--- Small functions on lists and tests, with no meaning of their own.
+-- Small functions on lists, tests and bytes, with no meaning of their own.
 use mathlib.Core.Bool.{Bool, true, false, not, _&&_, _||_}
 use mathlib.Core.List.{List, [], _∷_}
-use Prim.Native.Nat.{ℕ, zero, suc}
+use Prim.Native.Nat.{ℕ, zero, suc, _+_, _*_}
 use lib.Dec.{eqb}
+use lib.ListN.{getD, set}
 
 module _ {A : Type 0} where
   abbrev pub chosen : Bool → A → A → A
@@ -29,22 +30,35 @@ module _ {A : Type 0} where
   upTo i zero f = []
   upTo i (suc m) f = f i ∷ upTo (suc i) m f
 
-  -- each of the first list with its fellow of the second, as far as both go
-  abbrev pub pairs : {B : Type 0} → List A → List B → List (A × B)
-  pairs [] ys = []
-  pairs (x ∷ xs) [] = []
-  pairs (x ∷ xs) (y ∷ ys) = (x, y) ∷ pairs xs ys
+  -- those of the list that the tests leave out
+  abbrev pub without : List Bool → List A → List A
+  without [] xs = []
+  without (b ∷ bs) [] = []
+  without (true ∷ bs) (x ∷ xs) = without bs xs
+  without (false ∷ bs) (x ∷ xs) = x ∷ without bs xs
 
-abbrev pub has : ℕ → List ℕ → Bool
-has x [] = false
-has x (y ∷ ys) = eqb x y || has x ys
+  -- the value stored at each of the numbers
+  abbrev pub setAll : A → List ℕ → List A → List A
+  setAll v [] φ = φ
+  setAll v (n ∷ ns) φ = set (setAll v ns φ) n v
 
 -- nothing comes twice
 abbrev pub distinct : List ℕ → Bool
 distinct [] = true
-distinct (x ∷ xs) = not (has x xs) && distinct xs
+distinct (x ∷ xs) = not (any (eqb x) xs) && distinct xs
 
 -- the first number that passes, from i on and m of them; i + m where none does
 abbrev pub firstFrom : (ℕ → Bool) → ℕ → ℕ → ℕ
 firstFrom p i zero = i
 firstFrom p i (suc m) = elim (p i) [ true ↦ i | false ↦ firstFrom p (suc i) m ]
+
+abbrev pub byte : List ℕ → ℕ → ℕ
+byte s i = getD s i 0
+
+-- a u16, big-endian
+abbrev pub word : List ℕ → ℕ → ℕ
+word s i = byte s i * 256 + byte s (i + 1)
+
+-- the mark: `QL` and a third letter
+abbrev pub hasMark : List ℕ → ℕ → Bool
+hasMark s letter = eqb (byte s 0) 0x51 && eqb (byte s 1) 0x4C && eqb (byte s 2) letter

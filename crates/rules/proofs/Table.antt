@@ -2,10 +2,10 @@
 use mathlib.Core.Bool.{Bool, true, false, _&&_}
 use mathlib.Core.List.{List, [], _∷_}
 use mathlib.Core.Logic.{_≢_}
-use mathlib.Core.Path.{_≡_, refl, sym, ap, subst, _∙_}
-use native.Mathlib.Nat.{add-zero, not-suc-le-zero}
+use mathlib.Core.Path.{_≡_, refl, sym, ap, _∙_}
+use native.Mathlib.Nat.{zero-add, not-suc-le-zero}
 use native.Mathlib.Omega.{arith}
-use Prim.Native.Nat.{ℕ, zero, suc, _+_, _*_, _/_, _%_, _<_, _≤_}
+use Prim.Native.Nat.{ℕ, zero, suc, _+_, _<_, _≤_}
 use lib.Dec.{T, leb, leb→le}
 use lib.ListN.{getD}
 use Rattle.rules.specs.declared.statements.Operand.{Operand}
@@ -53,18 +53,17 @@ abbrev entry : ℕ → ℕ → ℕ
 entry b zero = sizeOf b
 entry b (suc i) = kindNumber (operandAt b (suc i))
 
--- The table of the code is this list: that is the test, which is computed entry by entry where a law below is cited.
-abbrev pub entries : List ℕ
-entries = upTo 0 84 λ k. entry (k / 6) (k % 6)
+-- The table of the code is this one: that is the test, which is computed row by row where a law below is cited.
+abbrev pub rows : List (List ℕ)
+rows = upTo 0 14 λ b. upTo 0 6 (entry b)
 
-entry-at : (b i : ℕ) → b < 14 → i < 6 → getD entries (b * 6 + i) 0 ≡ entry b i
-entry-at b i h k =
-    let row : (0 + (b * 6 + i)) / 6 ≡ b = omega arith in
-    let column : (0 + (b * 6 + i)) % 6 ≡ i = omega arith in
-    getD-upTo 0 84 (b * 6 + i) (λ k. entry (k / 6) (k % 6)) 0 (omega arith) ∙ ap (λ a. entry a ((0 + (b * 6 + i)) % 6)) row ∙ ap (entry b) column
+entry-at : (b i : ℕ) (d : List ℕ) → b < 14 → i < 6 → getD (getD rows b d) i 0 ≡ entry b i
+entry-at b i d h k =
+    ap (λ (row : List ℕ). getD row i 0) (getD-upTo 0 14 b (λ a. upTo 0 6 (entry a)) d h) ∙ getD-upTo 0 6 i (entry (0 + b)) 0 k
+    ∙ ap (λ a. entry a (0 + i)) (zero-add b) ∙ ap (entry b) (zero-add i)
 
-pub size-at : (b : ℕ) → b < 14 → getD entries (b * 6) 0 ≡ sizeOf b
-size-at b h = subst (λ (j : ℕ). getD entries j 0 ≡ sizeOf b) (add-zero (b * 6)) (entry-at b 0 h (omega arith))
+pub size-at : (b : ℕ) (d : List ℕ) → b < 14 → getD (getD rows b d) 0 0 ≡ sizeOf b
+size-at b d h = entry-at b 0 d h (omega arith)
 
 -- the sizes of the thirteen statements are 2 to 6
 pub size-in : (b : ℕ) → 0 < b → b < 14 → (2 ≤ sizeOf b) × (sizeOf b ≤ 6)
@@ -73,22 +72,27 @@ size-in b p h = (leb→le 2 (sizeOf b) (left (leb 2 (sizeOf b)) (leb (sizeOf b) 
     both : T (leb 2 (sizeOf b) && leb (sizeOf b) 6)
     both = all-upTo (λ k. leb 2 (sizeOf k) && leb (sizeOf k) 6) 1 13 tt b p h
 
-pub kind-at : (b i n : ℕ) → b < 14 → 0 < i → i < 6 → getD entries (b * 6 + i) 0 ≡ n → kindOf n ≡ operandAt b i
-kind-at b zero n h p k e = absurd (not-suc-le-zero p)
-kind-at b (suc i) n h p k e = sym (ap kindOf (sym (entry-at b (suc i) h k) ∙ e)) ∙ kind-of-number (operandAt b (suc i))
+module _ (b i : ℕ) (d : List ℕ) (h : b < 14) (p : 0 < i) (k : i < 6) where
+  number-at : getD (getD rows b d) i 0 ≡ kindNumber (operandAt b i)
+  number-at = go i p k
+    where
+      go : (i : ℕ) → 0 < i → i < 6 → getD (getD rows b d) i 0 ≡ kindNumber (operandAt b i)
+      go zero q k = absurd (not-suc-le-zero q)
+      go (suc i) q k = entry-at b (suc i) d h k
 
-pub no-kind-at : (b i : ℕ) → b < 14 → 0 < i → i < 6 → getD entries (b * 6 + i) 0 ≢ 1 → getD entries (b * 6 + i) 0 ≢ 2 → getD entries (b * 6 + i) 0 ≢ 3 → getD entries (b * 6 + i) 0 ≢ 4
-    → getD entries (b * 6 + i) 0 ≢ 5 → getD entries (b * 6 + i) 0 ≢ 6 → getD entries (b * 6 + i) 0 ≢ 7 → getD entries (b * 6 + i) 0 ≢ 8 → Nothing ≡ operandAt b i
-no-kind-at b zero h p k n₁ n₂ n₃ n₄ n₅ n₆ n₇ n₈ = absurd (not-suc-le-zero p)
-no-kind-at b (suc i) h p k n₁ n₂ n₃ n₄ n₅ n₆ n₇ n₈ = go (operandAt b (suc i)) (entry-at b (suc i) h k)
-  where
-    go : (o : Operand) → getD entries (b * 6 + suc i) 0 ≡ kindNumber o → Nothing ≡ o
-    go Slot e = absurd (n₁ e)
-    go Location e = absurd (n₂ e)
-    go Gate e = absurd (n₃ e)
-    go Basis e = absurd (n₄ e)
-    go Value e = absurd (n₅ e)
-    go Callee e = absurd (n₆ e)
-    go CalleeK e = absurd (n₇ e)
-    go CalleeM e = absurd (n₈ e)
-    go Nothing e = refl
+  pub kind-at : (n : ℕ) → getD (getD rows b d) i 0 ≡ n → kindOf n ≡ operandAt b i
+  kind-at n e = ap kindOf (sym e ∙ number-at) ∙ kind-of-number (operandAt b i)
+
+  pub no-kind-at : getD (getD rows b d) i 0 ≢ 1 → getD (getD rows b d) i 0 ≢ 2 → getD (getD rows b d) i 0 ≢ 3 → getD (getD rows b d) i 0 ≢ 4 → getD (getD rows b d) i 0 ≢ 5 → getD (getD rows b d) i 0 ≢ 6 → getD (getD rows b d) i 0 ≢ 7 → getD (getD rows b d) i 0 ≢ 8 → Nothing ≡ operandAt b i
+  no-kind-at n₁ n₂ n₃ n₄ n₅ n₆ n₇ n₈ = go (operandAt b i) number-at
+    where
+      go : (o : Operand) → getD (getD rows b d) i 0 ≡ kindNumber o → Nothing ≡ o
+      go Slot e = absurd (n₁ e)
+      go Location e = absurd (n₂ e)
+      go Gate e = absurd (n₃ e)
+      go Basis e = absurd (n₄ e)
+      go Value e = absurd (n₅ e)
+      go Callee e = absurd (n₆ e)
+      go CalleeK e = absurd (n₇ e)
+      go CalleeM e = absurd (n₈ e)
+      go Nothing e = refl

@@ -2,9 +2,8 @@
 -- says the answer is. That the promises give these answers is proved in proofs/Marked.antt.
 use mathlib.Core.List.{List, [], _∷_, _++_}
 use Prim.Native.Nat.{ℕ}
-use lib.ListN.{replicate}
+use lib.ListN.{length, replicate}
 use Rattle.answers.specs.Check.{Check, ok, refused}
-use Rattle.answers.specs.declared.File.{File}
 use Rattle.answers.specs.declared.File.the-variants.{NoFile, Program}
 use Rattle.rules.specs.Promises.{checkOf, Routed, routeOf}
 
@@ -28,24 +27,25 @@ withoutLast = header ++ (0x00 ∷ 0x0E ∷ 0x01 ∷ 0x00 ∷ 0x00 ∷ 0x01 ∷ 0
 abbrev pub measuredTwice : List ℕ
 measuredTwice = header ++ (0x00 ∷ 0x10 ∷ 0x01 ∷ 0x00 ∷ 0x00 ∷ 0x01 ∷ 0x01 ∷ 0x02 ∷ 0x06 ∷ 0x02 ∷ 0x00 ∷ 0x00 ∷ 0x00 ∷ 0x00 ∷ 0x03 ∷ 0x00 ∷ 0x03 ∷ 0x01 ∷ [])
 
+-- a route for an occupancy, two ends and a buffer of so many bytes, or a check of a program
 pub data Asked : Type 0 where
-  route : List ℕ → ℕ → ℕ → Asked
+  route : List ℕ → ℕ → ℕ → ℕ → Asked
   check : List ℕ → Asked
 
--- what the promises say, for job 1; the route's buffer has eight bytes, a check has none
+-- what the promises say, for job 1; a check has no buffer
 abbrev pub answered : Asked → Routed
-answered (route occupancy a b) = routeOf G 1 occupancy a b (replicate 8 0xAA)
+answered (route occupancy a b room) = routeOf G 1 occupancy a b (replicate room 0xAA)
 answered (check program) = record { answer = checkOf G program 1; buffer = [] }
 
 pub record Case : Type 0 where
   pub asked : Asked
   pub answer : Routed
 
-abbrev found : ℕ → List ℕ → Routed
-found n buffer = record { answer = ok n; buffer = buffer }
+abbrev found : List ℕ → ℕ → Routed
+found p rest = record { answer = ok (length p); buffer = p ++ replicate rest 0xAA }
 
-abbrev noPath : Routed
-noPath = record { answer = refused (record { number = 21; place = 0; file = NoFile }); buffer = replicate 8 0xAA }
+abbrev noPath : ℕ → Routed
+noPath room = record { answer = refused (record { number = 21; place = 0; file = NoFile }); buffer = replicate room 0xAA }
 
 abbrev counted : ℕ → Routed
 counted n = record { answer = ok n; buffer = [] }
@@ -58,12 +58,12 @@ case asked answer = record { asked = asked; answer = answer }
 
 abbrev pub marked : List Case
 marked =
-    case (route (0 ∷ 0 ∷ 0 ∷ 0 ∷ 0 ∷ 0 ∷ []) 0 2) (found 3 (0 ∷ 1 ∷ 2 ∷ 0xAA ∷ 0xAA ∷ 0xAA ∷ 0xAA ∷ 0xAA ∷ []))
-    ∷ case (route (0 ∷ 1 ∷ 0 ∷ 0 ∷ 0 ∷ 0 ∷ []) 0 2) (found 5 (0 ∷ 3 ∷ 4 ∷ 5 ∷ 2 ∷ 0xAA ∷ 0xAA ∷ 0xAA ∷ []))
-    ∷ case (route (0 ∷ 1 ∷ 0 ∷ 0 ∷ 1 ∷ 0 ∷ []) 0 2) noPath
-    ∷ case (route (0 ∷ 0 ∷ 0 ∷ 0 ∷ 0 ∷ 0 ∷ []) 0 4) (found 3 (0 ∷ 1 ∷ 4 ∷ 0xAA ∷ 0xAA ∷ 0xAA ∷ 0xAA ∷ 0xAA ∷ []))
-    ∷ case (route (0 ∷ 1 ∷ 0 ∷ 1 ∷ 0 ∷ 0 ∷ []) 0 4) noPath
-    ∷ case (route (0 ∷ 1 ∷ 0 ∷ 1 ∷ 0 ∷ 0 ∷ []) 0 1) (found 2 (0 ∷ 1 ∷ 0xAA ∷ 0xAA ∷ 0xAA ∷ 0xAA ∷ 0xAA ∷ 0xAA ∷ []))
+    case (route (0 ∷ 0 ∷ 0 ∷ 0 ∷ 0 ∷ 0 ∷ []) 0 2 3) (found (0 ∷ 1 ∷ 2 ∷ []) 0)
+    ∷ case (route (0 ∷ 1 ∷ 0 ∷ 0 ∷ 0 ∷ 0 ∷ []) 0 2 8) (found (0 ∷ 3 ∷ 4 ∷ 5 ∷ 2 ∷ []) 3)
+    ∷ case (route (0 ∷ 1 ∷ 0 ∷ 0 ∷ 1 ∷ 0 ∷ []) 0 2 8) (noPath 8)
+    ∷ case (route (0 ∷ 0 ∷ 0 ∷ 0 ∷ 0 ∷ 0 ∷ []) 0 4 8) (found (0 ∷ 1 ∷ 4 ∷ []) 5)
+    ∷ case (route (0 ∷ 1 ∷ 0 ∷ 1 ∷ 0 ∷ 0 ∷ []) 0 4 0) (noPath 0)
+    ∷ case (route (0 ∷ 1 ∷ 0 ∷ 1 ∷ 0 ∷ 0 ∷ []) 0 1 8) (found (0 ∷ 1 ∷ []) 6)
     ∷ case (check (header ++ (0x00 ∷ 0x00 ∷ []))) (counted 0)
     ∷ case (check (header ++ (0x00 ∷ 0x00 ∷ 0x00 ∷ []))) (refusedAt 8 8)
     ∷ case (check A) (counted 5)

@@ -17,91 +17,21 @@ pub enum Operand {
 }
 
 // Six bytes for each statement byte from 0 on: the size of the fixed part, then the kinds of at most five operands, 0 where there is none.
-const STATEMENTS: [u8; 84] = [
-    0,
-    0,
-    0,
-    0,
-    0,
-    0, //
-    3,
-    1,
-    2,
-    0,
-    0,
-    0, // 1 init
-    3,
-    1,
-    2,
-    0,
-    0,
-    0, // 2 magic init
-    2,
-    1,
-    0,
-    0,
-    0,
-    0, // 3 free
-    3,
-    3,
-    1,
-    0,
-    0,
-    0, // 4 gate
-    4,
-    1,
-    4,
-    1,
-    0,
-    0, // 5 measure
-    6,
-    1,
-    4,
-    1,
-    4,
-    1, // 6 measure two
-    3,
-    1,
-    1,
-    0,
-    0,
-    0, // 7 new reference
-    3,
-    1,
-    1,
-    0,
-    0,
-    0, // 8 get
-    3,
-    1,
-    1,
-    0,
-    0,
-    0, // 9 assign
-    2,
-    1,
-    0,
-    0,
-    0,
-    0, // 10 if
-    2,
-    1,
-    0,
-    0,
-    0,
-    0, // 11 while
-    4,
-    6,
-    7,
-    8,
-    0,
-    0, // 12 call
-    3,
-    1,
-    5,
-    0,
-    0,
-    0, // 13 bool
+const STATEMENTS: [[u8; 6]; 14] = [
+    [0, 0, 0, 0, 0, 0],
+    [3, 1, 2, 0, 0, 0],
+    [3, 1, 2, 0, 0, 0],
+    [2, 1, 0, 0, 0, 0],
+    [3, 3, 1, 0, 0, 0],
+    [4, 1, 4, 1, 0, 0],
+    [6, 1, 4, 1, 4, 1],
+    [3, 1, 1, 0, 0, 0],
+    [3, 1, 1, 0, 0, 0],
+    [3, 1, 1, 0, 0, 0],
+    [2, 1, 0, 0, 0, 0],
+    [2, 1, 0, 0, 0, 0],
+    [4, 6, 7, 8, 0, 0],
+    [3, 1, 5, 0, 0, 0],
 ];
 
 // The fixed part of a statement: its byte and the operands before any block or list.
@@ -110,7 +40,8 @@ pub fn fixed_size(statement: u8) -> usize
     ensures { λ r. ⌜ r ≡ sizeOf statement ⌝ }
     ensures { λ r. ⌜ (2 ≤ r) × (r ≤ 6) ⌝ }
 {
-    STATEMENTS[(statement as usize) * 6] as usize
+    let row = STATEMENTS[statement as usize];
+    row[0] as usize
 }
 
 // The kind of operand number `i`, from 1 on.
@@ -118,7 +49,8 @@ pub fn operand_kind(statement: u8, i: usize) -> Operand
     requires { ⌜ (statement < 14) × (0 < i) × (i < 6) ⌝ }
     ensures { λ r. ⌜ r ≡ operandAt statement i ⌝ }
 {
-    let kind = STATEMENTS[(statement as usize) * 6 + i];
+    let row = STATEMENTS[statement as usize];
+    let kind = row[i];
     match kind {
         1 => Operand::Slot,
         2 => Operand::Location,

@@ -1,6 +1,6 @@
 -- The size of a statement's fixed part, by the table's rule.
-use native.Mathlib.Omega.{arith}
 use mathlib.Core.Path.{_≡_}
+use native.Mathlib.Omega.{arith}
 use Prim.Native.Nat.{ℕ, _≤_}
 use mir.Val.{Fits}
 use mir.Syntax.{w64}
@@ -15,17 +15,21 @@ same-bounds e h = (omega (arith, e, h .0), omega (arith, e, h .1))
 small : {x y : ℕ} → x ≡ y → (2 ≤ y) × (y ≤ 6) → Fits w64 x
 small e h = record { fits = omega (arith, e, h .1) }
 
-mul-result : tie.Need-mul-result
-mul-result c = search needs
+mul-row : tie.Need-mul-row
+mul-row c = search needs
+
+array-copy-out-row : tie.Need-array-copy-out-row
+array-copy-out-row c = search needs
 
 array-read-result : tie.Need-array-read-result
 array-read-result c = search needs
 
 cast-result : tie.Need-cast-result
-cast-result c = small (size-at (c .args .statement) (search needs)) (size-in (c .args .statement) (search needs) (search needs))
+cast-result c = small (size-at (c .before .args .statement) _ (search needs)) (size-in (c .before .args .statement) (search needs) (search needs))
 
 returns : tie.Need-returns
-returns c = (size-at (c .args .statement) (search needs), same-bounds (size-at (c .args .statement) (search needs)) (size-in (c .args .statement) (search needs) (search needs)))
+returns c = (size-at (c .before .args .statement) _ (search needs), same-bounds (size-at (c .before .args .statement) _ (search needs)) (size-in (c .before .args .statement) (search needs) (search needs)))
 
 pub fixed-size-spec : {M : Type 1} → statement M
-fixed-size-spec = tie.close (tie.spec mul-result array-read-result cast-result returns)
+fixed-size-spec =
+    tie.close (tie.spec mul-row array-copy-out-row array-read-result cast-result returns)

@@ -57,6 +57,10 @@ module _ (R : Region) (free : ℕ → Bool) (a b : ℕ) where
       let t : List Bool = reach k in
       x ∷ smallestFrom k (firstFrom (λ y. joined R x y && between y && getD t y false) 0 (length (R .owned)))
 
-  -- a path has no location twice, so it has fewer edges than the device has locations
+  abbrev pub traced : Option ℕ → Option (List ℕ)
+  traced none = none
+  traced (some k) = some (smallestFrom k a)
+
+  -- no path joins a location with itself; a path has no location twice, so it has fewer edges than the device has locations
   abbrev pub route : Option (List ℕ)
-  route = elim (fewest (length (R .owned)) 0 (reach zero)) [ none ↦ none | some k ↦ some (smallestFrom k a) ]
+  route = elim (eqb a b) [ true ↦ none | false ↦ traced (fewest (length (R .owned)) 0 (reach zero)) ]

@@ -1,0 +1,3 @@
+pub mod WellRead
+pub mod Routes
+pub mod Interleaving

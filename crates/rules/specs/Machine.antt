@@ -2,7 +2,7 @@
 use mathlib.Core.Bool.{Bool, true, false}
 use mathlib.Core.List.{List, [], _∷_, map}
 use Prim.Native.Nat.{ℕ, _-_}
-use lib.ListN.{length, replicate}
+use lib.ListN.{length, take, replicate}
 use Rattle.answers.specs.Check.{Check, ok, refused, _>>=_, _>>_}
 use Rattle.rules.specs.Basics.{chosen, without, setAll}
 use Rattle.rules.specs.Region.{Region, owns}
@@ -94,7 +94,7 @@ module _ (R : Region) (fs : List Function) (outcome : Bool) (isFree : ℕ → Bo
   move φ φs (run σ (call o f ls xs)) rest = do
     let actual : List (Place device) = map (locate σ) ls
     callable (floor σ) o φ actual xs
-    ok (silent (entered (at actual) (length xs)) (φ ∷ φs) (blockBefore (locations actual) (function fs f .body) (return o actual xs ∷ rest)))
+    ok (silent (entered (take (length xs) actual)) (φ ∷ φs) (blockBefore (locations actual) (function fs f .body) (return o actual xs ∷ rest)))
   -- The caller's slot given for argument i stays bound exactly when callee slot i holds a qubit at the call's location i.
   move φ [] (return o ls xs) rest = ok (silent φ [] rest)
   move φ (χ ∷ φs) (return o ls xs) rest = ok (silent (setAll unbound (without (kept φ (at ls) (length xs)) xs) χ) φs rest)

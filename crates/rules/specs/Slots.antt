@@ -141,9 +141,9 @@ module _ {s t : Side} {B : Type 0} (W : Setting s t B) where
     need (all (W .isFree) (drop (length xs) ls)) 14 o
 
 module _ {s : Side} {B : Type 0} where
-  -- the callee's slots: argument i is a qubit in slot i at place i
-  abbrev pub entered : (ℕ → Place s) → ℕ → List (Slot s B)
-  entered place m = upTo 0 m (λ i. qubit (place i)) ++ replicate (32 - m) unbound
+  -- the callee's slots, entered with qubits at these places: argument i is a qubit in slot i at place i
+  abbrev pub entered : List (Place s) → List (Slot s B)
+  entered ls = map qubit ls ++ replicate (32 - length ls) unbound
 
   -- which of the m arguments the callee ended with: slot i holds a qubit at place i
   abbrev pub kept : List (Slot s B) → (ℕ → Place s) → ℕ → List Bool

@@ -125,7 +125,7 @@ module _ {s : Side} where
 
 -- Argument i is a qubit in slot i at parameter i; parameters m to k-1 are free on entry.
 abbrev pub entry : Function → Env parameter
-entry g = record { slots = entered param (g .m); free = replicate (g .m) false ++ replicate (g .k - g .m) true }
+entry g = record { slots = entered (upTo 0 (g .m) param); free = replicate (g .m) false ++ replicate (g .k - g .m) true }
 
 abbrev pub bodyContext : List Signature → Function → Context parameter
 bodyContext gs g = record { inside = λ p. ltb (p .no) (g .k); functions = gs }

@@ -5,3 +5,4 @@ pub mod Exact
 pub mod NeverStuck
 pub mod Counts
 pub mod Tidy
+pub mod FirstRefusal

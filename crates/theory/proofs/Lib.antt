@@ -1,1 +1,3 @@
 pub mod Base
+pub mod Pigeon
+pub mod Routes

@@ -1,3 +1,4 @@
 pub mod Base
 pub mod Pigeon
 pub mod Routes
+pub mod WellRead

@@ -2,3 +2,4 @@ pub mod Base
 pub mod Pigeon
 pub mod Routes
 pub mod WellRead
+pub mod Counts

@@ -3,3 +3,5 @@ pub mod Pigeon
 pub mod Routes
 pub mod WellRead
 pub mod Counts
+pub mod Isolation
+pub mod Interleaving

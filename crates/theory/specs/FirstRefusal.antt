@@ -22,7 +22,7 @@ use Rattle.rules.specs.Table.{Row, rowOf, size}
 use Rattle.rules.specs.Program.{Scope, Read, inRange, readProgram, functionHeader, operands, meant, statement, statements, readBlock, functionsAt}
 use Rattle.rules.specs.Slots.{Slot, unbound, qubit, bool, ref, slot, isQubitAt, Setting, perform, callable}
 use Rattle.rules.specs.Commands.{sizeOf, walk}
-use Rattle.rules.specs.Typing.{Env, Typed, Context, typeStatements, typeBlock, allStay, typeProgram}
+use Rattle.rules.specs.Typing.{Env, Typed, Context, kinds, allStay, sameEnv, typeStatement, typeStatements, typeBlock, typeProgram}
 use Rattle.rules.specs.Run.{turns}
 use Rattle.rules.specs.Promises.{checkOf, routed, ran}
 
@@ -162,10 +162,20 @@ OpOrder = (s t : Side) (B : Type 0) (W : Setting s t B) (o : ℕ) (φ : List (Sl
 abbrev pub CallOrder : Type 1
 CallOrder = (s t : Side) (B : Type 0) (W : Setting s t B) (o : ℕ) (φ : List (Slot t B)) (ls : List (Place t)) (xs : List ℕ) → refusalOf (callable W o φ ls xs) ≡ firstOf (callTests W o φ ls xs)
 
--- 17 falls at the block's end, after every refusal of its statements; 18 and 19 are the last tests of their statements, after the blocks
+-- 17 falls at the block's end, after every refusal of its statements; 11 comes first and 18 or 19 last, after the blocks
 abbrev pub CloseOrder : Type 0
 CloseOrder = (s : Side) (C : Context s) (Γ : Env s) (o : ℕ) (ts : trees.Statements s)
     → refusalOf (typeBlock C Γ (trees.block o ts)) ≡ (typeStatements C Γ ts >>= λ d. firstOf (test (allStay (Γ .slots) (d .env .slots)) 17 o ∷ []))
+
+abbrev pub IfOrder : Type 0
+IfOrder = (s : Side) (C : Context s) (Γ : Env s) (o y : ℕ) (b c : Block s)
+    → refusalOf (typeStatement C Γ (trees.if o y b c))
+      ≡ (firstOf (test (isBool (kinds C Γ) o (Γ .slots) (slot (Γ .slots) y)) 11 o ∷ []) >> (typeBlock C Γ b >>= λ d. typeBlock C Γ c >>= λ e. firstOf (test (sameEnv (d .env) (e .env)) 18 o ∷ [])))
+
+abbrev pub WhileOrder : Type 0
+WhileOrder = (s : Side) (C : Context s) (Γ : Env s) (o r : ℕ) (b : Block s)
+    → refusalOf (typeStatement C Γ (trees.while o r b))
+      ≡ (firstOf (test (isRef (kinds C Γ) o (Γ .slots) (slot (Γ .slots) r)) 11 o ∷ []) >> (typeBlock C Γ b >>= λ d. firstOf (test (sameEnv (d .env) Γ) 19 o ∷ [])))
 
 -- The calls, stage by stage. A stage that needs what earlier ones gave says nothing where they refused.
 unfoldable pub given : {A : Type 0} → Check A → (A → Check (Unit {0})) → Check (Unit {0})

@@ -6,3 +6,5 @@ pub mod FirstRefusal
 pub mod Counts
 pub mod Isolation
 pub mod Interleaving
+pub mod Neat
+pub mod Tidy

@@ -55,10 +55,10 @@ MapByte = (D : Device) (programs : ℕ → Program) (ts : List Turn) (l : ℕ)
 abbrev pub frame : Job → ℕ → Frame
 frame J i = getD (J .top ∷ J .below) i []
 
--- No two slots of one frame hold one location, and no two jobs do. (A caller's slot and the callee's for the same argument both hold it.) A qubit
--- of the top frame sits on a location that the map gives to the job.
+-- No two slots of one frame of a job hold one location, and no two jobs do. (A caller's slot and the callee's for the same argument both hold it.)
+-- A qubit of the top frame sits on a location that the map gives to the job.
 pub record Holds-once (M : Machine) : Type 0 where
-  pub one-slot : (j i x y : ℕ) (l k : Place device) → slot (frame (M .jobs j) i) x ≡ qubit l → slot (frame (M .jobs j) i) y ≡ qubit k → l .no ≡ k .no → x ≡ y
+  pub one-slot : (j i x y : ℕ) (l k : Place device) → 1 ≤ j → slot (frame (M .jobs j) i) x ≡ qubit l → slot (frame (M .jobs j) i) y ≡ qubit k → l .no ≡ k .no → x ≡ y
   pub one-job : (i j a b x y : ℕ) (l k : Place device) → slot (frame (M .jobs i) a) x ≡ qubit l → slot (frame (M .jobs j) b) y ≡ qubit k → l .no ≡ k .no → i ≡ j
   pub on-map : (j x : ℕ) (l : Place device) → slot (M .jobs j .top) x ≡ qubit l → getD (M .occupancy) (l .no) 0 ≡ j
 

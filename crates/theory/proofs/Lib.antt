@@ -8,3 +8,6 @@ pub mod Isolation
 pub mod Interleaving
 pub mod Neat
 pub mod Tidy
+pub mod Frames
+pub mod Safety
+pub mod NeverStuck

@@ -1,0 +1,152 @@
+-- A job whose program the rules derive is never stuck, whatever the other jobs do between its steps. Its first state is typed, with all locations of
+-- its region free; each of its steps keeps it typed, and keeps free on the device what typing has as free; the other jobs change nothing that it sees.
+use mathlib.Core.Bool.{Bool, true, false, _&&_, false≢true}
+use mathlib.Core.List.{List, [], _∷_}
+use mathlib.Core.Logic.{_≢_}
+use mathlib.Core.Path.{_≡_, refl, sym, ap, _∙_}
+use native.Mathlib.Decide.{ℕ-discrete, decLt}
+use native.Mathlib.Omega.{arith}
+use Prim.Native.Nat.{ℕ, zero, suc, _≤_, _<_}
+use lib.Dec.{eqb, leb}
+use lib.ListN.{getD, set, length, drop, replicate, List·getD-eq-default}
+use lib.Seq.{getD-set-same, getD-set-other, set-out}
+use Rattle.rules.specs.Basics.{all}
+use Rattle.rules.specs.Device.{Device}
+use Rattle.rules.specs.Region.{Region, regionOf, owns, freeIn}
+use Rattle.rules.specs.Syntax.{device, Place, Function, function, Program}
+use Rattle.rules.specs.Slots.{unbound, slot, Act, quiet, takes, gives, merges}
+use Rattle.rules.specs.Commands.{Commands, ε, alloc, release, connect, either, repeat, commandsAt}
+use Rattle.rules.specs.Typing.{Signature, afterAct, mainContext, start}
+use Rattle.rules.specs.Figures.{FunctionsRule, T-NoFun, T-Fundecl, Connects, ProgramRule}
+use Rattle.rules.specs.Machine.{fresh, themselves}
+use Rattle.rules.specs.Run.{Turn, written, started, records}
+use Rattle.theory.specs.WellRead.{FunctionsRead, none-read, function-read, ProgramRead}
+use Rattle.theory.specs.Interleaving.{turnsOf, recordsOf}
+use Rattle.theory.proofs.Frames.{Match}
+use Rattle.theory.proofs.Safety.{true-in-range, Known, known-none, known-more, finished, rest-block, Inv, Fine, fine-step}
+use Rattle.theory.proofs.Isolation.{OwnAct, own-step, View, view, view-step, view-after, view-records, sound-started, view-started, free-started, SoundView, sound-view, sound-view-after, records-of}
+
+-- 1. The first state of a derived program is typed.
+commands-at-self : (c : Commands device) → commandsAt (λ l. l) c ≡ c
+commands-at-self ε = refl
+commands-at-self (alloc q l c) = ap (λ d. alloc q l d) (commands-at-self c)
+commands-at-self (release l c) = ap (λ d. release l d) (commands-at-self c)
+commands-at-self (connect o b l e k c) = ap (λ d. connect o b l e k d) (commands-at-self c)
+commands-at-self (either a b c) = λ i. either (commands-at-self a i) (commands-at-self b i) (commands-at-self c i)
+commands-at-self (repeat a c) = λ i. repeat (commands-at-self a i) (commands-at-self c i)
+
+function-at : (fs : List Function) (n : ℕ) (g : Function) (gs : List Function) → drop n fs ≡ g ∷ gs → function fs n ≡ g
+function-at [] zero g gs h = cc
+function-at [] (suc n) g gs h = cc
+function-at (f ∷ fs) zero g gs h = cc
+function-at (f ∷ fs) (suc n) g gs h = function-at fs n g gs h
+
+drop-tail : (fs : List Function) (n : ℕ) (g : Function) (gs : List Function) → drop n fs ≡ g ∷ gs → drop (suc n) fs ≡ gs
+drop-tail [] zero g gs h = cc
+drop-tail [] (suc n) g gs h = cc
+drop-tail (f ∷ fs) zero g gs h = cc
+drop-tail (f ∷ fs) (suc n) g gs h = drop-tail fs n g gs h
+
+-- a frame has room for the arguments of every function read
+abbrev Roomy : List Function → Type 0
+Roomy [] = Unit {0}
+Roomy (g ∷ gs) = (g .m ≤ 32) × Roomy gs
+
+read-roomy : {fs gs : List Function} {o q : ℕ} → FunctionsRead fs o gs q → Roomy gs
+read-roomy none-read = tt
+read-roomy (function-read k m n b r) = (omega arith, read-roomy r)
+
+module _ (R : Region) (fs : List Function) where
+  known-all : {rest : List Function} {gs hs : List Signature} → FunctionsRule rest gs hs → drop (length gs) fs ≡ rest → Roomy rest → Known R fs (length (R .owned)) gs → Known R fs (length (R .owned)) hs
+  known-all T-NoFun h m K = K
+  known-all (T-Fundecl {g = g} {fs = rest} {gs = gs} j r) h m K = known-all r (drop-tail fs (length gs) g rest h) (m .1) (known-more K (function-at fs (length gs) g rest h) (m .0) j)
+
+match-start : (x n : ℕ) → Match (λ (l : Place device). l) (slot (replicate n unbound) x) (slot (replicate n unbound) x)
+match-start x zero = refl
+match-start zero (suc n) = refl
+match-start (suc x) (suc n) = match-start x n
+
+first-typed : (R : Region) (p : Program) (c : Commands device) → Roomy (p .functions) → ProgramRule R p c → Inv R (p .functions) (length (R .owned)) (R .owned) (fresh p)
+first-typed R p c m A =
+    let w : Connects R (R .owned) (commandsAt (λ l. l) c) (A .left) = rw (commands-at-self c) (A .connects) in
+    record {
+      s = device;
+      B = record { context = mainContext (R .owned) (A .signatures); actual = themselves; place = λ l. l; size = length (R .owned) };
+      Γ = start (R .owned);
+      good = record {
+        known = known-all R (p .functions) (A .functions) refl m known-none;
+        placed = record { agree = λ l h. refl; own = λ l h. h; range = λ l h. true-in-range (R .owned) (l .no) h; apart = λ l k h i e. e; room = λ l h. h };
+        sized = refl;
+        long = refl;
+        fits = record { kinds-long = refl; slots-long = refl; each = λ x. match-start x 32 };
+        frees = λ l h. h;
+      };
+      rest = rest-block R (p .functions) (length (R .owned)) (p .main) (A .main) w finished;
+    }
+
+-- 2. What typing has as free stays free on the device
+module _ (R : Region) (j : ℕ) where
+  abbrev FreeOn : List Bool → List ℕ → Type 0
+  FreeOn L occ = (l : ℕ) → getD L l false ≡ true → freeIn R occ l ≡ true
+
+  free-other : (occ : List ℕ) (k x l : ℕ) → l ≢ k → freeIn R occ l ≡ true → freeIn R (set occ k x) l ≡ true
+  free-other occ k x l n h = ap (λ y. owns R l && eqb y 0) (getD-set-other occ k l x 0 n) ∙ h
+
+  given-zero : (occ : List ℕ) (k : ℕ) → getD (set occ k 0) k 0 ≡ 0
+  given-zero occ k = go (decLt k (length occ))
+    where
+      go : Dec (k < length occ) → getD (set occ k 0) k 0 ≡ 0
+      go (yes h) = getD-set-same occ k 0 0 h
+      go (no h) = ap (λ o. getD o k 0) (set-out occ k 0 (omega arith)) ∙ List·getD-eq-default occ 0 (omega arith)
+
+  free-after : (a : Act device) (L : List Bool) (occ : List ℕ) → OwnAct (owns R) a → FreeOn L occ → FreeOn (afterAct a L) (written j a occ)
+  free-after quiet L occ own F l h = F l h
+  free-after (takes q k) L occ own F l h = go (ℕ-discrete l (k .no)) (decLt (k .no) (length L))
+    where
+      go : Dec (l ≡ k .no) → Dec (k .no < length L) → freeIn R (set occ (k .no) j) l ≡ true
+      go (no n) d = free-other occ (k .no) j l n (F l (sym (getD-set-other L (k .no) l false false n) ∙ h))
+      go (yes e) (yes r) = absurd (false≢true (sym (getD-set-same L (k .no) false false r) ∙ rw e at h))
+      go (yes e) (no r) = let z = true-in-range L l (rw (set-out L (k .no) false (omega arith)) at h) in absurd (omega arith)
+  free-after (gives k) L occ own F l h = go (ℕ-discrete l (k .no))
+    where
+      go : Dec (l ≡ k .no) → freeIn R (set occ (k .no) 0) l ≡ true
+      go (no n) = free-other occ (k .no) 0 l n (F l (sym (getD-set-other L (k .no) l true false n) ∙ h))
+      go (yes e) = rw (e, own, given-zero occ (k .no))
+  free-after (merges b k e k′) L occ own F l h = F l h
+
+-- 3. Over any schedule
+module _ (D : Device) (programs : ℕ → Program) (j len : ℕ) where
+  record TypedView (W : View) : Type 0 where
+    L : List Bool
+    inv : Inv (regionOf D j) (programs j .functions) len L (W .job)
+    frees : FreeOn (regionOf D j) j L (W .mine)
+    sound : SoundView D programs j W
+
+  fine-view : (v : Bool) (W : View) (T : TypedView W)
+      → Fine (regionOf D j) (programs j .functions) len v (freeIn (regionOf D j) (W .mine)) (T .L) (view-step D programs j v W)
+  fine-view v W T = fine-step (regionOf D j) (programs j .functions) len v (freeIn (regionOf D j) (W .mine)) (T .L) (W .job) (T .frees) (T .inv)
+
+  typed-after : (v : Bool) (W : View) → TypedView W → TypedView (view-after D programs j v W)
+  typed-after v W T = record {
+    L = afterAct (view-step D programs j v W .act) (T .L);
+    inv = fine-view v W T .inv;
+    frees = free-after (regionOf D j) j (view-step D programs j v W .act) (T .L) (W .mine)
+        (own-step (regionOf D j) (programs j .functions) v (freeIn (regionOf D j) (W .mine)) (W .job) (T .sound .own) .1) (T .frees);
+    sound = sound-view-after D programs j v W (T .sound);
+  }
+
+  unstuck-view : (ts : List Turn) (W : View) → TypedView W → all (λ r. leb (r .told .code) 1) (view-records D programs j ts W) ≡ true
+  unstuck-view [] W T = refl
+  unstuck-view (t ∷ ts) W T = rw (fine-view (t .outcome) W T .unstuck) (unstuck-view ts (view-after D programs j (t .outcome) W) (typed-after (t .outcome) W T))
+
+pub never-stuck-derived : (D : Device) (programs : ℕ → Program) (j size : ℕ) (c : Commands device) → ProgramRead size (programs j) → ProgramRule (regionOf D j) (programs j) c
+    → (ts : List Turn) → all (λ r. leb (r .told .code) 1) (recordsOf j (records D programs ts (started D programs))) ≡ true
+never-stuck-derived D programs j size c read A ts =
+    rw (records-of D programs j ts (started D programs) (sound-started D programs))
+    (unstuck-view D programs j (length (regionOf D j .owned)) (turnsOf j ts) (view D programs j (started D programs))
+    (record {
+      L = regionOf D j .owned;
+      inv = first-typed (regionOf D j) (programs j) c (read-roomy (read .functions)) A;
+      frees = λ l h. ap (λ W. freeIn (regionOf D j) (W .mine) l) (view-started D programs j) ∙ free-started D programs j l ∙ h;
+      sound = sound-view D programs j (started D programs) (sound-started D programs);
+    }))

@@ -11,3 +11,6 @@ pub mod Tidy
 pub mod Frames
 pub mod Safety
 pub mod NeverStuck
+pub mod Places
+pub mod Linear
+pub mod ExactTyping

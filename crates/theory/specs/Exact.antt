@@ -7,14 +7,14 @@ use Prim.Native.Nat.{ℕ, _<_, _≤_}
 use Rattle.answers.specs.Check.{ok}
 use Rattle.rules.specs.Device.{Device, readDevice}
 use Rattle.rules.specs.Region.{Region, regionOf}
-use Rattle.rules.specs.Syntax.{Side, device, Place, Block, Function, Program}
+use Rattle.rules.specs.Syntax.{Side, device, Place, Block, Program}
 use Rattle.rules.specs.Program.{readProgram}
 use Rattle.rules.specs.Slots.{unbound, qubit, slot}
 use Rattle.rules.specs.Commands.{Commands, sizeOf, walk}
 use Rattle.rules.specs.Typing.{Env, Typed, Signature, Context, mainContext, start, typeProgram}
 use Rattle.rules.specs.Figures.{BlockRule, FunctionsRule, Connects, ProgramRule}
 use Rattle.rules.specs.Promises.{checkOf}
-use Rattle.theory.specs.WellRead.{FunctionsRead, ProgramRead}
+use Rattle.theory.specs.WellRead.{ProgramRead}
 
 -- the job is 1 or 2, both files read, and T-Prog derives the program for the job's region, with commands of size n at most 65,535
 pub record Accepts (deviceFile programFile : List ℕ) (job n : ℕ) : Type 0 where
@@ -48,6 +48,5 @@ WalkDecides = (R : Region) (size : ℕ) (p : Program) (t : Typed device) (L : Li
 
 -- What 18 and 19 compare: a typed block ends with every slot as on entry, but for qubits that it freed.
 abbrev pub EndsAlike : Type 0
-EndsAlike = (fs : List Function) (o q : ℕ) (gs : List Signature) → FunctionsRead [] o fs q → FunctionsRule fs [] gs → (s : Side) (C : Context s) → C .functions ≡ gs
-    → (Γ Δ : Env s) (b : Block s) (c : Commands s) → BlockRule C Γ b Δ c → (x : ℕ) → x < 32
+EndsAlike = (s : Side) (C : Context s) (Γ Δ : Env s) (b : Block s) (c : Commands s) → BlockRule C Γ b Δ c → (x : ℕ) → x < 32
     → (slot (Δ .slots) x ≡ slot (Γ .slots) x) ⊎ ((l : Place s) × (slot (Γ .slots) x ≡ qubit l) × (slot (Δ .slots) x ≡ unbound))

@@ -1,0 +1,336 @@
+-- Facts on lists of places and numbers, on what stands where after several stores, on the arguments of a call, and on the slots at a body's entry and
+-- at a block's end.
+use mathlib.Core.Bool.{Bool, true, false, not, _&&_, _||_, false≢true}
+use mathlib.Core.List.{List, [], _∷_, _++_, map}
+use mathlib.Core.Logic.{_≢_, _⊎_, inl, inr, ⊎-elim}
+use mathlib.Core.Path.{_≡_, refl, sym, ap, subst, _∙_}
+use native.Mathlib.Decide.{ℕ-discrete, decLt}
+use native.Mathlib.Nat.{zero-add}
+use native.Mathlib.Omega.{arith}
+use Prim.Native.Nat.{ℕ, zero, suc, _+_, _-_, _≤_, _<_}
+use lib.Dec.{eqb}
+use lib.ListN.{getD, set, length, drop, replicate, length-set, length-replicate, length-append, length-map}
+use lib.Seq.{getD-set-same, getD-set-other, set-getD}
+use Rattle.rules.specs.Basics.{chosen, all, any, upTo, without, setAll, distinct}
+use Rattle.rules.specs.Syntax.{Side, parameter, Place, param, at}
+use Rattle.rules.specs.Slots.{Slot, unbound, qubit, bool, ref, slot, holdsNoQubit, isClassical, entered}
+use Rattle.rules.specs.Commands.{Commands, ε, alloc, release, connect, either, repeat, commandsAt}
+use Rattle.rules.specs.Typing.{Kind, Env, sameKind, kindNumber, allStay, narrowed}
+use Rattle.rules.specs.Figures.{stored, Arguments, no-more, and}
+use Rattle.rules.proofs.Basics.{getD-upTo, all-upTo}
+use Rattle.theory.proofs.Base.{T→eq, eq→T, eqb-true, eqb-same, and-left, and-right}
+
+pub place-path : {s : Side} (p q : Place s) → p .no ≡ q .no → p ≡ q
+place-path p q e = λ i. record { no = e i }
+
+pub true-in-range : (bs : List Bool) (i : ℕ) → getD bs i false ≡ true → i < length bs
+true-in-range [] i h = absurd (false≢true h)
+true-in-range (b ∷ bs) zero h = omega arith
+true-in-range (b ∷ bs) (suc i) h = let k : i < length bs = true-in-range bs i h in omega arith
+
+or-right : (a b : Bool) → b ≡ true → (a || b) ≡ true
+or-right true b h = refl
+or-right false b h = h
+
+not-both : (b : Bool) → not b ≡ true → b ≡ true → ⊥
+not-both true h k = false≢true h
+not-both false h k = false≢true k
+
+-- numbers of which none comes twice
+pub any-at : (ns : List ℕ) (i : ℕ) → i < length ns → any (eqb (getD ns i 0)) ns ≡ true
+any-at [] i k = absurd (omega arith)
+any-at (n ∷ ns) zero k = rw (eqb-same n)
+any-at (n ∷ ns) (suc i) k = or-right (eqb (getD ns i 0) n) _ (any-at ns i (omega arith))
+
+pub distinct-at : (ns : List ℕ) (i j : ℕ) → distinct ns ≡ true → i < length ns → j < length ns → getD ns i 0 ≡ getD ns j 0 → i ≡ j
+distinct-at [] i j h k m e = absurd (omega arith)
+distinct-at (n ∷ ns) zero zero h k m e = refl
+distinct-at (n ∷ ns) zero (suc j) h k m e = absurd (not-both (any (eqb n) ns) (and-left _ _ h) (rw e (any-at ns j (omega arith))))
+distinct-at (n ∷ ns) (suc i) zero h k m e = absurd (not-both (any (eqb n) ns) (and-left _ _ h) (rw (← e) (any-at ns i (omega arith))))
+distinct-at (n ∷ ns) (suc i) (suc j) h k m e = ap suc (distinct-at ns i j (and-right (not (any (eqb n) ns)) _ h) (omega arith) (omega arith) e)
+
+pub distinct-head : (n : ℕ) (ns : List ℕ) → distinct (n ∷ ns) ≡ true → (i : ℕ) → i < length ns → getD ns i 0 ≢ n
+distinct-head n ns h i k e = let z : suc i ≡ 0 = distinct-at (n ∷ ns) (suc i) 0 h (omega arith) (omega arith) e in omega arith
+
+pub distinct-tail : (n : ℕ) (ns : List ℕ) → distinct (n ∷ ns) ≡ true → distinct ns ≡ true
+distinct-tail n ns h = and-right (not (any (eqb n) ns)) _ h
+
+-- where a number stands, or that it stands nowhere
+pub find : (ns : List ℕ) (n : ℕ) → ((i : ℕ) × (i < length ns) × (getD ns i 0 ≡ n)) ⊎ ((i : ℕ) → i < length ns → getD ns i 0 ≢ n)
+find [] n = inr (λ i h. absurd (omega arith))
+find (k ∷ ns) n = go (ℕ-discrete k n) (find ns n)
+  where
+    go : Dec (k ≡ n) → ((i : ℕ) × (i < length ns) × (getD ns i 0 ≡ n)) ⊎ ((i : ℕ) → i < length ns → getD ns i 0 ≢ n)
+        → ((i : ℕ) × (i < length (k ∷ ns)) × (getD (k ∷ ns) i 0 ≡ n)) ⊎ ((i : ℕ) → i < length (k ∷ ns) → getD (k ∷ ns) i 0 ≢ n)
+    go (yes e) r = inl (0, omega arith, e)
+    go (no d) (inl c) = inl (suc (c .0), omega (arith, c .1), c .2)
+    go (no d) (inr c) = inr later
+      where
+        later : (i : ℕ) → i < length (k ∷ ns) → getD (k ∷ ns) i 0 ≢ n
+        later zero h = d
+        later (suc i) h = c i (omega arith)
+
+-- several stores
+module _ {A : Type 0} where
+  pub length-stored : (vs : List A) (ns : List ℕ) (φ : List A) → length (stored vs ns φ) ≡ length φ
+  length-stored [] ns φ = refl
+  length-stored (v ∷ vs) [] φ = refl
+  length-stored (v ∷ vs) (n ∷ ns) φ = length-set (stored vs ns φ) n v ∙ length-stored vs ns φ
+
+  pub stored-other : (vs : List A) (ns : List ℕ) (φ : List A) (n : ℕ) (d : A) → ((i : ℕ) → i < length ns → getD ns i 0 ≢ n) → getD (stored vs ns φ) n d ≡ getD φ n d
+  stored-other [] ns φ n d h = refl
+  stored-other (v ∷ vs) [] φ n d h = refl
+  stored-other (v ∷ vs) (k ∷ ns) φ n d h = getD-set-other (stored vs ns φ) k n v d (λ e. h 0 (omega arith) (sym e)) ∙ stored-other vs ns φ n d (λ i l. h (suc i) (omega arith))
+
+  pub stored-at : (vs : List A) (ns : List ℕ) (φ : List A) (i : ℕ) (d : A) → distinct ns ≡ true → length vs ≡ length ns → i < length ns → getD ns i 0 < length φ
+      → getD (stored vs ns φ) (getD ns i 0) d ≡ getD vs i d
+  stored-at [] [] φ i d u e h r = absurd (omega arith)
+  stored-at [] (n ∷ ns) φ i d u e h r = absurd (omega arith)
+  stored-at (v ∷ vs) [] φ i d u e h r = absurd (omega arith)
+  stored-at (v ∷ vs) (n ∷ ns) φ zero d u e h r = getD-set-same (stored vs ns φ) n v d (omega (arith, length-stored vs ns φ))
+  stored-at (v ∷ vs) (n ∷ ns) φ (suc i) d u e h r =
+      getD-set-other (stored vs ns φ) n (getD ns i 0) v d (distinct-head n ns u i (omega arith)) ∙ stored-at vs ns φ i d (distinct-tail n ns u) (omega arith) (omega arith) r
+
+  -- Stores that say again what stands there, but for those that store v: the same as v at the numbers that do not stay.
+  pub stored-agrees : (d v : A) (bs : List Bool) (vs : List A) (ns : List ℕ) (φ : List A) → distinct ns ≡ true → length vs ≡ length ns
+      → ((j : ℕ) → j < length ns → ((getD bs j true ≡ true) × (getD vs j d ≡ getD φ (getD ns j 0) d)) ⊎ ((getD bs j true ≡ false) × (getD vs j d ≡ v)))
+      → stored vs ns φ ≡ setAll v (without bs ns) φ
+  stored-agrees d v [] [] [] φ u e h = refl
+  stored-agrees d v (b ∷ bs) [] [] φ u e h = refl
+  stored-agrees d v bs [] (n ∷ ns) φ u e h = absurd (omega arith)
+  stored-agrees d v bs (w ∷ vs) [] φ u e h = absurd (omega arith)
+  stored-agrees d v [] (w ∷ vs) (n ∷ ns) φ u e h =
+      let r : stored vs ns φ ≡ φ = stored-agrees d v [] vs ns φ (distinct-tail n ns u) (omega arith) (λ j k. h (suc j) (omega arith)) in
+      ⊎-elim (λ c. rw r (ap (λ (a : A). set φ n a) (c .1) ∙ set-getD φ n d)) (λ c. absurd (false≢true (sym (c .0)))) (h 0 (omega arith))
+  stored-agrees d v (true ∷ bs) (w ∷ vs) (n ∷ ns) φ u e h =
+      let r : stored vs ns φ ≡ setAll v (without bs ns) φ = stored-agrees d v bs vs ns φ (distinct-tail n ns u) (omega arith) (λ j k. h (suc j) (omega arith)) in
+      ⊎-elim (λ c. ap (λ (a : A). set (stored vs ns φ) n a) (c .1 ∙ sym (stored-other vs ns φ n d (distinct-head n ns u))) ∙ set-getD (stored vs ns φ) n d ∙ r)
+      (λ c. absurd (false≢true (sym (c .0)))) (h 0 (omega arith))
+  stored-agrees d v (false ∷ bs) (w ∷ vs) (n ∷ ns) φ u e h =
+      let r : stored vs ns φ ≡ setAll v (without bs ns) φ = stored-agrees d v bs vs ns φ (distinct-tail n ns u) (omega arith) (λ j k. h (suc j) (omega arith)) in
+      ⊎-elim (λ c. absurd (false≢true (c .0))) (λ c. ap (λ (a : A). set (stored vs ns φ) n a) (c .1) ∙ ap (λ (l : List A). set l n v) r) (h 0 (omega arith))
+
+  pub length-upTo : (i m : ℕ) (f : ℕ → A) → length (upTo i m f) ≡ m
+  length-upTo i zero f = refl
+  length-upTo i (suc m) f = ap suc (length-upTo (suc i) m f)
+
+  pub getD-upTo-zero : (m k : ℕ) (f : ℕ → A) (d : A) → k < m → getD (upTo 0 m f) k d ≡ f k
+  getD-upTo-zero m k f d h = getD-upTo 0 m k f d h ∙ ap f (zero-add k)
+
+-- places
+module _ {s : Side} where
+  pub number-at : (ls : List (Place s)) (i : ℕ) → getD (map (λ l. l .no) ls) i 0 ≡ at ls i .no
+  number-at [] i = refl
+  number-at (l ∷ ls) zero = refl
+  number-at (l ∷ ls) (suc i) = number-at ls i
+
+  pub all-at : (f : Place s → Bool) (ls : List (Place s)) (i : ℕ) → all f ls ≡ true → i < length ls → f (at ls i) ≡ true
+  all-at f [] i h k = absurd (omega arith)
+  all-at f (l ∷ ls) zero h k = and-left _ _ h
+  all-at f (l ∷ ls) (suc i) h k = all-at f ls i (and-right (f l) _ h) (omega arith)
+
+  pub drop-at : (f : Place s → Bool) (m : ℕ) (ls : List (Place s)) (i : ℕ) → all f (drop m ls) ≡ true → m ≤ i → i < length ls → f (at ls i) ≡ true
+  drop-at f zero ls i h j k = all-at f ls i h k
+  drop-at f (suc m) [] i h j k = absurd (omega arith)
+  drop-at f (suc m) (l ∷ ls) zero h j k = absurd (omega arith)
+  drop-at f (suc m) (l ∷ ls) (suc i) h j k = drop-at f m ls i h (omega arith) (omega arith)
+
+  pub distinct-places : (ls : List (Place s)) (i j : ℕ) → distinct (map (λ l. l .no) ls) ≡ true → i < length ls → j < length ls → at ls i .no ≡ at ls j .no → i ≡ j
+  distinct-places ls i j h k m e =
+      let n : length (map (λ (l : Place s). l .no) ls) ≡ length ls = length-map ls (λ l. l .no) in
+      distinct-at (map (λ l. l .no) ls) i j h (omega arith) (omega arith) (number-at ls i ∙ e ∙ sym (number-at ls j))
+
+  -- which of the places has the number, if one has
+  pub find-place : (ls : List (Place s)) (l : Place s) → ((i : ℕ) × (i < length ls) × (at ls i ≡ l)) ⊎ ((i : ℕ) → i < length ls → at ls i .no ≢ l .no)
+  find-place ls l =
+      let n : length (map (λ (k : Place s). k .no) ls) ≡ length ls = length-map ls (λ k. k .no) in
+      ⊎-elim (λ c. inl (c .0, omega (arith, c .1), place-path (at ls (c .0)) l (sym (number-at ls (c .0)) ∙ c .2))) (λ c. inr (λ i h e. c i (omega arith) (number-at ls i ∙ e))) (find (map (λ k. k .no) ls) (l .no))
+
+  pub map-without : (bs : List Bool) (ls : List (Place s)) → map (λ l. l .no) (without bs ls) ≡ without bs (map (λ l. l .no) ls)
+  map-without [] ls = refl
+  map-without (b ∷ bs) [] = refl
+  map-without (true ∷ bs) (l ∷ ls) = map-without bs ls
+  map-without (false ∷ bs) (l ∷ ls) = ap (λ (ns : List ℕ). l .no ∷ ns) (map-without bs ls)
+
+  pub qubit-in-range : (φ : List (Kind s)) (x : ℕ) (l : Place s) → slot φ x ≡ qubit l → x < length φ
+  qubit-in-range [] x l h = let z : _≡_ {A = ℕ} 0 1 = cc in absurd (omega arith)
+  qubit-in-range (v ∷ φ) zero l h = omega arith
+  qubit-in-range (v ∷ φ) (suc x) l h = let k = qubit-in-range φ x l h in omega arith
+
+  -- the arguments of a call
+  pub argument-at : {Γ : Env s} (xs : List ℕ) (ls : List (Place s)) (i : ℕ) → Arguments Γ xs ls → i < length xs → slot (Γ .slots) (getD xs i 0) ≡ qubit (at ls i)
+  argument-at [] ls i a h = absurd (omega arith)
+  argument-at (x ∷ xs) (l ∷ ls) zero (and p r) h = p
+  argument-at (x ∷ xs) (l ∷ ls) (suc i) (and p r) h = argument-at xs ls i r (omega arith)
+
+  pub arguments-length : {Γ : Env s} {xs : List ℕ} {ls : List (Place s)} → Arguments Γ xs ls → length xs ≤ length ls
+  arguments-length no-more = omega arith
+  arguments-length (and p r) = let h = arguments-length r in omega arith
+
+-- commands at a callee's places, these at a caller's
+pub at-at : {s t : Side} (σ : Place s → Place t) (ls : List (Place s)) (c : Commands parameter)
+    → commandsAt σ (commandsAt (λ p. at ls (p .no)) c) ≡ commandsAt (λ p. σ (at ls (p .no))) c
+at-at σ ls ε = refl
+at-at σ ls (alloc q l c) = ap (λ d. alloc q (σ (at ls (l .no))) d) (at-at σ ls c)
+at-at σ ls (release l c) = ap (λ d. release (σ (at ls (l .no))) d) (at-at σ ls c)
+at-at σ ls (connect o b l e k c) = ap (λ d. connect o b (σ (at ls (l .no))) e (σ (at ls (k .no))) d) (at-at σ ls c)
+at-at σ ls (either a b c) = λ i. either (at-at σ ls a i) (at-at σ ls b i) (at-at σ ls c i)
+at-at σ ls (repeat a c) = λ i. repeat (at-at σ ls a i) (at-at σ ls c i)
+
+-- the places of a body on entry: the arguments' are taken, the rest free
+pub entry-free : (m : ℕ) (bs : List Bool) (i : ℕ) → getD (replicate m false ++ bs) i false ≡ true → m ≤ i
+entry-free zero bs i h = omega arith
+entry-free (suc m) bs zero h = absurd (false≢true h)
+entry-free (suc m) bs (suc i) h = let k = entry-free m bs i h in omega arith
+
+pub length-entry : (m r : ℕ) → length (replicate m false ++ replicate r true) ≡ m + r
+length-entry m r = length-append (replicate m false) (replicate r true) ∙ rw (length-replicate m false, length-replicate r true)
+
+pub entry-taken : (m r i : ℕ) → i < m → getD (replicate m false ++ replicate r true) i false ≡ false
+entry-taken zero r i h = absurd (omega arith)
+entry-taken (suc m) r zero h = refl
+entry-taken (suc m) r (suc i) h = entry-taken m r i (omega arith)
+
+pub entry-rest : (m r i : ℕ) → m ≤ i → i < m + r → getD (replicate m false ++ replicate r true) i false ≡ true
+entry-rest zero zero i h k = absurd (omega arith)
+entry-rest zero (suc r) zero h k = refl
+entry-rest zero (suc r) (suc i) h k = entry-rest zero r i (omega arith) (omega arith)
+entry-rest (suc m) r zero h k = absurd (omega arith)
+entry-rest (suc m) r (suc i) h k = entry-rest m r i (omega arith) (omega arith)
+
+-- the slots of a body on entry: argument i in slot i at place i, the rest unbound
+module _ {s : Side} (B : Type 0) where
+  pub slot-none : (n x : ℕ) → slot (replicate {A = Slot s B} n unbound) x ≡ unbound
+  slot-none zero x = refl
+  slot-none (suc n) zero = refl
+  slot-none (suc n) (suc x) = slot-none n x
+
+  pub length-entered : (ls : List (Place s)) → length ls ≤ 32 → length (entered {B = B} ls) ≡ 32
+  length-entered ls h =
+      let n : length (map {A = Place s} {B = Slot s B} qubit ls) ≡ length ls = length-map ls qubit in
+      let r : length (replicate {A = Slot s B} (32 - length ls) unbound) ≡ 32 - length ls = length-replicate (32 - length ls) unbound in
+      length-append (map qubit ls) (replicate (32 - length ls) unbound) ∙ omega arith
+
+  entered-front : (ls : List (Place s)) (n x : ℕ) → x < length ls → slot (map {B = Slot s B} qubit ls ++ replicate n unbound) x ≡ qubit (at ls x)
+  entered-front [] n x h = absurd (omega arith)
+  entered-front (l ∷ ls) n zero h = refl
+  entered-front (l ∷ ls) n (suc x) h = entered-front ls n x (omega arith)
+
+  entered-back : (ls : List (Place s)) (n x : ℕ) → length ls ≤ x → slot (map {B = Slot s B} qubit ls ++ replicate n unbound) x ≡ unbound
+  entered-back [] n x h = slot-none n x
+  entered-back (l ∷ ls) n zero h = absurd (omega arith)
+  entered-back (l ∷ ls) n (suc x) h = entered-back ls n x (omega arith)
+
+  pub entered-at : (ls : List (Place s)) (x : ℕ) → x < length ls → slot (entered {B = B} ls) x ≡ qubit (at ls x)
+  entered-at ls x h = entered-front ls (32 - length ls) x h
+
+  pub entered-past : (ls : List (Place s)) (x : ℕ) → length ls ≤ x → slot (entered {B = B} ls) x ≡ unbound
+  entered-past ls x h = entered-back ls (32 - length ls) x h
+
+-- a typed function's slots on entry
+pub entry-at : (m x : ℕ) → x < m → slot (entered {B = Unit {0}} (upTo 0 m param)) x ≡ qubit (param x)
+entry-at m x h =
+    let n : length (upTo 0 m param) ≡ m = length-upTo 0 m param in
+    entered-at (Unit {0}) (upTo 0 m param) x (omega arith) ∙ ap (λ (p : Place parameter). qubit p) (getD-upTo-zero m x param _ h)
+
+pub entry-past : (m x : ℕ) → m ≤ x → slot (entered {B = Unit {0}} (upTo 0 m param)) x ≡ unbound
+entry-past m x h = let n : length (upTo 0 m param) ≡ m = length-upTo 0 m param in entered-past (Unit {0}) (upTo 0 m param) x (omega arith)
+
+pub entry-qubit : (m x : ℕ) (l : Place parameter) → slot (entered {B = Unit {0}} (upTo 0 m param)) x ≡ qubit l → (l ≡ param x) × (x < m)
+entry-qubit m x l h = go (decLt x m)
+  where
+    go : Dec (x < m) → (l ≡ param x) × (x < m)
+    go (yes d) = let e = entry-at m x d in let q : l ≡ param x = cc in (q, d)
+    go (no d) = let e = entry-past m x (omega arith) in let z : _≡_ {A = ℕ} 0 1 = cc in absurd (omega arith)
+
+number-apart : (k : ℕ) {X : Type 0} → eqb 0 (3 + k) ≡ true → X
+number-apart k h = let e : 0 ≡ 3 + k = eqb-true _ _ h in absurd (omega arith)
+
+-- the end of a block
+module _ {s : Side} where
+  -- a slot's kind after the closing, from its kind on entry and its kind at the last statement
+  abbrev pub narrow : Kind s → Kind s → Kind s
+  narrow v w = chosen (isClassical w && not (isClassical v)) unbound w
+
+  pub slot-narrowed : (vs ws : List (Kind s)) (x : ℕ) → x < 32 → slot (narrowed vs ws) x ≡ narrow (slot vs x) (slot ws x)
+  slot-narrowed vs ws x h = getD-upTo-zero 32 x (λ y. narrow (slot vs y) (slot ws y)) unbound h
+
+  pub length-narrowed : (vs ws : List (Kind s)) → length (narrowed vs ws) ≡ 32
+  length-narrowed vs ws = length-upTo 0 32 (λ y. narrow (slot vs y) (slot ws y))
+
+  pub narrow-qubit : (v w : Kind s) (l : Place s) → narrow v w ≡ qubit l → w ≡ qubit l
+  narrow-qubit unbound unbound l h = h
+  narrow-qubit (qubit k) unbound l h = h
+  narrow-qubit (bool a) unbound l h = h
+  narrow-qubit (ref a) unbound l h = h
+  narrow-qubit unbound (qubit j) l h = h
+  narrow-qubit (qubit k) (qubit j) l h = h
+  narrow-qubit (bool a) (qubit j) l h = h
+  narrow-qubit (ref a) (qubit j) l h = h
+  narrow-qubit unbound (bool b) l h = cc
+  narrow-qubit (qubit k) (bool b) l h = cc
+  narrow-qubit (bool a) (bool b) l h = h
+  narrow-qubit (ref a) (bool b) l h = h
+  narrow-qubit unbound (ref b) l h = cc
+  narrow-qubit (qubit k) (ref b) l h = cc
+  narrow-qubit (bool a) (ref b) l h = h
+  narrow-qubit (ref a) (ref b) l h = h
+
+  -- a qubit after the closing was there before it
+  pub narrowed-qubit : (vs ws : List (Kind s)) (x : ℕ) (l : Place s) → slot (narrowed vs ws) x ≡ qubit l → slot ws x ≡ qubit l
+  narrowed-qubit vs ws x l h =
+      let r : x < 32 = subst (λ (n : ℕ). x < n) (length-narrowed vs ws) (qubit-in-range (narrowed vs ws) x l h) in
+      narrow-qubit (slot vs x) (slot ws x) l (sym (slot-narrowed vs ws x r) ∙ h)
+
+  -- and one before it is there after it
+  pub narrowed-keeps : (vs ws : List (Kind s)) (x : ℕ) (l : Place s) → x < 32 → slot ws x ≡ qubit l → slot (narrowed vs ws) x ≡ qubit l
+  narrowed-keeps vs ws x l r h = slot-narrowed vs ws x r ∙ ap (λ (w : Kind s). narrow (slot vs x) w) h
+
+  -- the numbers of kinds tell them apart
+  pub kind-sound : (v w : Kind s) → sameKind v w ≡ true → v ≡ w
+  kind-sound v w h = go v w (eqb-true (kindNumber v) (kindNumber w) h)
+    where
+      go : (v w : Kind s) → kindNumber v ≡ kindNumber w → v ≡ w
+      go unbound unbound e = refl
+      go unbound (qubit l) e = absurd (omega arith)
+      go unbound (bool b) e = absurd (omega arith)
+      go unbound (ref b) e = absurd (omega arith)
+      go (qubit k) unbound e = absurd (omega arith)
+      go (qubit k) (qubit l) e = ap (λ (p : Place s). qubit p) (place-path k l (omega arith))
+      go (qubit k) (bool b) e = absurd (omega arith)
+      go (qubit k) (ref b) e = absurd (omega arith)
+      go (bool a) unbound e = absurd (omega arith)
+      go (bool a) (qubit l) e = absurd (omega arith)
+      go (bool a) (bool b) e = refl
+      go (bool a) (ref b) e = absurd (omega arith)
+      go (ref a) unbound e = absurd (omega arith)
+      go (ref a) (qubit l) e = absurd (omega arith)
+      go (ref a) (bool b) e = absurd (omega arith)
+      go (ref a) (ref b) e = refl
+
+  pub kind-refl : (v : Kind s) → sameKind v v ≡ true
+  kind-refl v = eqb-same (kindNumber v)
+
+  -- what the test at a block's end says of one slot
+  pub all-stay-at : (vs ws : List (Kind s)) (x : ℕ) → allStay vs ws ≡ true → x < 32 → (holdsNoQubit (slot ws x) || sameKind (slot vs x) (slot ws x)) ≡ true
+  all-stay-at vs ws x h r = T→eq _ (all-upTo (λ y. holdsNoQubit (slot ws y) || sameKind (slot vs y) (slot ws y)) 0 32 (eq→T _ h) x (omega arith) (omega arith))
+
+  stay-qubit : (v w : Kind s) (l : Place s) → (holdsNoQubit w || sameKind v w) ≡ true → w ≡ qubit l → v ≡ qubit l
+  stay-qubit v w l h e = kind-sound v (qubit l) (rw e at h)
+
+  -- a qubit at a block's end was there, in the same slot, on entry
+  pub stays-qubit : (vs ws : List (Kind s)) (x : ℕ) (l : Place s) → allStay vs ws ≡ true → x < 32 → slot ws x ≡ qubit l → slot vs x ≡ qubit l
+  stays-qubit vs ws x l h r e = stay-qubit (slot vs x) (slot ws x) l (all-stay-at vs ws x h r) e
+
+  -- One slot over a whole block: it ends as on entry, or it held a qubit and ends unbound, if the statements left alone what was classical.
+  pub narrow-cases : (v w : Kind s) → (holdsNoQubit w || sameKind v w) ≡ true → (isClassical v ≡ true → w ≡ v) → (narrow v w ≡ v) ⊎ ((l : Place s) × (v ≡ qubit l) × (narrow v w ≡ unbound))
+  narrow-cases unbound unbound h c = inl refl
+  narrow-cases unbound (qubit l) h c = absurd (number-apart (l .no) h)
+  narrow-cases unbound (bool b) h c = inl refl
+  narrow-cases unbound (ref b) h c = inl refl
+  narrow-cases (qubit k) unbound h c = inr (k, refl, refl)
+  narrow-cases (qubit k) (qubit l) h c = inl (sym (kind-sound (qubit k) (qubit l) h))
+  narrow-cases (qubit k) (bool b) h c = inr (k, refl, refl)
+  narrow-cases (qubit k) (ref b) h c = inr (k, refl, refl)
+  narrow-cases (bool a) w h c = let e : w ≡ bool a = c refl in rw e (inl refl)
+  narrow-cases (ref a) w h c = let e : w ≡ ref a = c refl in rw e (inl refl)

@@ -14,3 +14,6 @@ pub mod NeverStuck
 pub mod Places
 pub mod Linear
 pub mod ExactTyping
+pub mod WalkDecides
+pub mod ExactCheck
+pub mod Accepted

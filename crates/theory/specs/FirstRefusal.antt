@@ -170,12 +170,12 @@ CloseOrder = (s : Side) (C : Context s) (Γ : Env s) (o : ℕ) (ts : trees.State
 abbrev pub IfOrder : Type 0
 IfOrder = (s : Side) (C : Context s) (Γ : Env s) (o y : ℕ) (b c : Block s)
     → refusalOf (typeStatement C Γ (trees.if o y b c))
-      ≡ (firstOf (test (isBool (kinds C Γ) o (Γ .slots) (slot (Γ .slots) y)) 11 o ∷ []) >> (typeBlock C Γ b >>= λ d. typeBlock C Γ c >>= λ e. firstOf (test (sameEnv (d .env) (e .env)) 18 o ∷ [])))
+    ≡ (firstOf (test (isBool (kinds C Γ) o (Γ .slots) (slot (Γ .slots) y)) 11 o ∷ []) >> (typeBlock C Γ b >>= λ d. typeBlock C Γ c >>= λ e. firstOf (test (sameEnv (d .env) (e .env)) 18 o ∷ [])))
 
 abbrev pub WhileOrder : Type 0
 WhileOrder = (s : Side) (C : Context s) (Γ : Env s) (o r : ℕ) (b : Block s)
     → refusalOf (typeStatement C Γ (trees.while o r b))
-      ≡ (firstOf (test (isRef (kinds C Γ) o (Γ .slots) (slot (Γ .slots) r)) 11 o ∷ []) >> (typeBlock C Γ b >>= λ d. firstOf (test (sameEnv (d .env) Γ) 19 o ∷ [])))
+    ≡ (firstOf (test (isRef (kinds C Γ) o (Γ .slots) (slot (Γ .slots) r)) 11 o ∷ []) >> (typeBlock C Γ b >>= λ d. firstOf (test (sameEnv (d .env) Γ) 19 o ∷ [])))
 
 -- The calls, stage by stage. A stage that needs what earlier ones gave says nothing where they refused.
 unfoldable pub given : {A : Type 0} → Check A → (A → Check (Unit {0})) → Check (Unit {0})

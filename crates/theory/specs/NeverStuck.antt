@@ -7,7 +7,7 @@ use Prim.Native.Nat.{ℕ}
 use lib.Dec.{leb}
 use Rattle.answers.specs.Check.{ok}
 use Rattle.rules.specs.Basics.{all}
-use Rattle.rules.specs.Device.{Device, readDevice}
+use Rattle.rules.specs.Device.{Device}
 use Rattle.rules.specs.Region.{regionOf}
 use Rattle.rules.specs.Syntax.{Program}
 use Rattle.rules.specs.Program.{readProgram}
@@ -16,5 +16,5 @@ use Rattle.rules.specs.Promises.{judged}
 use Rattle.theory.specs.Interleaving.{recordsOf}
 
 abbrev pub NeverStuck : Type 0
-NeverStuck = (deviceFile programFile : List ℕ) (D : Device) (programs : ℕ → Program) (j n : ℕ) → readDevice deviceFile ≡ ok D → readProgram programFile ≡ ok (programs j)
+NeverStuck = (programFile : List ℕ) (D : Device) (programs : ℕ → Program) (j n : ℕ) → readProgram programFile ≡ ok (programs j)
     → judged (regionOf D j) (programs j) ≡ ok n → (ts : List Turn) → all (λ r. leb (r .told .code) 1) (recordsOf j (records D programs ts (started D programs))) ≡ true

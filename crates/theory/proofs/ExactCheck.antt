@@ -1,0 +1,86 @@
+-- The check accepts exactly what T-Prog derives: typing is exact, and for a typed program the walk decides Figure 12, so each test of the check
+-- passes exactly when the rules have their premise.
+use mathlib.Core.Bool.{Bool, true, false, _||_, false≢true}
+use mathlib.Core.Logic.{_⊎_, inl, inr, ⊎-elim}
+use mathlib.Core.List.{List}
+use mathlib.Core.Path.{_≡_, refl, sym, ap, subst, _∙_}
+use Prim.Native.Nat.{ℕ, _≤_}
+use lib.Dec.{eqb, leb, leb→le, le→leb}
+use lib.ListN.{length}
+use Rattle.answers.specs.Check.{Check, ok, _>>=_, _>>_, need, within}
+use Rattle.answers.specs.declared.File.the-variants.{Device, Program}
+use Rattle.answers.proofs.Laws.{Holds, not-ok, by, holds-bind, holds-then, holds-need, holds-any, holds-map, holds-within, holds-at}
+use Rattle.rules.specs.Device.{readDevice}
+use Rattle.rules.specs.Region.{Region, regionOf}
+use Rattle.rules.specs.Syntax as trees
+use Rattle.rules.specs.Program.{readProgram}
+use Rattle.rules.specs.Commands.{Commands, sizeOf, walk}
+use Rattle.rules.specs.Typing.{Typed, typeProgram}
+use Rattle.rules.specs.Figures.{ProgramRule}
+use Rattle.rules.specs.Promises.{judged, checkOf}
+use Rattle.theory.specs.WellRead.{ProgramRead}
+use Rattle.theory.specs.Exact.{Accepts, ExactCheck, Derives}
+use Rattle.theory.proofs.Base.{T→eq, eq→T, eqb-true, eqb-same}
+use Rattle.theory.proofs.WellRead.{well-read}
+use Rattle.theory.proofs.ExactTyping.{exact-typing}
+use Rattle.theory.proofs.WalkDecides.{walk-decides}
+
+-- what a program that was judged and accepted has
+pub record Judged (R : Region) (p : trees.Program) (n : ℕ) : Type 0 where
+  pub commands : Commands trees.device
+  pub derived : ProgramRule R p commands
+  pub count : sizeOf commands ≡ n
+  pub small : n ≤ 65535
+
+pub judged-sound : (R : Region) (size : ℕ) (p : trees.Program) → ProgramRead size p → Holds (Judged R p) (judged R p)
+judged-sound R size p read =
+    holds-bind (holds-any (typeProgram (R .owned) p)) λ t e.
+    holds-then (holds-need (leb (sizeOf (t .commands)) 65535) 20 0) λ _ s.
+    holds-then (holds-any (walk R (R .owned) (t .commands))) λ L w.
+    by (accepted t L (exact-typing (R .owned) size p t read .0 e) s w)
+  where
+    accepted : (t : Typed trees.device) (L : List Bool) → Derives (R .owned) p t → leb (sizeOf (t .commands)) 65535 ≡ true → walk R (R .owned) (t .commands) ≡ ok L
+        → Judged R p (sizeOf (t .commands))
+    accepted t L d s w = record {
+      commands = t .commands;
+      derived = record { signatures = d .signatures; functions = d .functions; ends = t .env; main = d .main; left = L; connects = walk-decides R size p t L read d .0 w };
+      count = refl;
+      small = leb→le (sizeOf (t .commands)) 65535 (eq→T _ s);
+    }
+
+judged-complete : (R : Region) (size n : ℕ) (p : trees.Program) (c : Commands trees.device) → ProgramRead size p → ProgramRule R p c → sizeOf c ≡ n → n ≤ 65535 → judged R p ≡ ok n
+unfolding _>>=_ _>>_
+judged-complete R size n p c read rule count small =
+    let t : Typed trees.device = record { env = rule .ends; commands = c } in
+    let d : Derives (R .owned) p t = record { signatures = rule .signatures; functions = rule .functions; main = rule .main } in
+    let typed : typeProgram (R .owned) p ≡ ok t = exact-typing (R .owned) size p t read .1 d in
+    let walked : walk R (R .owned) c ≡ ok (rule .left) = walk-decides R size p t (rule .left) read d .1 (rule .connects) in
+    let fits : leb (sizeOf c) 65535 ≡ true = rw count (T→eq _ (le→leb n 65535 small)) in
+    rw (typed, fits, walked, count)
+
+is-job : (job : ℕ) → (eqb job 1 || eqb job 2) ≡ true → (job ≡ 1) ⊎ (job ≡ 2)
+is-job job h = go (eqb job 1) refl h
+  where
+    go : (b : Bool) → eqb job 1 ≡ b → (b || eqb job 2) ≡ true → (job ≡ 1) ⊎ (job ≡ 2)
+    go true e k = inl (eqb-true job 1 e)
+    go false e k = inr (eqb-true job 2 k)
+
+a-job : (job : ℕ) → (job ≡ 1) ⊎ (job ≡ 2) → (eqb job 1 || eqb job 2) ≡ true
+a-job job (inl e) = subst (λ (j : ℕ). (eqb j 1 || eqb j 2) ≡ true) (sym e) refl
+a-job job (inr e) = subst (λ (j : ℕ). (eqb j 1 || eqb j 2) ≡ true) (sym e) refl
+
+check-sound : (d p : List ℕ) (job : ℕ) → Holds (Accepts d p job) (checkOf d p job)
+check-sound d p job =
+    holds-then (holds-need (eqb job 1 || eqb job 2) 25 0) λ _ j.
+    holds-bind (holds-within Device (holds-any (readDevice d))) λ D e.
+    holds-bind (holds-within (Program job) (holds-any (readProgram p))) λ q f.
+    holds-within (Program job) (holds-map (λ n a. record { a-job = is-job job j; the-device = D; the-program = q; device-reads = e; program-reads = f; commands = a .commands; derived = a .derived; count = a .count; small = a .small })
+    (judged-sound (regionOf D job) (length p) q (well-read p q f)))
+
+check-complete : (d p : List ℕ) (job n : ℕ) → Accepts d p job n → checkOf d p job ≡ ok n
+unfolding _>>=_ _>>_
+check-complete d p job n a =
+    rw (a-job job (a .a-job), a .device-reads, a .program-reads, judged-complete (regionOf (a .the-device) job) (length p) n (a .the-program) (a .commands) (well-read p (a .the-program) (a .program-reads)) (a .derived) (a .count) (a .small))
+
+pub exact-check : ExactCheck
+exact-check d p job n = ((λ e. holds-at (check-sound d p job) e), check-complete d p job n)

@@ -25,7 +25,7 @@ beginWithZero (a ∷ b ∷ c ∷ d ∷ rest) = chosen (eqb a 0) 1 0 + beginWithZ
 abbrev pub MovedCount : Type 0
 MovedCount = (j : ℕ) (rs : List Told) → movedBy j rs ≡ beginWithZero (recordBytes (recordsOf j rs))
 
--- one for each alloc, free and merge, one more for each if and each while, a call adding its callee's size
+-- one for each alloc, free and merge, one more for each if and each while, a call adding its callee's size, which φ gives
 abbrev pub opSize : {s : Side} → Op s → ℕ
 opSize (init q x l) = 1
 opSize (free x) = 1
@@ -38,24 +38,28 @@ opSize (setRef r y) = 0
 opSize (constant y v) = 0
 
 abbrev mutual
-  pub statementSize : {s : Side} → List Signature → Statement s → ℕ
-  statementSize gs (op o a) = opSize a
-  statementSize gs (if o y b c) = 1 + blockSize gs b + blockSize gs c
-  statementSize gs (while o r b) = 1 + blockSize gs b
-  statementSize gs (call o f ls xs) = sizeOf (signature gs f .commands)
+  pub statementSize : {s : Side} → (ℕ → ℕ) → Statement s → ℕ
+  statementSize φ (op o a) = opSize a
+  statementSize φ (if o y b c) = 1 + blockSize φ b + blockSize φ c
+  statementSize φ (while o r b) = 1 + blockSize φ b
+  statementSize φ (call o f ls xs) = φ f
 
-  pub statementsSize : {s : Side} → List Signature → Statements s → ℕ
-  statementsSize gs done = 0
-  statementsSize gs (t ⨾ ts) = statementSize gs t + statementsSize gs ts
+  pub statementsSize : {s : Side} → (ℕ → ℕ) → Statements s → ℕ
+  statementsSize φ done = 0
+  statementsSize φ (t ⨾ ts) = statementSize φ t + statementsSize φ ts
 
-  pub blockSize : {s : Side} → List Signature → Block s → ℕ
-  blockSize gs (block o ts) = statementsSize gs ts
+  pub blockSize : {s : Side} → (ℕ → ℕ) → Block s → ℕ
+  blockSize φ (block o ts) = statementsSize φ ts
+
+-- the sizes of the functions of a list of signatures
+abbrev pub callees : List Signature → ℕ → ℕ
+callees gs f = sizeOf (signature gs f .commands)
 
 -- the size of a typed block's commands is the sum over its statements
 abbrev pub BlockSize : Type 0
-BlockSize = (s : Side) (C : Context s) (Γ Δ : Env s) (b : Block s) (c : Commands s) → BlockRule C Γ b Δ c → sizeOf c ≡ blockSize (C .functions) b
+BlockSize = (s : Side) (C : Context s) (Γ Δ : Env s) (b : Block s) (c : Commands s) → BlockRule C Γ b Δ c → sizeOf c ≡ blockSize (callees (C .functions)) b
 
 -- and a callee's is that of its body
 abbrev pub CalleeSize : Type 0
 CalleeSize = (fs : List Function) (o q : ℕ) (gs : List Signature) (f : ℕ) → FunctionsRead [] o fs q → FunctionsRule fs [] gs → f < length fs
-    → sizeOf (signature gs f .commands) ≡ blockSize gs (function fs f .body)
+    → callees gs f ≡ blockSize (callees gs) (function fs f .body)

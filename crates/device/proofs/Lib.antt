@@ -1,0 +1,5 @@
+pub mod DeviceLaws
+pub mod EdgeLaws
+pub mod HeaderLaws
+pub mod OwnerLaws
+pub mod RegionLaws

@@ -9,18 +9,18 @@ use native.Mathlib.Nat.{add-zero, add-suc, suc-add, zero-add}
 use native.Mathlib.Omega.{arith}
 use Prim.Native.Nat.{ℕ, zero, suc, _+_, _<_}
 use lib.Dec.{eqb}
-use lib.ListN.{length}
+use lib.ListN.{length, length-append}
 use Rattle.rules.specs.Basics.{chosen}
 use Rattle.rules.specs.Syntax.{Side, Place, Op, Statement, op, if, while, call, Statements, done, _⨾_, Block, block, Function, function}
 use Rattle.rules.specs.Commands.{Commands, ε, alloc, release, connect, either, repeat, _then_, commandsAt, sizeOf}
 use Rattle.rules.specs.Typing.{Env, Signature, Context, signature, bodyContext, signatureOf}
 use Rattle.rules.specs.Figures.{OpRule, T-Init, T-MInit, T-Free, T-Gate, T-Meas1, T-Meas2, T-MkRef, T-Deref, T-Assign, T-Bool, StatementRule, T-Op, T-If, T-While, T-Call, StatementsRule, T-Unit, T-Seq, BlockRule, T-Close, FunctionsRule, T-NoFun, T-Fundecl}
 use Rattle.rules.specs.Program.{Scope}
-use Rattle.rules.specs.Run.{Told, recordBytes, movedBy}
+use Rattle.rules.specs.Run.{recordBytes, movedBy}
 use Rattle.theory.specs.WellRead.{StatementRead, op-read, if-read, while-read, call-read, StatementsRead, done-read, next-read, BlockRead, block-read, FunctionsRead, none-read, function-read}
 use Rattle.theory.specs.Interleaving.{recordsOf}
 use Rattle.theory.specs.Counts.{beginWithZero, MovedCount, opSize, statementSize, statementsSize, blockSize, BlockSize, CalleeSize, callees}
-use Rattle.theory.proofs.Base.{eqb-same, eqb-other}
+use Rattle.theory.proofs.Places.{signature-newest, signature-older}
 
 pub moved-count : MovedCount
 moved-count j [] = refl
@@ -99,21 +99,10 @@ mutual
       → blockSize (callees gs) b ≡ blockSize (callees hs) b
   block-same S gs hs e (block o ts) (block-read r) = statements-same S gs hs e ts r
 
--- the newest signature stands for the highest number, the others for what they stood for
-signature-newest : (g : Signature) (gs : List Signature) → signature (g ∷ gs) (length gs) ≡ g
-signature-newest g gs = rw (eqb-same (length gs))
-
-signature-older : (g : Signature) (gs : List Signature) (f : ℕ) → f < length gs → signature (g ∷ gs) f ≡ signature gs f
-signature-older g gs f h = rw (eqb-other f (length gs) (λ e. absurd (omega (arith, e, h))))
-
--- so functions typed later change no earlier one
+-- functions typed later change no earlier one
 signature-kept : (fs : List Function) {gs hs : List Signature} → FunctionsRule fs gs hs → SameBelow (length gs) gs hs
 signature-kept [] T-NoFun f h = refl
 signature-kept (g ∷ fs) (T-Fundecl {gs = gs} {d = d} r rs) f h = sym (signature-older (signatureOf g d) gs f h) ∙ signature-kept fs rs f (omega (arith, h))
-
-length-snoc : {A : Type 0} (l : List A) (a : A) → length (l ++ (a ∷ [])) ≡ suc (length l)
-length-snoc [] a = refl
-length-snoc (b ∷ l) a = ap suc (length-snoc l a)
 
 -- with as many signatures as functions before them, function f of those that follow has number `length gs + f`
 callee-from : (fs es : List Function) {o q : ℕ} {gs hs : List Signature} → length es ≡ length gs → FunctionsRead es o fs q → FunctionsRule fs gs hs → (f : ℕ) → f < length fs
@@ -124,13 +113,13 @@ callee-from (g ∷ fs) es e (function-read k m n b r) (T-Fundecl {gs = gs} {hs =
     ∙ block-sum (bodyContext gs g) (g .body) t ∙ block-same _ gs hs kept (g .body) b
   where
     own : signature hs (length gs) ≡ signatureOf g d
-    own = sym (signature-kept fs ts (length gs) (omega arith)) ∙ signature-newest (signatureOf g d) gs
+    own = sym (signature-kept fs ts (length gs) (omega arith)) ∙ signature-newest (signatureOf g d) gs (length gs) refl
 
     kept : SameBelow (length es) gs hs
     kept f l = signature-kept (g ∷ fs) (T-Fundecl t ts) f (omega (arith, e, l))
 callee-from (g ∷ fs) es e (function-read k m n b r) (T-Fundecl {gs = gs} {hs = hs} {d = d} t ts) (suc f) h =
     ap (λ (i : ℕ). sizeOf (signature hs i .commands)) (add-suc (length gs) f ∙ sym (suc-add (length gs) f))
-    ∙ callee-from fs (es ++ (g ∷ [])) (length-snoc es g ∙ ap suc e) r ts f (omega (arith, h))
+    ∙ callee-from fs (es ++ (g ∷ [])) (omega (arith, length-append es (g ∷ []), e)) r ts f (omega (arith, h))
 
 pub callee-size : CalleeSize
 callee-size fs o q gs f r t h = ap (λ (i : ℕ). sizeOf (signature gs i .commands)) (sym (zero-add f)) ∙ callee-from fs [] refl r t f h

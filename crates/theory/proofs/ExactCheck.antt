@@ -1,15 +1,15 @@
 -- The check accepts exactly what T-Prog derives: typing is exact, and for a typed program the walk decides Figure 12, so each test of the check
 -- passes exactly when the rules have their premise.
-use mathlib.Core.Bool.{Bool, true, false, _||_, false≢true}
-use mathlib.Core.Logic.{_⊎_, inl, inr, ⊎-elim}
+use mathlib.Core.Bool.{Bool, true, false, _||_}
+use mathlib.Core.Logic.{_⊎_, inl, inr}
 use mathlib.Core.List.{List}
-use mathlib.Core.Path.{_≡_, refl, sym, ap, subst, _∙_}
+use mathlib.Core.Path.{_≡_, refl}
 use Prim.Native.Nat.{ℕ, _≤_}
-use lib.Dec.{eqb, leb, leb→le, le→leb}
+use lib.Dec.{eqb, leb, le→leb}
 use lib.ListN.{length}
-use Rattle.answers.specs.Check.{Check, ok, _>>=_, _>>_, need, within}
+use Rattle.answers.specs.Check.{ok, _>>=_, _>>_}
 use Rattle.answers.specs.declared.File.the-variants.{Device, Program}
-use Rattle.answers.proofs.Laws.{Holds, not-ok, by, holds-bind, holds-then, holds-need, holds-any, holds-map, holds-within, holds-at}
+use Rattle.answers.proofs.Laws.{Holds, by, holds-bind, holds-then, holds-need, holds-any, holds-map, holds-within, holds-at}
 use Rattle.rules.specs.Device.{readDevice}
 use Rattle.rules.specs.Region.{Region, regionOf}
 use Rattle.rules.specs.Syntax as trees
@@ -20,7 +20,7 @@ use Rattle.rules.specs.Figures.{ProgramRule}
 use Rattle.rules.specs.Promises.{judged, checkOf}
 use Rattle.theory.specs.WellRead.{ProgramRead}
 use Rattle.theory.specs.Exact.{Accepts, ExactCheck, Derives}
-use Rattle.theory.proofs.Base.{T→eq, eq→T, eqb-true, eqb-same}
+use Rattle.theory.proofs.Base.{T→eq, eqb-true, at-most}
 use Rattle.theory.proofs.WellRead.{well-read}
 use Rattle.theory.proofs.ExactTyping.{exact-typing}
 use Rattle.theory.proofs.WalkDecides.{walk-decides}
@@ -45,7 +45,7 @@ judged-sound R size p read =
       commands = t .commands;
       derived = record { signatures = d .signatures; functions = d .functions; ends = t .env; main = d .main; left = L; connects = walk-decides R size p t L read d .0 w };
       count = refl;
-      small = leb→le (sizeOf (t .commands)) 65535 (eq→T _ s);
+      small = at-most (sizeOf (t .commands)) 65535 s;
     }
 
 judged-complete : (R : Region) (size n : ℕ) (p : trees.Program) (c : Commands trees.device) → ProgramRead size p → ProgramRule R p c → sizeOf c ≡ n → n ≤ 65535 → judged R p ≡ ok n
@@ -66,8 +66,8 @@ is-job job h = go (eqb job 1) refl h
     go false e k = inr (eqb-true job 2 k)
 
 a-job : (job : ℕ) → (job ≡ 1) ⊎ (job ≡ 2) → (eqb job 1 || eqb job 2) ≡ true
-a-job job (inl e) = subst (λ (j : ℕ). (eqb j 1 || eqb j 2) ≡ true) (sym e) refl
-a-job job (inr e) = subst (λ (j : ℕ). (eqb j 1 || eqb j 2) ≡ true) (sym e) refl
+a-job job (inl e) = rw e
+a-job job (inr e) = rw e
 
 check-sound : (d p : List ℕ) (job : ℕ) → Holds (Accepts d p job) (checkOf d p job)
 check-sound d p job =

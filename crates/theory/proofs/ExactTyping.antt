@@ -3,7 +3,7 @@
 -- typed environment is linear and a callee ends as a linear body ends. And a typed block leaves a bool or a reference alone (rules bind unbound slots,
 -- free and call qubits), while its end forgets what was bound since and keeps only the qubits that were there.
 use mathlib.Core.Bool.{Bool, true, false, not, _&&_, Bool·beq, false≢true}
-use mathlib.Core.List.{List, [], _∷_, map}
+use mathlib.Core.List.{List, [], _∷_}
 use mathlib.Core.Logic.{_≢_, _⊎_, inl, inr, ⊎-elim}
 use mathlib.Core.Path.{_≡_, refl, sym, ap, subst, _∙_}
 use native.Mathlib.Omega.{arith}
@@ -16,22 +16,22 @@ use Rattle.answers.proofs.Laws.{Holds, not-ok, by, holds-bind, holds-then, hold
 use Rattle.rules.specs.Basics.{all, sameList, upTo, distinct}
 use Rattle.rules.specs.Syntax.{Side, device, Place, at, plain, magic, Op, init, free, gate, measure, merge, newRef, getRef, setRef, constant, Statement, op, if, while, call, Statements, done, _⨾_, Block, block, Function, Program}
 use Rattle.rules.specs.Program.{Scope}
-use Rattle.rules.specs.Slots.{unbound, qubit, bool, ref, slot, needQubit, needBool, needRef, isUnbound, isClassical, Done, perform, argumentsAt, callable}
+use Rattle.rules.specs.Slots.{unbound, qubit, bool, ref, slot, needBool, needRef, isUnbound, isClassical, Done, perform, argumentsAt, callable}
 use Rattle.rules.specs.Commands.{Commands, commandsAt}
 use Rattle.rules.specs.Typing.{Kind, Env, Typed, Signature, Context, signature, kinds, afterAct, command, sameKind, allStay, sameEnv, typeStatement, typeStatements, typeBlock, entry, bodyContext, signatureOf, typeFunctions, mainContext, start, typeProgram}
 use Rattle.rules.specs.Figures.{kindAt, OpRule, T-Init, T-MInit, T-Free, T-Gate, T-Meas1, T-Meas2, T-MkRef, T-Deref, T-Assign, T-Bool, Arguments, no-more, and, Callable, StatementRule, T-Op, T-If, T-While, T-Call, StatementsRule, T-Unit, T-Seq, BlockRule, T-Close, FunctionsRule, T-NoFun, T-Fundecl}
 use Rattle.theory.specs.WellRead.{CallRead, StatementRead, if-read, while-read, call-read, StatementsRead, next-read, BlockRead, block-read, FunctionsRead, none-read, function-read, ProgramRead}
 use Rattle.theory.specs.Exact.{Derives, ExactTyping, EndsAlike}
-use Rattle.theory.proofs.Base.{eqb-true, eqb-same, eqb-other, and-left, and-right, getD-set-cases}
-use Rattle.theory.proofs.Places.{place-path, stored-other, argument-at, kind-sound, kind-refl, slot-narrowed, all-stay-at, narrow-cases}
-use Rattle.theory.proofs.Linear.{Linear, AllEnd, ends-at, linear-statement, linear-entry, linear-start, function-ends, functions-end, Matches, no-match, more-match, functions-match, callable-agrees}
+use Rattle.theory.proofs.Base.{eqb-true, eqb-same, eqb-other, eqb-false, and-left, and-right, getD-set-cases}
+use Rattle.theory.proofs.Places.{stored-other, place-path, numbers, qubit-held, argument-at, all-of-at, kind-sound, kind-refl, slot-narrowed, all-stay-at, narrow-cases}
+use Rattle.theory.proofs.Linear.{Linear, Ends, AllEnd, linear-statement, linear-entry, linear-start, function-ends, functions-end, Matches, no-match, more-match, functions-match, callable-agrees}
 
 differ-sound : (x z o : ℕ) → Holds (λ u. x ≢ z) (need (not (eqb x z)) 15 o)
 differ-sound x z o = go (eqb x z) refl
   where
     go : (b : Bool) → eqb x z ≡ b → Holds (λ u. x ≢ z) (need (not b) 15 o)
     go true e = not-ok
-    go false e = by (λ h. false≢true (sym e ∙ ap (λ w. eqb w z) h ∙ eqb-same z))
+    go false e = by (eqb-false x z e)
 
 -- one operation
 module _ {s : Side} where
@@ -40,12 +40,6 @@ module _ {s : Side} where
   unbound-sound (qubit l) o = not-ok
   unbound-sound (bool b) o = not-ok
   unbound-sound (ref b) o = not-ok
-
-  qubit-sound : (v : Kind s) (o : ℕ) → Holds (λ l. v ≡ qubit l) (needQubit v o)
-  qubit-sound unbound o = not-ok
-  qubit-sound (qubit l) o = by refl
-  qubit-sound (bool b) o = not-ok
-  qubit-sound (ref b) o = not-ok
 
   bool-sound : (v : Kind s) (o : ℕ) → Holds (λ b. v ≡ bool tt) (needBool v o)
   bool-sound unbound o = not-ok
@@ -67,11 +61,11 @@ module _ {s : Side} where
       holds-then (unbound-sound (slot (Γ .slots) x) o) λ _ p. holds-then (holds-need (C .inside l) 13 o) λ _ q. holds-then (holds-need (getD (Γ .free) (l .no) false) 14 o) λ _ r. by (T-Init p q r)
   op-sound C Γ o (init magic x l) =
       holds-then (unbound-sound (slot (Γ .slots) x) o) λ _ p. holds-then (holds-need (C .inside l) 13 o) λ _ q. holds-then (holds-need (getD (Γ .free) (l .no) false) 14 o) λ _ r. by (T-MInit p q r)
-  op-sound C Γ o (free x) = holds-bind (qubit-sound (slot (Γ .slots) x) o) λ l p. by (T-Free p)
-  op-sound C Γ o (gate g x) = holds-bind (qubit-sound (slot (Γ .slots) x) o) λ l p. by (T-Gate p)
-  op-sound C Γ o (measure y b x) = holds-then (unbound-sound (slot (Γ .slots) y) o) λ _ p. holds-bind (qubit-sound (slot (Γ .slots) x) o) λ l q. by (T-Meas1 p q)
+  op-sound C Γ o (free x) = holds-bind (qubit-held (slot (Γ .slots) x) o) λ l p. by (T-Free p)
+  op-sound C Γ o (gate g x) = holds-bind (qubit-held (slot (Γ .slots) x) o) λ l p. by (T-Gate p)
+  op-sound C Γ o (measure y b x) = holds-then (unbound-sound (slot (Γ .slots) y) o) λ _ p. holds-bind (qubit-held (slot (Γ .slots) x) o) λ l q. by (T-Meas1 p q)
   op-sound C Γ o (merge y b x c z) =
-      holds-then (unbound-sound (slot (Γ .slots) y) o) λ _ p. holds-bind (qubit-sound (slot (Γ .slots) x) o) λ l q. holds-bind (qubit-sound (slot (Γ .slots) z) o) λ k r.
+      holds-then (unbound-sound (slot (Γ .slots) y) o) λ _ p. holds-bind (qubit-held (slot (Γ .slots) x) o) λ l q. holds-bind (qubit-held (slot (Γ .slots) z) o) λ k r.
       holds-then (differ-sound x z o) λ _ n. by (T-Meas2 p q r n)
   op-sound C Γ o (newRef r y) = holds-then (unbound-sound (slot (Γ .slots) r) o) λ _ p. holds-bind (bool-sound (slot (Γ .slots) y) o) λ b q. by (T-MkRef p q)
   op-sound C Γ o (getRef y r) = holds-then (unbound-sound (slot (Γ .slots) y) o) λ _ p. holds-bind (ref-sound (slot (Γ .slots) r) o) λ b q. by (T-Deref p q)
@@ -132,7 +126,7 @@ module _ {s : Side} (C : Context s) (Γ : Env s) where
   arguments-sound [] ls o h = by no-more
   arguments-sound (x ∷ xs) [] o h = absurd (omega arith)
   arguments-sound (x ∷ xs) (l ∷ ls) o h =
-      holds-bind (qubit-sound (slot (Γ .slots) x) o) λ k p. holds-then (holds-need (eqb (k .no) (l .no)) 16 o) λ _ q.
+      holds-bind (qubit-held (slot (Γ .slots) x) o) λ k p. holds-then (holds-need (eqb (k .no) (l .no)) 16 o) λ _ q.
       holds-map (λ _ r. and (p ∙ ap (λ (t : Place s). qubit t) (place-path k l (eqb-true (k .no) (l .no) q))) r) (arguments-sound xs ls o (omega arith))
 
   arguments-complete : {xs : List ℕ} {ls : List (Place s)} (o : ℕ) → Arguments Γ xs ls → argumentsAt (kinds C Γ) o (Γ .slots) xs ls ≡ ok tt
@@ -146,15 +140,15 @@ module _ {s : Side} (C : Context s) (Γ : Env s) where
       let e : f < length (C .functions) = subst (λ (n : ℕ). f < n) (sym (M .count)) (R .earlier) in
       let k : length ls ≡ signature (C .functions) f .k = R .locations ∙ sym (M .same-k f (R .earlier)) in
       let m : length xs ≡ signature (C .functions) f .m = R .slots ∙ sym (M .same-m f (R .earlier)) in
-      let few : length xs ≤ length ls = omega (arith, ends-at (C .functions) f H e .arity) in
-      holds-then (holds-need (all (C .inside) ls) 13 o) λ _ p. holds-then (holds-need (distinct (map (λ l. l .no) ls) && distinct xs) 15 o) λ _ q.
+      let few : length xs ≤ length ls = omega (arith, all-of-at Ends (C .functions) f H e .arity) in
+      holds-then (holds-need (all (C .inside) ls) 13 o) λ _ p. holds-then (holds-need (distinct (numbers ls) && distinct xs) 15 o) λ _ q.
       holds-then (arguments-sound xs ls o few) λ _ a. holds-map (λ _ w. record {
         earlier = e;
         locations = k;
         slots = m;
         inside = p;
         different = and-left _ _ q;
-        different-slots = and-right (distinct (map (λ (l : Place s). l .no) ls)) _ q;
+        different-slots = and-right (distinct (numbers ls)) _ q;
         arguments = a;
         others-free = w;
       }) (holds-need (all (λ l. getD (Γ .free) (l .no) false) (drop (length xs) ls)) 14 o)

@@ -1,96 +1,47 @@
 -- Run-time slots that fit their kinds. A slot that typing has as a qubit at a place holds a qubit at the location of that place, one that typing has
 -- as a bool or a reference holds one; where typing says unbound a bool or a reference of a closed block may still stand, but no qubit. Every store,
 -- the end of a block, the entry of a callee and its return keep this, because typing and the machine store at the same slots.
-use mathlib.Core.Bool.{Bool, true, false, not, _&&_, _||_, false≢true}
-use mathlib.Core.List.{List, [], _∷_, _++_, map}
-use mathlib.Core.Logic.{_≢_, _⊎_, inl, inr}
-use mathlib.Core.Path.{_≡_, refl, sym, ap, subst, _∙_}
+use mathlib.Core.Bool.{Bool, true, false, not, _&&_, false≢true}
+use mathlib.Core.List.{List, [], _∷_}
+use mathlib.Core.Logic.{_⊎_, inl, inr}
+use mathlib.Core.Path.{_≡_, refl, ap, subst, _∙_}
 use native.Mathlib.Decide.{ℕ-discrete, decLt}
-use native.Mathlib.Nat.{zero-add, suc-add, add-suc, add-zero}
+use native.Mathlib.Nat.{suc-add, add-suc, add-zero}
 use native.Mathlib.Omega.{arith}
-use Prim.Native.Nat.{ℕ, zero, suc, _+_, _-_, _≤_, _<_}
+use Prim.Native.Nat.{ℕ, suc, _+_, _≤_, _<_}
 use lib.Dec.{eqb}
-use lib.ListN.{getD, set, length, take, replicate, length-set, length-replicate, length-append, length-map, List·getD-eq-default}
-use lib.Seq.{getD-set-same, getD-set-other, set-out, set-getD, length-take-le}
-use Rattle.rules.specs.Basics.{chosen, all, any, upTo, without, setAll, distinct}
+use lib.ListN.{getD, set, length, take, length-set}
+use lib.Seq.{getD-set-same, getD-set-other, set-out, set-getD, length-take-le, getD-take}
+use Rattle.rules.specs.Basics.{chosen, any, upTo, without, setAll, distinct}
 use Rattle.rules.specs.Syntax.{Side, device, parameter, Place, param, at}
 use Rattle.rules.specs.Slots.{Slot, unbound, qubit, bool, ref, slot, holdsNoQubit, isClassical, isQubitAt, entered}
-use Rattle.rules.specs.Typing.{Kind, Env, sameKind, allStay, narrowed}
+use Rattle.rules.specs.Typing.{Kind, Env, narrowed}
 use Rattle.rules.specs.Figures.{stored, kindAt, Arguments, no-more, and}
 use Rattle.rules.specs.Machine.{Frame}
-use Rattle.rules.proofs.Basics.{getD-upTo, all-upTo}
-use Rattle.theory.proofs.Base.{T→eq, eq→T, eqb-true, eqb-same, and-left, and-right}
+use Rattle.rules.proofs.Basics.{length-upTo}
+use Rattle.theory.proofs.Base.{eqb-same, eqb-false, and-left, neither, distinct-head, distinct-tail}
+use Rattle.theory.proofs.Places.{slot-out, length-entered, entered-at, entered-past, entry-at, entry-past, slot-narrowed, length-narrowed}
 
--- 1. Lists
-pub length-upTo : {A : Type 0} (i m : ℕ) (f : ℕ → A) → length (upTo i m f) ≡ m
-length-upTo i zero f = refl
-length-upTo i (suc m) f = ap suc (length-upTo (suc i) m f)
-
-pub all-upTo-at : (p : ℕ → Bool) (m x : ℕ) → all p (upTo 0 m λ k. k) ≡ true → x < m → p x ≡ true
-all-upTo-at p m x h k = T→eq (p x) (all-upTo p 0 m (eq→T _ h) x (omega arith) (omega arith))
-
-or-false : (a b : Bool) → (a || b) ≡ false → (a ≡ false) × (b ≡ false)
-or-false true b h = absurd (false≢true (sym h))
-or-false false b h = (refl, h)
-
-not-true : (b : Bool) → not b ≡ true → b ≡ false
-not-true true h = absurd (false≢true h)
-not-true false h = refl
-
-eqb-false : (m n : ℕ) → eqb m n ≡ false → m ≢ n
-eqb-false m n h e = false≢true (sym h ∙ rw e (eqb-same n))
-
+-- 1. A store at several slots leaves the others alone.
 any-without : (x : ℕ) (bs : List Bool) (xs : List ℕ) → any (eqb x) xs ≡ false → any (eqb x) (without bs xs) ≡ false
 any-without x [] xs h = refl
 any-without x (b ∷ bs) [] h = refl
-any-without x (true ∷ bs) (y ∷ xs) h = any-without x bs xs (or-false (eqb x y) _ h .1)
-any-without x (false ∷ bs) (y ∷ xs) h = rw (or-false (eqb x y) _ h .0) (any-without x bs xs (or-false (eqb x y) _ h .1))
+any-without x (true ∷ bs) (y ∷ xs) h = any-without x bs xs (neither (eqb x y) _ h .1)
+any-without x (false ∷ bs) (y ∷ xs) h = rw (neither (eqb x y) _ h .0) (any-without x bs xs (neither (eqb x y) _ h .1))
 
 module _ {A : Type 0} where
   pub setAll-other : (v d : A) (x : ℕ) (ns : List ℕ) (φ : List A) → any (eqb x) ns ≡ false → getD (setAll v ns φ) x d ≡ getD φ x d
   setAll-other v d x [] φ h = refl
   setAll-other v d x (n ∷ ns) φ h =
-      let (p, q) = or-false (eqb x n) _ h in
+      let (p, q) = neither (eqb x n) _ h in
       getD-set-other (setAll v ns φ) n x v d (eqb-false x n p) ∙ setAll-other v d x ns φ q
 
--- 2. The end of a block, slot by slot
-module _ {s : Side} where
-  pub slot-out : {B : Type 0} (vs : List (Slot s B)) (x : ℕ) → length vs ≤ x → slot vs x ≡ unbound
-  slot-out vs x h = List·getD-eq-default vs unbound h
-
-  narrowed-in : (vs ws : List (Kind s)) (x : ℕ) → x < 32 → slot (narrowed vs ws) x ≡ chosen (isClassical (slot ws x) && not (isClassical (slot vs x))) unbound (slot ws x)
-  narrowed-in vs ws x h =
-      getD-upTo 0 32 x (λ y. chosen (isClassical (slot ws y) && not (isClassical (slot vs y))) unbound (slot ws y)) unbound h
-      ∙ ap (λ y. chosen (isClassical (slot ws y) && not (isClassical (slot vs y))) unbound (slot ws y)) (zero-add x)
-
-  length-narrowed : (vs ws : List (Kind s)) → length (narrowed vs ws) ≡ 32
-  length-narrowed vs ws = length-upTo 0 32 (λ y. chosen (isClassical (slot ws y) && not (isClassical (slot vs y))) unbound (slot ws y))
-
-  -- a slot that held a qubit on entry: nothing is left in it, or that qubit
-  pub narrowed-home : (vs ws : List (Kind s)) (x : ℕ) (l : Place s) → allStay vs ws ≡ true → slot vs x ≡ qubit l → (slot (narrowed vs ws) x ≡ unbound) ⊎ (slot (narrowed vs ws) x ≡ qubit l)
-  narrowed-home vs ws x l h e = go (decLt x 32)
-    where
-      ended : (w : Kind s) → (holdsNoQubit w || sameKind (qubit l) w) ≡ true → (chosen (isClassical w && true) unbound w ≡ unbound) ⊎ (chosen (isClassical w && true) unbound w ≡ qubit l)
-      ended unbound k = inl refl
-      ended (qubit p) k = inr (ap qubit (place (eqb-true (3 + l .no) (3 + p .no) k)))
-        where
-          place : 3 + l .no ≡ 3 + p .no → p ≡ l
-          place r = let q : p .no ≡ l .no = omega arith in λ i. record { no = q i }
-      ended (bool b) k = inl refl
-      ended (ref b) k = inl refl
-
-      go : Dec (x < 32) → (slot (narrowed vs ws) x ≡ unbound) ⊎ (slot (narrowed vs ws) x ≡ qubit l)
-      go (yes k) =
-          let stays : (holdsNoQubit (slot ws x) || sameKind (slot vs x) (slot ws x)) ≡ true
-          = all-upTo-at (λ y. holdsNoQubit (slot ws y) || sameKind (slot vs y) (slot ws y)) 32 x h k in
-          rw (narrowed-in vs ws x k, e) (ended (slot ws x) (rw e at stays))
-      go (no k) = let r = length-narrowed vs ws in inl (slot-out (narrowed vs ws) x (omega arith))
-
+-- 2. Slots that fit kinds
 -- of one argument, its kind after a call and whether its slot stays bound: the callee ended without it, or with it where it was
 abbrev pub Settled : {s : Side} → Kind s → Bool → Place s → Type 0
 Settled k b l = ((k ≡ unbound) × (b ≡ false)) ⊎ ((k ≡ qubit l) × (b ≡ true))
 
--- 3. Slots that fit kinds, where ρ says which location a place is
+-- ρ says which location a place is
 module _ {s : Side} (ρ : Place s → Place device) where
   abbrev pub Match : Kind s → Slot device Bool → Type 0
   Match unbound v = holdsNoQubit v ≡ true
@@ -127,7 +78,7 @@ module _ {s : Side} (ρ : Place s → Place device) where
   fits-narrowed vs₀ vs φ F = record { kinds-long = length-narrowed vs₀ vs; slots-long = F .slots-long; each = λ x. go x (decLt x 32) }
     where
       go : (x : ℕ) → Dec (x < 32) → Match (slot (narrowed vs₀ vs) x) (slot φ x)
-      go x (yes h) = rw (narrowed-in vs₀ vs x h)
+      go x (yes h) = rw (slot-narrowed vs₀ vs x h)
           (chosen-match (isClassical (slot vs x) && not (isClassical (slot vs₀ x))) (slot vs x) (slot φ x) (λ e. and-left (isClassical (slot vs x)) _ e) (F .each x))
       go x (no h) = let r = length-narrowed vs₀ vs in rw (slot-out (narrowed vs₀ vs) x (omega arith), slot-out φ x (omega (arith, F .slots-long)))
 
@@ -138,62 +89,40 @@ module _ {s : Side} (ρ : Place s → Place device) where
   fits-back i f g [] ls F no-more d h = F
   fits-back {Γ = Γ} {χ = χ} i f g (x ∷ xs) (l ∷ ls) F (and e r) d h =
       go (f i) (g i) (rw (add-zero i) at (h 0 (omega arith)))
-      (fits-back (suc i) f g xs ls F r (and-right (not (any (eqb x) xs)) _ d) (λ j k. rw (suc-add i j, ← (add-suc i j)) (h (suc j) (omega arith))))
+      (fits-back (suc i) f g xs ls F r (distinct-tail x xs d) (λ j k. rw (suc-add i j, ← (add-suc i j)) (h (suc j) (omega arith))))
     where
       others : List ℕ
       others = without (upTo (suc i) (length xs) g) xs
 
       holds : slot (setAll unbound others χ) x ≡ qubit (ρ l)
-      holds = setAll-other unbound unbound x others χ (any-without x (upTo (suc i) (length xs) g) xs (not-true (any (eqb x) xs) (and-left _ _ d))) ∙ rw e at (F .each x)
+      holds = setAll-other unbound unbound x others χ (any-without x (upTo (suc i) (length xs) g) xs (distinct-head x xs d)) ∙ rw e at (F .each x)
 
       go : (k : Kind s) (b : Bool) → Settled k b l → Fits (stored (upTo (suc i) (length xs) f) xs (Γ .slots)) (setAll unbound others χ)
           → Fits (set (stored (upTo (suc i) (length xs) f) xs (Γ .slots)) x k) (setAll unbound (without (b ∷ upTo (suc i) (length xs) g) (x ∷ xs)) χ)
       go k b (inl c) G = rw (c .0, c .1) (fits-set x unbound unbound G refl)
       go k b (inr c) G = rw (c .0, c .1) (fits-known x (qubit l) G holds)
 
--- 4. A callee's frame at its entry: slot j holds argument j
-pub slot-entered : (i m n j : ℕ) → j < m → slot {B = Unit {0}} (map qubit (upTo i m param) ++ replicate n unbound) j ≡ qubit (param (i + j))
-slot-entered i zero n j h = absurd (omega arith)
-slot-entered i (suc m) n zero h = rw (add-zero i)
-slot-entered i (suc m) n (suc j) h = rw (add-suc i j, ← (suc-add i j)) (slot-entered (suc i) m n j (omega arith))
-
+-- 3. A callee's frame at its entry: slot j holds argument j
 module _ (τ : Place parameter → Place device) where
-  match-none : (n x : ℕ) → Match τ (slot (replicate n unbound) x) (slot (replicate n unbound) x)
-  match-none zero x = refl
-  match-none (suc n) zero = refl
-  match-none (suc n) (suc x) = match-none n x
-
-  match-entered : (i m n x : ℕ) (ls : List (Place device)) → m ≤ length ls → ((j : ℕ) → j < m → at ls j ≡ τ (param (i + j)))
-      → Match τ (slot (map qubit (upTo i m param) ++ replicate n unbound) x) (slot (map qubit (take m ls) ++ replicate n unbound) x)
-  match-entered i zero n x ls h e = match-none n x
-  match-entered i (suc m) n x [] h e = absurd (omega arith)
-  match-entered i (suc m) n zero (l ∷ ls) h e = ap qubit (rw (add-zero i) at (e 0 (omega arith)))
-  match-entered i (suc m) n (suc x) (l ∷ ls) h e = match-entered (suc i) m n x ls (omega arith) (λ j k. rw (suc-add i j, ← (add-suc i j)) (e (suc j) (omega arith)))
-
-  length-entered : {t : Side} (B : Type 0) (ls : List (Place t)) → length ls ≤ 32 → length (entered {B = B} ls) ≡ 32
-  length-entered {t} B ls h =
-      let f : Place t → Slot t B = qubit in
-      let none : Slot t B = unbound in
-      length-append (map f ls) (replicate (32 - length ls) none) ∙ omega (arith, length-map ls f, length-replicate (32 - length ls) none)
-
   pub fits-entered : (m : ℕ) (ls : List (Place device)) → m ≤ 32 → m ≤ length ls → ((j : ℕ) → j < m → at ls j ≡ τ (param j)) → Fits τ (entered (upTo 0 m param)) (entered (take m ls))
   fits-entered m ls h k e =
-      let p = length-upTo 0 m param in
-      let q = length-take-le m ls k in
-      record {
-        kinds-long = length-entered _ (upTo 0 m param) (omega arith);
-        slots-long = length-entered _ (take m ls) (omega arith);
-        each = λ x. rw (p, q) (match-entered 0 m (32 - m) x ls k (λ j r. rw (zero-add j) (e j r)));
-      }
+      record { kinds-long = length-entered (Unit {0}) (upTo 0 m param) (omega (arith, length-upTo 0 m param)); slots-long = length-entered Bool (take m ls) (omega (arith, taken)); each = λ x. go x (decLt x m) }
+    where
+      taken : length (take m ls) ≡ m
+      taken = length-take-le m ls k
+
+      go : (x : ℕ) → Dec (x < m) → Match τ (slot (entered (upTo 0 m param)) x) (slot (entered (take m ls)) x)
+      go x (yes d) = rw (entry-at m x d) (entered-at Bool (take m ls) x (omega (arith, taken)) ∙ ap qubit (getD-take m ls x _ d ∙ e x d))
+      go x (no d) = rw (entry-past m x (omega arith), entered-past Bool (take m ls) x (omega (arith, taken)))
 
   -- what a callee's slot says of the argument
   pub settled : {s : Side} (ls : List (Place s)) (actual : List (Place device)) (k : Kind parameter) (v : Slot device Bool) (j : ℕ) → Match τ k v → at actual j ≡ τ (param j)
-      → (k ≡ unbound) ⊎ (k ≡ qubit (param j)) → Settled (kindAt ls k) (isQubitAt v (at actual j)) (at ls j)
-  settled ls actual k v j m e (inl h) = rw h (inl (refl, no-qubit v (rw h at m)))
+      → (k ≡ qubit (param j)) ⊎ (k ≡ unbound) → Settled (kindAt ls k) (isQubitAt v (at actual j)) (at ls j)
+  settled ls actual k v j m e (inl h) = let r : v ≡ qubit (τ (param j)) = rw h at m in rw (h, r, e) (inr (refl, eqb-same (τ (param j) .no)))
+  settled ls actual k v j m e (inr h) = rw h (inl (refl, no-qubit v (rw h at m)))
     where
       no-qubit : (v : Slot device Bool) → holdsNoQubit v ≡ true → isQubitAt v (at actual j) ≡ false
       no-qubit unbound r = refl
       no-qubit (qubit l) r = absurd (false≢true r)
       no-qubit (bool b) r = refl
       no-qubit (ref b) r = refl
-  settled ls actual k v j m e (inr h) = let r : v ≡ qubit (τ (param j)) = rw h at m in rw (h, r, e) (inr (refl, eqb-same (τ (param j) .no)))

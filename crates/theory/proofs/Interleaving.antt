@@ -4,7 +4,7 @@ use mathlib.Core.Path.{_≡_, refl, sym, ap, subst, _∙_}
 use mathlib.Core.List.{List, [], _∷_, _++_, append-nil}
 use mathlib.Core.Logic.{_≢_}
 use Prim.Native.Nat.{ℕ}
-use mathlib.Core.Bool.{Bool, true, false, not, _&&_, _||_, false≢true}
+use mathlib.Core.Bool.{Bool, true, false, _||_, false≢true}
 use lib.Dec.{eqb}
 use native.Mathlib.Decide.{ℕ-discrete}
 use Rattle.rules.specs.Basics.{chosen, all, any, distinct}
@@ -12,7 +12,7 @@ use Rattle.rules.specs.Device.{Device}
 use Rattle.rules.specs.Syntax.{Program}
 use Rattle.rules.specs.Run.{Turn, started}
 use Rattle.theory.specs.Interleaving.{turnsOf, inOrder, Alike, AnyInterleaving, TwoJobs}
-use Rattle.theory.proofs.Base.{eqb-same, eqb-other, and-left, and-right}
+use Rattle.theory.proofs.Base.{eqb-same, eqb-other, and-left, and-right, and-both, distinct-head, distinct-tail}
 use Rattle.theory.proofs.Isolation.{Ends, sound-started, isolation}
 
 turns-append : (j : ℕ) (ts us : List Turn) → turnsOf j (ts ++ us) ≡ turnsOf j ts ++ turnsOf j us
@@ -42,19 +42,15 @@ turns-other i j (t ∷ ts) n = go (ℕ-discrete (t .job) i) (turns-other i j ts 
     go (yes e) h = rw (ap (λ x. eqb x i) e ∙ eqb-same i) (rw (eqb-other (t .job) j (λ q. n (sym e ∙ q))) h)
     go (no m) h = rw (eqb-other (t .job) i m) h
 
-not-true : (b : Bool) → not b ≡ true → b ≡ false
-not-true true h = absurd (false≢true h)
-not-true false h = refl
-
 turns-in-order : (j : ℕ) (js : List ℕ) (ts : List Turn) → distinct js ≡ true → turnsOf j (inOrder js ts) ≡ chosen (any (eqb j) js) (turnsOf j ts) []
 turns-in-order j [] ts h = refl
 turns-in-order j (i ∷ js) ts h =
-    turns-append j (turnsOf i ts) (inOrder js ts) ∙ go (ℕ-discrete j i) (turns-in-order j js ts (and-right (not (any (eqb i) js)) _ h))
+    turns-append j (turnsOf i ts) (inOrder js ts) ∙ go (ℕ-discrete j i) (turns-in-order j js ts (distinct-tail i js h))
   where
     go : Dec (j ≡ i) → turnsOf j (inOrder js ts) ≡ chosen (any (eqb j) js) (turnsOf j ts) []
         → turnsOf j (turnsOf i ts) ++ turnsOf j (inOrder js ts) ≡ chosen (eqb j i || any (eqb j) js) (turnsOf j ts) []
     go (yes e) k =
-        let off : any (eqb i) js ≡ false = not-true _ (and-left _ _ h) in
+        let off : any (eqb i) js ≡ false = distinct-head i js h in
         let rest : turnsOf i (inOrder js ts) ≡ [] = rw off at (rw e at k) in
         rw e (rw (eqb-same i) (rw rest (append-nil (turnsOf i (turnsOf i ts)) ∙ turns-own i ts)))
     go (no n) k = rw (eqb-other j i n) (rw (turns-other i j ts (λ e. n (sym e))) k)
@@ -82,18 +78,15 @@ pub any-interleaving : AnyInterleaving
 any-interleaving D programs js ts d h = alike D programs ts (inOrder js ts) (isolation D programs ts (inOrder js ts) (started D programs) (sound-started D programs) (same-turns js ts d h))
 
 -- the two tests of a turn say the same
-or-false : (a b : Bool) → (a || b) ≡ true → (a || (b || false)) ≡ true
-or-false true b h = refl
-or-false false true h = refl
-or-false false false h = h
-
-both : (a b : Bool) → a ≡ true → b ≡ true → (a && b) ≡ true
-both a b h k = rw h k
+or-none : (a b : Bool) → (a || b) ≡ true → (a || (b || false)) ≡ true
+or-none true b h = refl
+or-none false true h = refl
+or-none false false h = h
 
 one-of-two : (ts : List Turn) → all (λ (t : Turn). eqb (t .job) 1 || eqb (t .job) 2) ts ≡ true → all (λ (t : Turn). any (eqb (t .job)) (1 ∷ 2 ∷ [])) ts ≡ true
 one-of-two [] h = refl
 one-of-two (t ∷ ts) h =
-    both _ _ (or-false (eqb (t .job) 1) (eqb (t .job) 2) (and-left (eqb (t .job) 1 || eqb (t .job) 2) _ h)) (one-of-two ts (and-right (eqb (t .job) 1 || eqb (t .job) 2) _ h))
+    and-both _ _ (or-none (eqb (t .job) 1) (eqb (t .job) 2) (and-left (eqb (t .job) 1 || eqb (t .job) 2) _ h)) (one-of-two ts (and-right (eqb (t .job) 1 || eqb (t .job) 2) _ h))
 
 pub two-jobs : TwoJobs
 two-jobs D programs ts h =

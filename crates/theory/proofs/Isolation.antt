@@ -2,16 +2,16 @@
 -- step reads of the map only which of its own locations are free. So what a job sees (its part of the map and its own state) changes by its own steps
 -- alone, and what its steps answer depends on what it sees alone, whatever stands between them. For any number of jobs and any programs.
 use mathlib.Core.Path.{_≡_, refl, sym, ap, fun-ext, _∙_}
-use mathlib.Core.List.{List, [], _∷_, _++_, map}
+use mathlib.Core.List.{List, [], _∷_, map, head-eq-of-cons-eq, tail-eq-of-cons-eq}
 use mathlib.Core.Logic.{_≢_, _⊎_, inl, inr, ⊎-elim}
-use Prim.Native.Nat.{ℕ, zero, suc, _-_, _<_}
+use Prim.Native.Nat.{ℕ, zero, suc, _<_}
 use mathlib.Core.Bool.{Bool, true, false, _&&_, false≢true}
-use lib.ListN.{getD, set, length, length-set, take, replicate}
+use lib.ListN.{getD, set, length, length-set, length-replicate, take, replicate}
 use lib.Dec.{eqb}
-use native.Mathlib.Decide.{ℕ-discrete}
+use native.Mathlib.Decide.{ℕ-discrete, decLt}
 use native.Mathlib.Omega.{arith}
 use Rattle.answers.specs.Check.{Check, ok, refused}
-use Rattle.answers.proofs.Laws.{Holds, not-ok, by, holds-bind, holds-then, holds-need, holds-map, holds-any}
+use Rattle.answers.proofs.Laws.{Holds, by, holds-bind, holds-then, holds-need, holds-map, holds-any}
 use Rattle.rules.specs.Basics.{chosen, all, without, setAll}
 use Rattle.rules.specs.Device.{Device}
 use Rattle.rules.specs.Region.{Region, regionOf, owns, freeIn}
@@ -20,7 +20,8 @@ use Rattle.rules.specs.Slots.{Slot, unbound, qubit, bool, ref, slot, needQubit,
 use Rattle.rules.specs.Machine.{Frame, Actual, locate, Item, run, return, Job, fresh, Move, floor, move, Stepped, stepped, stepItems, step}
 use Rattle.rules.specs.Run.{Turn, Machine, Told, written, started, stepOf, after, final, records}
 use Rattle.theory.specs.Interleaving.{turnsOf, recordsOf}
-use Rattle.theory.proofs.Base.{eqb-true, eqb-same, eqb-other, and-left, and-right, getD-set-cases}
+use Rattle.theory.proofs.Base.{eqb-true, eqb-same, eqb-other, and-left, and-right, getD-set-cases, getD-replicate-default}
+use Rattle.theory.proofs.Places.{all-at, qubit-held, entered-at, entered-past}
 
 -- 1. A job whose slots hold only its own locations acts only on its own, and goes on so.
 module _ (own : ℕ → Bool) where
@@ -57,20 +58,7 @@ module _ (own : ℕ → Bool) where
   own-set-all (x ∷ xs) φ h = own-set (setAll unbound xs φ) x unbound (own-set-all xs φ h) refl
 
   own-qubit : (v : Slot device Bool) (o : ℕ) → ownSlot v ≡ true → Holds (λ l. own (l .no) ≡ true) (needQubit v o)
-  own-qubit unbound o h = not-ok
-  own-qubit (qubit l) o h = by h
-  own-qubit (bool b) o h = not-ok
-  own-qubit (ref b) o h = not-ok
-
-  own-unbound : (n x : ℕ) → ownSlot (slot (replicate n unbound) x) ≡ true
-  own-unbound zero x = refl
-  own-unbound (suc n) zero = refl
-  own-unbound (suc n) (suc x) = own-unbound n x
-
-  own-qubits : (ls : List (Place device)) (n : ℕ) → all (λ l. own (l .no)) ls ≡ true → OwnFrame (map qubit ls ++ replicate n unbound)
-  own-qubits [] n h x = own-unbound n x
-  own-qubits (l ∷ ls) n h zero = and-left _ _ h
-  own-qubits (l ∷ ls) n h (suc x) = own-qubits ls n (and-right (own (l .no)) _ h) x
+  own-qubit v o h = holds-map (λ l e. sym (ap ownSlot e) ∙ h) (qubit-held v o)
 
   own-take : (m : ℕ) (ls : List (Place device)) → all (λ l. own (l .no)) ls ≡ true → all (λ l. own (l .no)) (take m ls) ≡ true
   own-take zero ls h = refl
@@ -79,11 +67,15 @@ module _ (own : ℕ → Bool) where
 
   -- a callee's frame holds qubits at own locations if all the call's locations are own, however many the arguments are
   pub own-entered : (m : ℕ) (ls : List (Place device)) → all (λ l. own (l .no)) ls ≡ true → OwnFrame (entered (take m ls))
-  own-entered m ls h = own-qubits (take m ls) (32 - length (take m ls)) (own-take m ls h)
+  own-entered m ls h x = go (decLt x (length (take m ls)))
+    where
+      go : Dec (x < length (take m ls)) → ownSlot (slot (entered (take m ls)) x) ≡ true
+      go (yes d) = rw (entered-at Bool (take m ls) x d) (all-at (λ l. own (l .no)) (take m ls) x (own-take m ls h) d)
+      go (no d) = rw (entered-past Bool (take m ls) x (omega arith))
 
   -- a fresh job holds no qubit
   pub own-fresh : (p : Program) → OwnJob (fresh p)
-  own-fresh p = (own-unbound 32, tt)
+  own-fresh p = ((λ x. ap ownSlot (getD-replicate-default 32 x unbound)), tt)
 
 module _ (R : Region) (fs : List Function) (v : Bool) (isFree : ℕ → Bool) where
   abbrev OwnDone : Done device Bool → Type 0
@@ -166,58 +158,40 @@ part-set-other (w ∷ ws) j [] l x h = refl
 part-set-other (w ∷ ws) j (y ∷ occ) zero x h = rw h
 part-set-other (w ∷ ws) j (y ∷ occ) (suc l) x h = ap (λ r. chosen (eqb w j) y 0 ∷ r) (part-set-other ws j occ l x h)
 
-suc-same : {m n : ℕ} → suc m ≡ suc n → m ≡ n
-suc-same h = omega arith
-
-zero-suc : {n : ℕ} {A : Type 0} → zero ≡ suc n → A
-zero-suc h = absurd (omega arith)
-
-suc-zero : {n : ℕ} {A : Type 0} → suc n ≡ zero → A
-suc-zero h = absurd (omega arith)
-
 -- the free locations of a region are read off its part
 pub part-free : (ws : List ℕ) (j : ℕ) (occ : List ℕ) (l : ℕ) → length ws ≡ length occ
     → (getD (map (λ w. eqb w j) ws) l false && eqb (getD (part ws j occ) l 0) 0) ≡ (getD (map (λ w. eqb w j) ws) l false && eqb (getD occ l 0) 0)
 part-free [] j occ l h = refl
-part-free (w ∷ ws) j [] l h = suc-zero h
+part-free (w ∷ ws) j [] l h = absurd (omega arith)
 part-free (w ∷ ws) j (x ∷ occ) zero h = go (eqb w j)
   where
     go : (b : Bool) → (b && eqb (chosen b x 0) 0) ≡ (b && eqb x 0)
     go true = refl
     go false = refl
-part-free (w ∷ ws) j (x ∷ occ) (suc l) h = part-free ws j occ l (suc-same h)
+part-free (w ∷ ws) j (x ∷ occ) (suc l) h = part-free ws j occ l (omega arith)
 
 -- what stands at a location of the part, and how long it is
 pub getD-part : (ws : List ℕ) (j : ℕ) (occ : List ℕ) (l : ℕ) → length ws ≡ length occ → getD (part ws j occ) l 0 ≡ chosen (getD (map (λ w. eqb w j) ws) l false) (getD occ l 0) 0
 getD-part [] j occ l h = refl
-getD-part (w ∷ ws) j [] l h = suc-zero h
+getD-part (w ∷ ws) j [] l h = absurd (omega arith)
 getD-part (w ∷ ws) j (x ∷ occ) zero h = refl
-getD-part (w ∷ ws) j (x ∷ occ) (suc l) h = getD-part ws j occ l (suc-same h)
+getD-part (w ∷ ws) j (x ∷ occ) (suc l) h = getD-part ws j occ l (omega arith)
 
 pub length-part : (ws : List ℕ) (j : ℕ) (occ : List ℕ) → length ws ≡ length occ → length ws ≡ length (part ws j occ)
 length-part [] j occ h = refl
 length-part (w ∷ ws) j [] h = h
-length-part (w ∷ ws) j (x ∷ occ) h = ap suc (length-part ws j occ (suc-same h))
-
-head-of : List ℕ → ℕ
-head-of [] = 0
-head-of (x ∷ xs) = x
-
-tail-of : List ℕ → List ℕ
-tail-of [] = []
-tail-of (x ∷ xs) = xs
+length-part (w ∷ ws) j (x ∷ occ) h = ap suc (length-part ws j occ (omega arith))
 
 -- maps of one length with equal parts are equal
 part-ext : (ws xs ys : List ℕ) → length ws ≡ length xs → length ws ≡ length ys → ((j : ℕ) → part ws j xs ≡ part ws j ys) → xs ≡ ys
-unfolding head-of tail-of
 part-ext [] [] [] h k e = refl
-part-ext [] [] (y ∷ ys) h k e = zero-suc k
-part-ext [] (x ∷ xs) ys h k e = zero-suc h
-part-ext (w ∷ ws) [] ys h k e = suc-zero h
-part-ext (w ∷ ws) (x ∷ xs) [] h k e = suc-zero k
+part-ext [] [] (y ∷ ys) h k e = absurd (omega arith)
+part-ext [] (x ∷ xs) ys h k e = absurd (omega arith)
+part-ext (w ∷ ws) [] ys h k e = absurd (omega arith)
+part-ext (w ∷ ws) (x ∷ xs) [] h k e = absurd (omega arith)
 part-ext (w ∷ ws) (x ∷ xs) (y ∷ ys) h k e =
-    let tails : xs ≡ ys = part-ext ws xs ys (suc-same h) (suc-same k) (λ j. ap tail-of (e j)) in
-    let heads : x ≡ y = rw (eqb-same w) at (ap head-of (e w)) in
+    let tails : xs ≡ ys = part-ext ws xs ys (omega arith) (omega arith) (λ j. tail-eq-of-cons-eq (e j)) in
+    let heads : x ≡ y = rw (eqb-same w) at (head-eq-of-cons-eq (e w)) in
     cc
 
 -- 4. What one job sees, and its steps over what it sees
@@ -239,6 +213,10 @@ chosen-other i j a b n = rw (eqb-other i j n)
 
 view-path : {a b : List ℕ} {J K : Job} → a ≡ b → J ≡ K → _≡_ {A = View} (record { mine = a; job = J }) (record { mine = b; job = K })
 view-path p q = λ i. record { mine = p i; job = q i }
+
+-- a byte of the map is 0 or the location's owner
+abbrev pub Byte : Device → List ℕ → ℕ → Type 0
+Byte D occ l = (getD occ l 0 ≡ 0) ⊎ (getD occ l 0 ≡ getD (D .owners) l 0)
 
 module _ (D : Device) (programs : ℕ → Program) where
   abbrev pub view : ℕ → Machine → View
@@ -263,22 +241,13 @@ module _ (D : Device) (programs : ℕ → Program) where
   -- 5. What every machine of a run has: a byte of the map for each location, which is 0 or the location's owner; and jobs with their own locations only
   pub record Sound (M : Machine) : Type 0 where
     pub fits : length (D .owners) ≡ length (M .occupancy)
-    pub bytes : (l : ℕ) → (getD (M .occupancy) l 0 ≡ 0) ⊎ (getD (M .occupancy) l 0 ≡ getD (D .owners) l 0)
+    pub bytes : (l : ℕ) → Byte D (M .occupancy) l
     pub own : (j : ℕ) → OwnJob (owns (regionOf D j)) (M .jobs j)
-
-  length-zeros : (n : ℕ) → n ≡ length (replicate n zero)
-  length-zeros zero = refl
-  length-zeros (suc n) = ap suc (length-zeros n)
-
-  zeros : (n l : ℕ) → getD (replicate n zero) l 0 ≡ 0
-  zeros zero l = refl
-  zeros (suc n) zero = refl
-  zeros (suc n) (suc l) = zeros n l
 
   pub sound-started : Sound (started D programs)
   sound-started = record {
-    fits = length-zeros (length (D .owners));
-    bytes = λ l. inl (zeros (length (D .owners)) l);
+    fits = sym (length-replicate (length (D .owners)) 0);
+    bytes = λ l. inl (getD-replicate-default (length (D .owners)) l 0);
     own = λ j. own-fresh (owns (regionOf D j)) (programs j);
   }
 
@@ -299,7 +268,7 @@ module _ (D : Device) (programs : ℕ → Program) where
   and-true false = refl
 
   pub free-started : (j l : ℕ) → freeIn (regionOf D j) (replicate (length (D .owners)) 0) l ≡ owns (regionOf D j) l
-  free-started j l = ap (λ x. owns (regionOf D j) l && eqb x 0) (zeros (length (D .owners)) l) ∙ and-true (owns (regionOf D j) l)
+  free-started j l = ap (λ x. owns (regionOf D j) l && eqb x 0) (getD-replicate-default (length (D .owners)) l 0) ∙ and-true (owns (regionOf D j) l)
 
   pub own-step-of : (t : Turn) (M : Machine) → Sound M → OwnJob (owns (regionOf D (t .job))) (stepOf D programs t M .next)
   own-step-of t M S = own-step (regionOf D (t .job)) (programs (t .job) .functions) (t .outcome) (freeIn (regionOf D (t .job)) (M .occupancy)) (M .jobs (t .job)) (S .own (t .job)) .0
@@ -307,10 +276,7 @@ module _ (D : Device) (programs : ℕ → Program) where
   pub acts-own : (t : Turn) (M : Machine) → Sound M → OwnAct (owns (regionOf D (t .job))) (stepOf D programs t M .act)
   acts-own t M S = own-step (regionOf D (t .job)) (programs (t .job) .functions) (t .outcome) (freeIn (regionOf D (t .job)) (M .occupancy)) (M .jobs (t .job)) (S .own (t .job)) .1
 
-  abbrev Byte : List ℕ → ℕ → Type 0
-  Byte occ l = (getD occ l 0 ≡ 0) ⊎ (getD occ l 0 ≡ getD (D .owners) l 0)
-
-  bytes-written : (j : ℕ) (a : Act device) (occ : List ℕ) → OwnAct (owns (regionOf D j)) a → ((l : ℕ) → Byte occ l) → (l : ℕ) → Byte (written j a occ) l
+  bytes-written : (j : ℕ) (a : Act device) (occ : List ℕ) → OwnAct (owns (regionOf D j)) a → ((l : ℕ) → Byte D occ l) → (l : ℕ) → Byte D (written j a occ) l
   bytes-written j quiet occ h b l = b l
   bytes-written j (takes q k) occ h b l =
       ⊎-elim (λ c. inr (c .1 ∙ sym (owns-owner (D .owners) j (k .no) h .1) ∙ ap (λ x. getD (D .owners) x 0) (sym (c .0)))) (λ c. rw c (b l)) (getD-set-cases occ (k .no) l j 0)
@@ -333,9 +299,12 @@ module _ (D : Device) (programs : ℕ → Program) where
   sound-final (t ∷ ts) M S = sound-final ts _ (sound-after t M S)
 
   -- The same of what job j sees: a byte of its part is 0, or j at an own location.
+  abbrev OwnByte : ℕ → List ℕ → ℕ → Type 0
+  OwnByte j occ l = (getD occ l 0 ≡ 0) ⊎ ((getD occ l 0 ≡ j) × (owns (regionOf D j) l ≡ true))
+
   pub record SoundView (j : ℕ) (W : View) : Type 0 where
     pub fits : length (D .owners) ≡ length (W .mine)
-    pub bytes : (l : ℕ) → (getD (W .mine) l 0 ≡ 0) ⊎ ((getD (W .mine) l 0 ≡ j) × (owns (regionOf D j) l ≡ true))
+    pub bytes : (l : ℕ) → OwnByte j (W .mine) l
     pub own : OwnJob (owns (regionOf D j)) (W .job)
 
   pub sound-view : (j : ℕ) (M : Machine) → Sound M → SoundView j (view j M)
@@ -345,15 +314,11 @@ module _ (D : Device) (programs : ℕ → Program) where
     own = S .own j;
   }
     where
-      go : (l : ℕ) (b : Bool) → owns (regionOf D j) l ≡ b → Byte (M .occupancy) l
-          → (getD (view j M .mine) l 0 ≡ 0) ⊎ ((getD (view j M .mine) l 0 ≡ j) × (owns (regionOf D j) l ≡ true))
+      go : (l : ℕ) (b : Bool) → owns (regionOf D j) l ≡ b → Byte D (M .occupancy) l → OwnByte j (view j M .mine) l
       go l true e (inl z) = inl (getD-part (D .owners) j (M .occupancy) l (S .fits) ∙ ap (λ b. chosen b (getD (M .occupancy) l 0) 0) e ∙ z)
       go l true e (inr z) =
           inr (getD-part (D .owners) j (M .occupancy) l (S .fits) ∙ ap (λ b. chosen b (getD (M .occupancy) l 0) 0) e ∙ z ∙ owns-owner (D .owners) j l e .1, e)
       go l false e z = inl (getD-part (D .owners) j (M .occupancy) l (S .fits) ∙ ap (λ b. chosen b (getD (M .occupancy) l 0) 0) e)
-
-  abbrev OwnByte : ℕ → List ℕ → ℕ → Type 0
-  OwnByte j occ l = (getD occ l 0 ≡ 0) ⊎ ((getD occ l 0 ≡ j) × (owns (regionOf D j) l ≡ true))
 
   own-bytes-written : (j : ℕ) (a : Act device) (occ : List ℕ) → OwnAct (owns (regionOf D j)) a → ((l : ℕ) → OwnByte j occ l) → (l : ℕ) → OwnByte j (written j a occ) l
   own-bytes-written j quiet occ h b l = b l

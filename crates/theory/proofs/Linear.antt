@@ -2,35 +2,35 @@
 -- free or held by a slot. Every rule keeps this. So a function ends with each argument where it began or gone, and with every other place free, and the
 -- two ways to say what a call leaves, the callee's environment substituted and the arguments that did not stay unbound, are one.
 --
--- Exported: Linear, Ends, AllEnd, ends-at (a callee of the list ends so); linear-start, linear-entry; linear-put, linear-held, linear-released, linear-op,
+-- Exported: Linear, Ends, AllEnd (each callee of the list ends so); linear-start, linear-entry; linear-put, linear-held, linear-released, linear-op,
 -- linear-call, linear-callable, linear-close, linear-statement, linear-statements, linear-block; free-length-op, -statement, -statements, -block (as many places as before);
 -- block-qubit, block-argument (a slot over a block); function-ends, functions-end; Matches, no-match, more-match, functions-match (signatures against the functions read);
 -- call-slot, call-other-slot, call-place, call-other-place, call-kept, call-old, other-free (slots and places after a call); call-agrees, callable-agrees.
-use mathlib.Core.Bool.{Bool, true, false, false≢true, cond}
-use mathlib.Core.List.{List, [], _∷_, _++_, map, append-nil}
+use mathlib.Core.Bool.{Bool, true, false, false≢true}
+use mathlib.Core.List.{List, [], _∷_, _++_, append-nil}
 use mathlib.Core.Logic.{_≢_, _⊎_, inl, inr, ⊎-elim}
 use mathlib.Core.Path.{_≡_, refl, sym, ap, subst, _∙_}
 use native.Mathlib.Decide.{ℕ-discrete, decLt}
 use native.Mathlib.Omega.{arith}
 use Prim.Native.Nat.{ℕ, _-_, _≤_, _<_}
-use lib.Dec.{eqb, ltb→lt, lt→ltb}
-use lib.ListN.{getD, set, length, drop, length-set, length-map, length-append, List·getD-append, List·getD-eq-default}
+use lib.ListN.{getD, set, length, drop, length-set, length-append, List·getD-append, List·getD-eq-default}
 use lib.Seq.{getD-set-same, getD-set-other, getD-append-seam, append-snoc}
 use Rattle.rules.specs.Basics.{all, upTo, without, setAll, distinct}
 use Rattle.rules.specs.Syntax.{Side, parameter, Place, param, at, Op, Statement, op, if, while, call, Statements, done, _⨾_, Block, block, Function, function}
 use Rattle.rules.specs.Program.{Scope}
-use Rattle.rules.specs.Slots.{unbound, qubit, bool, ref, slot, holdsNoQubit, isClassical, isQubitAt, kept}
+use Rattle.rules.specs.Slots.{unbound, qubit, bool, ref, slot, holdsNoQubit, isQubitAt, kept}
 use Rattle.rules.specs.Commands.{Commands}
 use Rattle.rules.specs.Typing.{Kind, Env, Typed, Signature, Context, signature, afterCall, narrowed, entry, bodyContext, signatureOf, mainContext, start}
 use Rattle.rules.specs.Figures.{stored, bind, take, give, kindAt, substituted, OpRule, T-Init, T-MInit, T-Free, T-Gate, T-Meas1, T-Meas2, T-MkRef, T-Deref, T-Assign, T-Bool, Arguments, Callable, StatementRule, T-Op, T-If, T-While, T-Call, StatementsRule, T-Unit, T-Seq, BlockRule, T-Close, FunctionsRule, T-NoFun, T-Fundecl}
+use Rattle.rules.proofs.Basics.{length-upTo, getD-upTo-zero}
 use Rattle.theory.specs.WellRead.{OpRead, StatementRead, op-read, if-read, while-read, StatementsRead, next-read, BlockRead, block-read, FunctionsRead, none-read, function-read}
-use Rattle.theory.proofs.Base.{T→eq, eq→T, eqb-same, eqb-other, getD-set-cases}
-use Rattle.theory.proofs.Places.{place-path, true-in-range, find, length-stored, stored-other, stored-at, stored-agrees, length-upTo, getD-upTo-zero, number-at, all-at, drop-at, find-place, map-without, qubit-in-range, argument-at, arguments-length, length-entry, entry-taken, entry-rest, slot-none, length-entered, entry-at, entry-qubit, slot-narrowed, length-narrowed, narrowed-qubit, narrowed-keeps, all-stay-at, stays-qubit, narrow-cases}
+use Rattle.theory.proofs.Base.{eqb-same, below, is-below, true-in-range, getD-set-cases, getD-set-stays, getD-set-default, getD-replicate-default}
+use Rattle.theory.proofs.Places.{find, length-stored, stored-other, stored-at, stored-agrees, place-path, numbers, length-numbers, number-at, all-at, drop-at, find-place, map-without, stored-place, stored-other-place, not-qubit, unbound-qubit, same-qubit, qubit-in-range, old-qubit, Once, once-held, argument-at, arguments-length, signature-newest, signature-older, AllOf, all-of-at, length-entry, entry-taken, entry-rest, length-entered, entry-at, entry-qubit, length-narrowed, narrowed-qubit, narrowed-keeps, stays-qubit, narrowed-home}
 
 pub record Linear {s : Side} (C : Context s) (Γ : Env s) : Type 0 where
   pub inside : (x : ℕ) (l : Place s) → slot (Γ .slots) x ≡ qubit l → C .inside l ≡ true
   pub taken : (x : ℕ) (l : Place s) → slot (Γ .slots) x ≡ qubit l → getD (Γ .free) (l .no) false ≡ false
-  pub once : (x y : ℕ) (l k : Place s) → slot (Γ .slots) x ≡ qubit l → slot (Γ .slots) y ≡ qubit k → l .no ≡ k .no → x ≡ y
+  pub once : Once (Γ .slots)
   pub covered : (l : Place s) → C .inside l ≡ true → (getD (Γ .free) (l .no) false ≡ true) ⊎ ((x : ℕ) × (slot (Γ .slots) x ≡ qubit l))
   pub sized : (l : Place s) → C .inside l ≡ true → l .no < length (Γ .free)
   pub slots32 : length (Γ .slots) ≡ 32
@@ -46,39 +46,9 @@ pub record Ends (g : Signature) : Type 0 where
   pub rest-free : (i : ℕ) → g .m ≤ i → i < g .k → getD (g .ends .free) i false ≡ true
 
 abbrev pub AllEnd : List Signature → Type 0
-AllEnd [] = Unit {0}
-AllEnd (g ∷ gs) = Ends g × AllEnd gs
-
-pub ends-at : (gs : List Signature) (f : ℕ) → AllEnd gs → f < length gs → Ends (signature gs f)
-ends-at [] f H h = absurd (omega arith)
-ends-at (g ∷ gs) f H h = go (eqb f (length gs)) refl (λ k. ends-at gs f (H .1) k)
-  where
-    go : (t : Bool) → eqb f (length gs) ≡ t → (f < length gs → Ends (signature gs f)) → Ends (cond t g (signature gs f))
-    go true e rest = H .0
-    go false e rest = rest (below (ℕ-discrete f (length gs)))
-      where
-        below : Dec (f ≡ length gs) → f < length gs
-        below (yes q) = absurd (false≢true (sym e ∙ ap (λ (n : ℕ). eqb n (length gs)) q ∙ eqb-same (length gs)))
-        below (no q) = omega arith
-
--- a slot that holds no qubit does not hold this one, and a slot holds one qubit
-pub not-qubit : {s : Side} {X : Type 0} (v : Kind s) (l : Place s) → holdsNoQubit v ≡ true → v ≡ qubit l → X
-not-qubit v l n h = absurd (false≢true (sym (ap holdsNoQubit h) ∙ n))
-
-pub unbound-qubit : {s : Side} {X : Type 0} (v : Kind s) (l : Place s) → v ≡ unbound → v ≡ qubit l → X
-unbound-qubit v l e h = not-qubit v l (ap holdsNoQubit e) h
-
-pub same-qubit : {s : Side} (v : Kind s) (l k : Place s) → v ≡ qubit l → v ≡ qubit k → l ≡ k
-same-qubit v l k h h′ = cc
-
-stays-false : (L : List Bool) (i j : ℕ) → getD L i false ≡ false → getD (set L j false) i false ≡ false
-stays-false L i j h = ⊎-elim (λ c. c .1) (λ c. c ∙ h) (getD-set-cases L j i false false)
+AllEnd gs = AllOf Ends gs
 
 module _ {s : Side} where
-  -- a qubit after a store of something else was there before
-  old-qubit : (φ : List (Kind s)) (x y : ℕ) (k : Kind s) (l : Place s) → holdsNoQubit k ≡ true → slot (set φ x k) y ≡ qubit l → slot φ y ≡ qubit l
-  old-qubit φ x y k l n h = ⊎-elim (λ c. not-qubit k l n (sym (c .1) ∙ h)) (λ c. sym c ∙ h) (getD-set-cases φ x y k unbound)
-
   -- something that is no qubit, in a slot that holds none
   pub linear-put : (C : Context s) (Γ : Env s) (x : ℕ) (k : Kind s) → holdsNoQubit (slot (Γ .slots) x) ≡ true → holdsNoQubit k ≡ true → Linear C Γ → Linear C (bind Γ x k)
   linear-put C Γ x k m n I = record {
@@ -95,8 +65,8 @@ module _ {s : Side} where
       → Linear C (bind (take Γ l) x (qubit l))
   linear-held C Γ x l r u i f I = record {
     inside = λ y k h. ⊎-elim (λ c. subst (λ (p : Place s). C .inside p ≡ true) (same y k c h) i) (λ c. I .inside y k (sym c ∙ h)) (getD-set-cases (Γ .slots) x y (qubit l) unbound);
-    taken = λ y k h. ⊎-elim (λ c. rw (← (same y k c h)) off) (λ c. stays-false (Γ .free) (k .no) (l .no) (I .taken y k (sym c ∙ h))) (getD-set-cases (Γ .slots) x y (qubit l) unbound);
-    once = λ y z k m h h′ e. both y z k m h h′ e (getD-set-cases (Γ .slots) x y (qubit l) unbound) (getD-set-cases (Γ .slots) x z (qubit l) unbound);
+    taken = λ y k h. ⊎-elim (λ c. rw (← (same y k c h)) (getD-set-default (Γ .free) (l .no) false)) (λ c. getD-set-stays (Γ .free) (l .no) (k .no) false false (I .taken y k (sym c ∙ h))) (getD-set-cases (Γ .slots) x y (qubit l) unbound);
+    once = once-held (Γ .slots) x l (I .once) (λ y k h e. false≢true (sym (I .taken y k h) ∙ rw e f));
     covered = λ k j. found k (ℕ-discrete (k .no) (l .no)) (I .covered k j);
     sized = λ k j. let e = length-set (Γ .free) (l .no) false in let d = I .sized k j in omega arith;
     slots32 = length-set (Γ .slots) x (qubit l) ∙ I .slots32;
@@ -104,17 +74,6 @@ module _ {s : Side} where
     where
       same : (y : ℕ) (k : Place s) → (y ≡ x) × (slot (set (Γ .slots) x (qubit l)) y ≡ qubit l) → slot (set (Γ .slots) x (qubit l)) y ≡ qubit k → l ≡ k
       same y k c h = same-qubit _ l k (c .1) h
-
-      off : getD (set (Γ .free) (l .no) false) (l .no) false ≡ false
-      off = getD-set-same (Γ .free) (l .no) false false (true-in-range (Γ .free) (l .no) f)
-
-      both : (y z : ℕ) (k m : Place s) → slot (set (Γ .slots) x (qubit l)) y ≡ qubit k → slot (set (Γ .slots) x (qubit l)) z ≡ qubit m → k .no ≡ m .no
-          → ((y ≡ x) × (slot (set (Γ .slots) x (qubit l)) y ≡ qubit l)) ⊎ (slot (set (Γ .slots) x (qubit l)) y ≡ slot (Γ .slots) y)
-          → ((z ≡ x) × (slot (set (Γ .slots) x (qubit l)) z ≡ qubit l)) ⊎ (slot (set (Γ .slots) x (qubit l)) z ≡ slot (Γ .slots) z) → y ≡ z
-      both y z k m h h′ e (inl c) (inl d) = c .0 ∙ sym (d .0)
-      both y z k m h h′ e (inl c) (inr d) = absurd (false≢true (sym (I .taken z m (sym d ∙ h′)) ∙ rw (← e, ← (same y k c h)) f))
-      both y z k m h h′ e (inr c) (inl d) = absurd (false≢true (sym (I .taken y k (sym c ∙ h)) ∙ rw (e, ← (same z m d h′)) f))
-      both y z k m h h′ e (inr c) (inr d) = I .once y z k m (sym c ∙ h) (sym d ∙ h′) e
 
       found : (k : Place s) → Dec (k .no ≡ l .no) → (getD (Γ .free) (k .no) false ≡ true) ⊎ ((y : ℕ) × (slot (Γ .slots) y ≡ qubit k))
           → (getD (set (Γ .free) (l .no) false) (k .no) false ≡ true) ⊎ ((y : ℕ) × (slot (set (Γ .slots) x (qubit l)) y ≡ qubit k))
@@ -137,9 +96,7 @@ module _ {s : Side} where
       old y k h = old-qubit (Γ .slots) x y unbound k refl h
 
       other : (y : ℕ) (k : Place s) → slot (set (Γ .slots) x unbound) y ≡ qubit k → y ≡ x → ⊥
-      other y k h e =
-          let u : slot (set (Γ .slots) x unbound) y ≡ unbound = rw e (getD-set-same (Γ .slots) x unbound unbound (qubit-in-range (Γ .slots) x l p)) in
-          unbound-qubit _ k u h
+      other y k h e = unbound-qubit _ k (ap (λ (z : ℕ). slot (set (Γ .slots) x unbound) z) e ∙ getD-set-default (Γ .slots) x unbound) h
 
       found : (k : Place s) → Dec (k .no ≡ l .no) → (getD (Γ .free) (k .no) false ≡ true) ⊎ ((y : ℕ) × (slot (Γ .slots) y ≡ qubit k))
           → (getD (set (Γ .free) (l .no) true) (k .no) false ≡ true) ⊎ ((y : ℕ) × (slot (set (Γ .slots) x unbound) y ≡ qubit k))
@@ -164,8 +121,8 @@ module _ {s : Side} where
   linear-close C Γ Δ I = record {
     inside = λ x l h. I .inside x l (old x l h);
     taken = λ x l h. I .taken x l (old x l h);
-    once = λ x y l k h h′ e. I .once x y l k (old x l h) (old y k h′) e;
-    covered = λ l i. ⊎-elim inl (λ c. inr (c .0, narrowed-keeps (Γ .slots) (Δ .slots) (c .0) l (below (c .0) l (c .1)) (c .1))) (I .covered l i);
+    once = λ y z k m h h′ e. I .once y z k m (old y k h) (old z m h′) e;
+    covered = λ l i. ⊎-elim inl (λ c. inr (c .0, narrowed-keeps (Γ .slots) (Δ .slots) (c .0) l (in-range (c .0) l (c .1)) (c .1))) (I .covered l i);
     sized = I .sized;
     slots32 = length-narrowed (Γ .slots) (Δ .slots);
   }
@@ -173,12 +130,12 @@ module _ {s : Side} where
       old : (x : ℕ) (l : Place s) → slot (narrowed (Γ .slots) (Δ .slots)) x ≡ qubit l → slot (Δ .slots) x ≡ qubit l
       old x l h = narrowed-qubit (Γ .slots) (Δ .slots) x l h
 
-      below : (x : ℕ) (l : Place s) → slot (Δ .slots) x ≡ qubit l → x < 32
-      below x l h = let r = qubit-in-range (Δ .slots) x l h in let e = I .slots32 in omega arith
+      in-range : (x : ℕ) (l : Place s) → slot (Δ .slots) x ≡ qubit l → x < 32
+      in-range x l h = let r = qubit-in-range (Δ .slots) x l h in let e = I .slots32 in omega arith
 
 -- A call: what it leaves in a slot and at a place that it names, and in the others.
 module _ {s : Side} (C : Context s) (Γ : Env s) (g : Signature) (ls : List (Place s)) (xs : List ℕ) (N : Ends g) (k : length ls ≡ g .k) (m : length xs ≡ g .m)
-    (ins : all (C .inside) ls ≡ true) (u : distinct (map (λ l. l .no) ls) ≡ true) (w : distinct xs ≡ true) (a : Arguments Γ xs ls)
+    (ins : all (C .inside) ls ≡ true) (u : distinct (numbers ls) ≡ true) (w : distinct xs ≡ true) (a : Arguments Γ xs ls)
     (f : all (λ l. getD (Γ .free) (l .no) false) (drop (length xs) ls) ≡ true) (I : Linear C Γ) where
   abbrev left : List (Kind s)
   left = upTo 0 (g .m) λ i. kindAt ls (slot (g .ends .slots) i)
@@ -196,15 +153,10 @@ module _ {s : Side} (C : Context s) (Γ : Env s) (g : Signature) (ls : List (Pla
 
   pub call-place : (i : ℕ) → i < g .k → getD (substituted g ls xs Γ .free) (at ls i .no) false ≡ getD (g .ends .free) i false
   call-place i h =
-      let n : length (map (λ (l : Place s). l .no) ls) ≡ length ls = length-map ls (λ l. l .no) in
-      let e : getD (map (λ (l : Place s). l .no) ls) i 0 ≡ at ls i .no = number-at ls i in
-      let r : at ls i .no < length (Γ .free) = I .sized (at ls i) (all-at (C .inside) ls i ins (omega arith)) in
-      rw (← e) (stored-at (g .ends .free) (map (λ l. l .no) ls) (Γ .free) i false u (omega (arith, N .free-size)) (omega arith) (omega arith))
+      stored-place (g .ends .free) ls (Γ .free) i u (N .free-size ∙ sym k) (omega arith) (I .sized (at ls i) (all-at (C .inside) ls i ins (omega arith)))
 
   pub call-other-place : (l : Place s) → ((i : ℕ) → i < length ls → at ls i .no ≢ l .no) → getD (substituted g ls xs Γ .free) (l .no) false ≡ getD (Γ .free) (l .no) false
-  call-other-place l h =
-      let n : length (map (λ (l : Place s). l .no) ls) ≡ length ls = length-map ls (λ l. l .no) in
-      stored-other (g .ends .free) (map (λ l. l .no) ls) (Γ .free) (l .no) false (λ i j e. h i (omega arith) (sym (number-at ls i) ∙ e))
+  call-other-place l h = stored-other-place (g .ends .free) ls (Γ .free) l h
 
   -- a qubit after the call: its slot held it before, and an argument's slot has it because the callee kept it
   pub call-kept : (i : ℕ) (l : Place s) → i < g .m → slot (substituted g ls xs Γ .slots) (getD xs i 0) ≡ qubit l → (slot (g .ends .slots) i ≡ qubit (param i)) × (at ls i ≡ l)
@@ -230,7 +182,7 @@ module _ {s : Side} (C : Context s) (Γ : Env s) (g : Signature) (ls : List (Pla
     taken = λ y l h. off y l h (find-place ls l);
     once = λ y z l j h h′ e. I .once y z l j (call-old y l h) (call-old z j h′) e;
     covered = λ l i. found l (find-place ls l) (I .covered l i);
-    sized = λ l i. let e = length-stored (g .ends .free) (map (λ (p : Place s). p .no) ls) (Γ .free) in let d = I .sized l i in omega arith;
+    sized = λ l i. let e = length-stored (g .ends .free) (numbers ls) (Γ .free) in let d = I .sized l i in omega arith;
     slots32 = length-stored left xs (Γ .slots) ∙ I .slots32;
   }
     where
@@ -293,17 +245,17 @@ module _ {s : Side} (C : Context s) (Γ : Env s) (g : Signature) (ls : List (Pla
           (λ c. inr (goes i (omega arith) c, left-at i (omega arith) ∙ ap (λ (v : Kind parameter). kindAt ls v) c))
           (N .argument i (omega arith))
 
-      free-agree : stored (g .ends .free) (map (λ l. l .no) ls) (Γ .free) ≡ setAll true (map (λ l. l .no) (without stay ls)) (Γ .free)
+      free-agree : stored (g .ends .free) (numbers ls) (Γ .free) ≡ setAll true (numbers (without stay ls)) (Γ .free)
       free-agree =
-          let n : length (map (λ (l : Place s). l .no) ls) ≡ length ls = length-map ls (λ l. l .no) in
-          stored-agrees false true stay (g .ends .free) (map (λ l. l .no) ls) (Γ .free) u (omega (arith, N .free-size)) (λ i h. each i (omega arith) (decLt i (g .m)))
+          let n = length-numbers ls in
+          stored-agrees false true stay (g .ends .free) (numbers ls) (Γ .free) u (omega (arith, N .free-size)) (λ i h. each i (omega arith) (decLt i (g .m)))
           ∙ ap (λ (ns : List ℕ). setAll true ns (Γ .free)) (sym (map-without stay ls))
         where
           past : (i : ℕ) → g .m ≤ i → getD stay i true ≡ true
           past i h = let e : length stay ≡ g .m = length-upTo 0 (g .m) _ in List·getD-eq-default stay true (omega arith)
 
           each : (i : ℕ) → i < g .k → Dec (i < g .m)
-              → ((getD stay i true ≡ true) × (getD (g .ends .free) i false ≡ getD (Γ .free) (getD (map (λ l. l .no) ls) i 0) false)) ⊎ ((getD stay i true ≡ false) × (getD (g .ends .free) i false ≡ true))
+              → ((getD stay i true ≡ true) × (getD (g .ends .free) i false ≡ getD (Γ .free) (getD (numbers ls) i 0) false)) ⊎ ((getD stay i true ≡ false) × (getD (g .ends .free) i false ≡ true))
           each i h (yes d) = ⊎-elim
               (λ c. inl (stays i d c, N .kept-taken i d c ∙ sym (I .taken (getD xs i 0) (at ls i) (argument-at xs ls i a (omega arith))) ∙ ap (λ (n : ℕ). getD (Γ .free) n false) (sym (number-at ls i))))
               (λ c. inr (goes i d c, N .lost-free i d c))
@@ -314,12 +266,12 @@ module _ {s : Side} (C : Context s) (Γ : Env s) (g : Signature) (ls : List (Pla
 pub linear-callable : {s : Side} (C : Context s) (Γ : Env s) (f : ℕ) (ls : List (Place s)) (xs : List ℕ) → Callable C Γ f ls xs → AllEnd (C .functions) → Linear C Γ
     → Linear C (substituted (signature (C .functions) f) ls xs Γ)
 linear-callable C Γ f ls xs J H I =
-    linear-call C Γ (signature (C .functions) f) ls xs (ends-at (C .functions) f H (J .earlier)) (J .locations) (J .slots) (J .inside) (J .different) (J .different-slots) (J .arguments) (J .others-free) I
+    linear-call C Γ (signature (C .functions) f) ls xs (all-of-at Ends (C .functions) f H (J .earlier)) (J .locations) (J .slots) (J .inside) (J .different) (J .different-slots) (J .arguments) (J .others-free) I
 
 pub callable-agrees : {s : Side} (C : Context s) (Γ : Env s) (f : ℕ) (ls : List (Place s)) (xs : List ℕ) → Callable C Γ f ls xs → AllEnd (C .functions) → Linear C Γ
     → substituted (signature (C .functions) f) ls xs Γ ≡ afterCall (signature (C .functions) f) ls xs Γ
 callable-agrees C Γ f ls xs J H I =
-    call-agrees C Γ (signature (C .functions) f) ls xs (ends-at (C .functions) f H (J .earlier)) (J .locations) (J .slots) (J .inside) (J .different) (J .different-slots) (J .arguments) (J .others-free) I
+    call-agrees C Γ (signature (C .functions) f) ls xs (all-of-at Ends (C .functions) f H (J .earlier)) (J .locations) (J .slots) (J .inside) (J .different) (J .different-slots) (J .arguments) (J .others-free) I
 
 mutual
   pub linear-statement : {s : Side} (C : Context s) (S : Scope) (t : Statement s) {Γ Δ : Env s} {c : Commands s} {d o p : ℕ} → StatementRule C Γ t Δ c → StatementRead S d o p t
@@ -356,7 +308,7 @@ mutual
   free-length-statement C (op i a) (T-Op j) = free-length-op j
   free-length-statement C (if i y b b′) (T-If e j k) = free-length-block C b j
   free-length-statement C (while i y b) (T-While e j) = refl
-  free-length-statement C (call i f ls xs) (T-Call {Γ = Γ} J) = length-stored (signature (C .functions) f .ends .free) (map (λ l. l .no) ls) (Γ .free)
+  free-length-statement C (call i f ls xs) (T-Call {Γ = Γ} J) = length-stored (signature (C .functions) f .ends .free) (numbers ls) (Γ .free)
 
   pub free-length-statements : {s : Side} (C : Context s) (ts : Statements s) {Γ Δ : Env s} {c : Commands s} → StatementsRule C Γ ts Δ c → length (Δ .free) ≡ length (Γ .free)
   free-length-statements C done T-Unit = refl
@@ -371,19 +323,16 @@ block-qubit C (block i ts) (T-Close {Γ = Γ} {Δ = Δ} j e) x l h =
     let r : x < 32 = subst (λ (n : ℕ). x < n) (length-narrowed (Γ .slots) (Δ .slots)) (qubit-in-range (narrowed (Γ .slots) (Δ .slots)) x l h) in
     stays-qubit (Γ .slots) (Δ .slots) x l e r (narrowed-qubit (Γ .slots) (Δ .slots) x l h)
 
-pub block-argument : {s : Side} (C : Context s) (b : Block s) {Γ Δ : Env s} {c : Commands s} → BlockRule C Γ b Δ c → (x : ℕ) (l : Place s) → x < 32 → slot (Γ .slots) x ≡ qubit l
+pub block-argument : {s : Side} (C : Context s) (b : Block s) {Γ Δ : Env s} {c : Commands s} → BlockRule C Γ b Δ c → (x : ℕ) (l : Place s) → slot (Γ .slots) x ≡ qubit l
     → (slot (Δ .slots) x ≡ qubit l) ⊎ (slot (Δ .slots) x ≡ unbound)
-block-argument C (block i ts) (T-Close {Γ = Γ} {Δ = Δ} j e) x l r h = ⊎-elim
-    (λ q. inl (slot-narrowed (Γ .slots) (Δ .slots) x r ∙ q ∙ h))
-    (λ q. inr (slot-narrowed (Γ .slots) (Δ .slots) x r ∙ q .2))
-    (narrow-cases (slot (Γ .slots) x) (slot (Δ .slots) x) (all-stay-at (Γ .slots) (Δ .slots) x e r) (λ t. absurd (false≢true (sym (ap isClassical h) ∙ t))))
+block-argument C (block i ts) (T-Close {Γ = Γ} {Δ = Δ} j e) x l h = narrowed-home (Γ .slots) (Δ .slots) x l e h
 
 -- where bodies begin
 pub linear-start : (owned : List Bool) (gs : List Signature) → Linear (mainContext owned gs) (start owned)
 linear-start owned gs = record {
-  inside = λ x l h. unbound-qubit _ l (slot-none (Unit {0}) 32 x) h;
-  taken = λ x l h. unbound-qubit _ l (slot-none (Unit {0}) 32 x) h;
-  once = λ x y l k h h′ e. unbound-qubit _ l (slot-none (Unit {0}) 32 x) h;
+  inside = λ x l h. unbound-qubit _ l (getD-replicate-default 32 x unbound) h;
+  taken = λ x l h. unbound-qubit _ l (getD-replicate-default 32 x unbound) h;
+  once = λ x y l k h h′ e. unbound-qubit _ l (getD-replicate-default 32 x unbound) h;
   covered = λ l i. inl i;
   sized = λ l i. true-in-range owned (l .no) i;
   slots32 = refl;
@@ -391,11 +340,11 @@ linear-start owned gs = record {
 
 pub linear-entry : (gs : List Signature) (g : Function) → g .m ≤ g .k → g .m ≤ 32 → Linear (bodyContext gs g) (entry g)
 linear-entry gs g h r = record {
-  inside = λ x l e. let q = entry-qubit (g .m) x l e in T→eq _ (lt→ltb (l .no) (g .k) (omega (arith, ap (λ (p : Place parameter). p .no) (q .0), q .1)));
+  inside = λ x l e. let q = entry-qubit (g .m) x l e in is-below (l .no) (g .k) (omega (arith, ap (λ (p : Place parameter). p .no) (q .0), q .1));
   taken = λ x l e. let q = entry-qubit (g .m) x l e in entry-taken (g .m) (g .k - g .m) (l .no) (omega (arith, ap (λ (p : Place parameter). p .no) (q .0), q .1));
   once = λ x y l k e e′ w. let q = entry-qubit (g .m) x l e in let q′ = entry-qubit (g .m) y k e′ in omega (arith, ap (λ (p : Place parameter). p .no) (q .0), ap (λ (p : Place parameter). p .no) (q′ .0));
-  covered = λ l i. found l (ltb→lt (l .no) (g .k) (eq→T _ i)) (decLt (l .no) (g .m));
-  sized = λ l i. let n = length-entry (g .m) (g .k - g .m) in let k = ltb→lt (l .no) (g .k) (eq→T _ i) in omega arith;
+  covered = λ l i. found l (below (l .no) (g .k) i) (decLt (l .no) (g .m));
+  sized = λ l i. let n = length-entry (g .m) (g .k - g .m) in let k = below (l .no) (g .k) i in omega arith;
   slots32 = length-entered (Unit {0}) (upTo 0 (g .m) param) (let n : length (upTo 0 (g .m) param) ≡ g .m = length-upTo 0 (g .m) param in omega arith);
 }
   where
@@ -413,10 +362,10 @@ function-ends gs g S {Δ = Δ} h r H b j =
       arity = h;
       few = few;
       free-size = free-length-block (bodyContext gs g) (g .body) j ∙ length-entry (g .m) (g .k - g .m) ∙ omega arith;
-      argument = λ i k. block-argument (bodyContext gs g) (g .body) j i (param i) (omega arith) (entry-at (g .m) i k);
+      argument = λ i k. block-argument (bodyContext gs g) (g .body) j i (param i) (entry-at (g .m) i k);
       kept-taken = λ i k e. I .taken i (param i) e;
-      lost-free = λ i k e. ⊎-elim (λ f. f) (λ c. unbound-qubit _ (param i) e (ap (λ (x : ℕ). slot (Δ .slots) x) (home (c .0) i (c .1) .0) ∙ c .1)) (I .covered (param i) (T→eq _ (lt→ltb i (g .k) (omega arith))));
-      rest-free = λ i k e. ⊎-elim (λ f. f) (λ c. absurd (omega (arith, home (c .0) i (c .1) .1, k))) (I .covered (param i) (T→eq _ (lt→ltb i (g .k) e)));
+      lost-free = λ i k e. ⊎-elim (λ f. f) (λ c. unbound-qubit _ (param i) e (ap (λ (x : ℕ). slot (Δ .slots) x) (home (c .0) i (c .1) .0) ∙ c .1)) (I .covered (param i) (is-below i (g .k) (omega arith)));
+      rest-free = λ i k e. ⊎-elim (λ f. f) (λ c. absurd (omega (arith, home (c .0) i (c .1) .1, k))) (I .covered (param i) (is-below i (g .k) e));
     }
   where
     home : (x i : ℕ) → slot (Δ .slots) x ≡ qubit (param i) → (i ≡ x) × (i < g .m)
@@ -449,14 +398,14 @@ more-match gs fs g d M = record {
         → (signature (signatureOf g d ∷ gs) f .k ≡ function (fs ++ (g ∷ [])) f .k) × (signature (signatureOf g d ∷ gs) f .m ≡ function (fs ++ (g ∷ [])) f .m)
     each f h (yes e) =
         let last : function (fs ++ (g ∷ [])) f ≡ g = ap (λ (n : ℕ). function (fs ++ (g ∷ [])) n) (e ∙ M .count) ∙ getD-append-seam fs g [] _ in
-        let t : eqb f (length gs) ≡ true = ap (λ (n : ℕ). eqb n (length gs)) e ∙ eqb-same (length gs) in
-        (rw (t, last), rw (t, last))
+        let newest = signature-newest (signatureOf g d) gs f e in
+        (rw (newest, last), rw (newest, last))
     each f h (no e) =
         let n = length-append fs (g ∷ []) in
         let r : f < length fs = omega (arith, M .count) in
         let old : function (fs ++ (g ∷ [])) f ≡ function fs f = List·getD-append fs (g ∷ []) _ f r in
-        let t : eqb f (length gs) ≡ false = eqb-other f (length gs) e in
-        (rw (t, old) (M .same-k f r), rw (t, old) (M .same-m f r))
+        let older = signature-older (signatureOf g d) gs f (omega (arith, M .count)) in
+        (rw (older, old) (M .same-k f r), rw (older, old) (M .same-m f r))
 
 pub functions-match : (fs earlier : List Function) {gs hs : List Signature} → FunctionsRule fs gs hs → Matches gs earlier → Matches hs (earlier ++ fs)
 functions-match [] earlier {gs = gs} T-NoFun M = subst (λ (es : List Function). Matches gs es) (sym (append-nil earlier)) M

@@ -3,30 +3,27 @@
 -- places, and the return leaves it just those that the callee still holds there. So a moved init takes a free location and a moved free gives back
 -- one of the job's.
 use mathlib.Core.Path.{_≡_, refl, sym, ap, subst, _∙_}
-use mathlib.Core.List.{List, [], _∷_, _++_, map}
+use mathlib.Core.List.{List, [], _∷_, _++_, map, append-nil}
 use mathlib.Core.Logic.{_≢_, _⊎_, inl, inr, ⊎-elim}
-use mathlib.Core.Bool.{Bool, true, false, not, _&&_, _||_, false≢true}
-use Prim.Native.Nat.{ℕ, zero, suc, _+_, _-_, _≤_, _<_}
+use mathlib.Core.Bool.{Bool, true, false, _&&_, false≢true}
+use Prim.Native.Nat.{ℕ, zero, suc, _+_, _≤_, _<_}
 use lib.Dec.{eqb}
-use lib.ListN.{getD, set, length, take, drop, replicate, length-set}
-use lib.Seq.{getD-set-same, getD-set-other}
+use lib.ListN.{getD, set, length, take, drop, length-append, length-map, List·getD-append, List·getD-eq-default}
+use lib.Seq.{getD-set-same, getD-set-other, getD-take, length-take-le, getD-append-seam, append-snoc}
 use native.Mathlib.Decide.{ℕ-discrete, decLt}
 use native.Mathlib.Omega.{arith}
 use Rattle.answers.specs.Check.{Check, ok, refused}
-use Rattle.answers.proofs.Laws.{Holds, not-ok, by, holds-bind, holds-then, holds-need, holds-map}
-use Rattle.rules.specs.Basics.{chosen, all, any, upTo, without, setAll, distinct}
+use Rattle.answers.proofs.Laws.{Holds, by, holds-bind, holds-then, holds-need, holds-map, holds-any}
+use Rattle.rules.specs.Basics.{all, upTo, without, setAll, distinct}
 use Rattle.rules.specs.Region.{Region, owns, freeIn}
 use Rattle.rules.specs.Syntax.{Side, device, parameter, Place, at, Op, init, free, gate, measure, merge, newRef, getRef, setRef, constant, Statement, op, if, while, call, Statements, done, _⨾_, Block, block, Function, function, Program}
-use Rattle.rules.specs.Slots.{Slot, unbound, qubit, bool, ref, slot, needQubit, holdsNoQubit, isQubitAt, Act, quiet, takes, gives, merges, Done, perform, argumentsAt, entered, kept}
+use Rattle.rules.specs.Slots.{Slot, unbound, qubit, bool, ref, slot, holdsNoQubit, isQubitAt, Act, quiet, takes, gives, merges, Done, perform, argumentsAt, entered, kept}
 use Rattle.rules.specs.Machine.{Frame, Actual, themselves, locations, locate, Item, run, return, Job, statementsBefore, blockBefore, fresh, Move, floor, move, stepped, stepItems, step}
 use Rattle.rules.specs.Run.{written}
 use Rattle.rules.specs.Program.{Scope}
 use Rattle.theory.specs.WellRead.{OpRead, CallRead, StatementRead, op-read, if-read, while-read, call-read, StatementsRead, next-read, BlockRead, block-read, FunctionsRead, function-read, ProgramRead}
-use Rattle.theory.proofs.Base.{getD-set-cases, eqb-true, eqb-same, and-left, and-right}
-
-any-check : {A : Type 0} (m : Check A) → Holds (λ a. Unit {0}) m
-any-check (ok a) = by tt
-any-check (refused r) = not-ok
+use Rattle.theory.proofs.Base.{eqb-true, and-left, and-right, chosen-has, true-in-range, getD-set-cases, getD-set-stays, getD-set-default, getD-replicate-default}
+use Rattle.theory.proofs.Places.{find, place-path, numbers, drop-at, at-map, distinct-places, unbound-qubit, same-qubit, old-qubit, qubit-held, Once, once-held, entered-qubit}
 
 -- 1. Places in scope, as reading gives them: a place named is below the body's number of places, a call names as many as its callee has and no more
 -- arguments than that.
@@ -98,43 +95,21 @@ module _ (fs : List Function) (few : (f : ℕ) → function fs f .m ≤ function
     scoped-block : {s : Side} (S : Scope) → Within S fs → (b : Block s) {d o p : ℕ} → BlockRead S d o p b → ScopedBlock fs (S .places) b
     scoped-block S w (block o ts) (block-read r) = scoped-all S w ts r
 
--- each function of the program, and `function` beyond them
+-- a function whose body is in scope
 abbrev Good : List Function → Function → Type 0
 Good fs g = ScopedBlock fs (g .k) (g .body)
-
-append-one : (fs gs : List Function) (g : Function) → (fs ++ (g ∷ [])) ++ gs ≡ fs ++ (g ∷ gs)
-append-one [] gs g = refl
-append-one (f ∷ fs) gs g = ap (λ r. f ∷ r) (append-one fs gs g)
-
-length-one : (fs : List Function) (g : Function) → length (fs ++ (g ∷ [])) ≡ suc (length fs)
-length-one [] g = refl
-length-one (f ∷ fs) g = ap suc (length-one fs g)
-
-at-middle : (fs gs : List Function) (g : Function) → function (fs ++ (g ∷ gs)) (length fs) ≡ g
-at-middle [] gs g = refl
-at-middle (f ∷ fs) gs g = at-middle fs gs g
-
-at-first : (fs gs : List Function) (f : ℕ) → f < length fs → function fs f ≡ function (fs ++ gs) f
-at-first [] gs f h = absurd (omega arith)
-at-first (g ∷ fs) gs zero h = refl
-at-first (g ∷ fs) gs (suc f) h = at-first fs gs f (omega arith)
-
-at-end : (fs : List Function) (f : ℕ) → length fs ≤ f → function (fs ++ []) f ≡ record { k = 0; m = 0; body = block 0 done }
-at-end [] f h = refl
-at-end (g ∷ fs) zero h = absurd (omega arith)
-at-end (g ∷ fs) (suc f) h = at-end fs f (omega arith)
 
 -- what each function from the first of gs on has, the whole row has from there on
 from-here : (P : Function → Type 0) → P (record { k = 0; m = 0; body = block 0 done }) → (gs fs : List Function) {o q : ℕ} → FunctionsRead fs o gs q
     → ((hs is : List Function) (g : Function) (o p : ℕ) → fs ++ gs ≡ hs ++ (g ∷ is) → g .m ≤ g .k → BlockRead (record { places = g .k; earlier = hs }) 8 o p (g .body) → P g)
     → (f : ℕ) → length fs ≤ f → P (function (fs ++ gs) f)
-from-here P z [] fs r each f h = rw (at-end fs f h) z
+from-here P z [] fs r each f h = subst P (sym (ap (λ (hs : List Function). function hs f) (append-nil fs) ∙ List·getD-eq-default fs _ h)) z
 from-here P z (g ∷ gs) fs (function-read {o = o} {p = p} a b c r rest) each f h =
-    go (ℕ-discrete f (length fs)) (λ h′. from-here P z gs (fs ++ (g ∷ [])) rest (λ hs is k o′ p′ e. each hs is k o′ p′ (sym (append-one fs gs g) ∙ e)) f h′)
+    go (ℕ-discrete f (length fs)) (λ h′. from-here P z gs (fs ++ (g ∷ [])) rest (λ hs is k o′ p′ e. each hs is k o′ p′ (sym (append-snoc fs g gs) ∙ e)) f h′)
   where
     go : Dec (f ≡ length fs) → (length (fs ++ (g ∷ [])) ≤ f → P (function ((fs ++ (g ∷ [])) ++ gs) f)) → P (function (fs ++ (g ∷ gs)) f)
-    go (yes e) next = rw (e, at-middle fs gs g) (each fs gs g (o + 2) p refl c r)
-    go (no n) next = let l = length-one fs g in subst (λ (hs : List Function). P (function hs f)) (append-one fs gs g) (next (omega arith))
+    go (yes e) next = rw (e, getD-append-seam fs g gs _) (each fs gs g (o + 2) p refl c r)
+    go (no n) next = let l = length-append fs (g ∷ []) in subst (λ (hs : List Function). P (function hs f)) (append-snoc fs g gs) (next (omega arith))
 
 module _ (p : Program) {size : ℕ} (r : ProgramRead size p) where
   few-arguments : (f : ℕ) → function (p .functions) f .m ≤ function (p .functions) f .k
@@ -144,126 +119,18 @@ module _ (p : Program) {size : ℕ} (r : ProgramRead size p) where
   bodies-scoped f =
       from-here (Good (p .functions)) tt (p .functions) [] (r .functions)
       (λ hs is g o q e h b. scoped-block (p .functions) few-arguments (record { places = g .k; earlier = hs })
-      (λ i l. at-first hs (g ∷ is) i l ∙ ap (λ (fs : List Function). function fs i) (sym e)) (g .body) b)
+      (λ i l. sym (List·getD-append hs (g ∷ is) _ i l) ∙ ap (λ (fs : List Function). function fs i) (sym e)) (g .body) b)
       f (omega arith)
 
   pub main-scoped : ScopedBlock (p .functions) 256 (p .main)
   main-scoped = scoped-block (p .functions) few-arguments (record { places = 256; earlier = p .functions }) (λ i l. refl) (p .main) (r .main)
 
--- 2. Small facts on lists and slots
-not-both : (b : Bool) → not b ≡ true → b ≡ true → ⊥
-not-both true h k = false≢true h
-not-both false h k = false≢true k
-
-or-right : (a b : Bool) → b ≡ true → (a || b) ≡ true
-or-right true b h = refl
-or-right false b h = h
-
-module _ {s : Side} where
-  place-path : (p q : Place s) → p .no ≡ q .no → p ≡ q
-  place-path p q e = λ i. record { no = e i }
-
-  all-at : (f : Place s → Bool) (ls : List (Place s)) (i : ℕ) → all f ls ≡ true → i < length ls → f (at ls i) ≡ true
-  all-at f [] i h k = absurd (omega arith)
-  all-at f (l ∷ ls) zero h k = and-left _ _ h
-  all-at f (l ∷ ls) (suc i) h k = all-at f ls i (and-right (f l) _ h) (omega arith)
-
-  drop-at : (f : Place s → Bool) (m : ℕ) (ls : List (Place s)) (i : ℕ) → all f (drop m ls) ≡ true → m ≤ i → i < length ls → f (at ls i) ≡ true
-  drop-at f zero ls i h j k = all-at f ls i h k
-  drop-at f (suc m) [] i h j k = absurd (omega arith)
-  drop-at f (suc m) (l ∷ ls) zero h j k = absurd (omega arith)
-  drop-at f (suc m) (l ∷ ls) (suc i) h j k = drop-at f m ls i h (omega arith) (omega arith)
-
-  any-at : (ls : List (Place s)) (i : ℕ) → i < length ls → any (eqb (at ls i .no)) (map (λ l. l .no) ls) ≡ true
-  any-at [] i k = absurd (omega arith)
-  any-at (l ∷ ls) zero k = rw (eqb-same (l .no))
-  any-at (l ∷ ls) (suc i) k = or-right (eqb (at ls i .no) (l .no)) _ (any-at ls i (omega arith))
-
-  distinct-at : (ls : List (Place s)) (i j : ℕ) → distinct (map (λ l. l .no) ls) ≡ true → i < length ls → j < length ls → at ls i .no ≡ at ls j .no → i ≡ j
-  distinct-at [] i j h k m e = absurd (omega arith)
-  distinct-at (l ∷ ls) zero zero h k m e = refl
-  distinct-at (l ∷ ls) zero (suc j) h k m e = absurd (not-both (any (eqb (l .no)) (map (λ l. l .no) ls)) (and-left _ _ h) (rw e (any-at ls j (omega arith))))
-  distinct-at (l ∷ ls) (suc i) zero h k m e = absurd (not-both (any (eqb (l .no)) (map (λ l. l .no) ls)) (and-left _ _ h) (rw (← e) (any-at ls i (omega arith))))
-  distinct-at (l ∷ ls) (suc i) (suc j) h k m e = ap suc (distinct-at ls i j (and-right (not (any (eqb (l .no)) (map (λ l. l .no) ls))) _ h) (omega arith) (omega arith) e)
-
-  map-at : (σ : Actual s) (ls : List (Place s)) (i : ℕ) → i < length ls → at (map (locate σ) ls) i ≡ locate σ (at ls i)
-  map-at σ [] i h = absurd (omega arith)
-  map-at σ (l ∷ ls) zero h = refl
-  map-at σ (l ∷ ls) (suc i) h = map-at σ ls i (omega arith)
-
-  length-located : (σ : Actual s) (ls : List (Place s)) → length (map (locate σ) ls) ≡ length ls
-  length-located σ [] = refl
-  length-located σ (l ∷ ls) = ap suc (length-located σ ls)
-
-nonzero-in-range : (occ : List ℕ) (l : ℕ) → 1 ≤ getD occ l 0 → l < length occ
-nonzero-in-range [] l h = absurd (omega arith)
-nonzero-in-range (b ∷ occ) zero h = omega arith
-nonzero-in-range (b ∷ occ) (suc l) h = let k = nonzero-in-range occ l h in omega arith
-
-owns-in-range : (ws : List Bool) (l : ℕ) → getD ws l false ≡ true → l < length ws
-owns-in-range [] l h = absurd (false≢true h)
-owns-in-range (b ∷ ws) zero h = omega arith
-owns-in-range (b ∷ ws) (suc l) h = let k = owns-in-range ws l h in omega arith
-
-qubit-in-range : (φ : Frame) (x : ℕ) (l : Place device) → slot φ x ≡ qubit l → x < length φ
-qubit-in-range [] x l h = let z : _≡_ {A = ℕ} 0 1 = cc in absurd (omega arith)
-qubit-in-range (v ∷ φ) zero l h = omega arith
-qubit-in-range (v ∷ φ) (suc x) l h = let k = qubit-in-range φ x l h in omega arith
-
--- a store of what is no qubit leaves only qubits that were there
-old-qubit : (φ : Frame) (x y : ℕ) (k : Slot device Bool) (l : Place device) → holdsNoQubit k ≡ true → slot (set φ x k) y ≡ qubit l → slot φ y ≡ qubit l
-old-qubit φ x y k l n h = ⊎-elim (λ c. absurd (false≢true (sym (ap holdsNoQubit (sym (c .1) ∙ h)) ∙ n))) (λ c. sym c ∙ h) (getD-set-cases φ x y k unbound)
-
-unset : (φ : Frame) (x : ℕ) (l : Place device) → slot (set φ x unbound) x ≡ qubit l → ⊥
-unset φ x l h = go (decLt x (length φ))
-  where
-    go : Dec (x < length φ) → ⊥
-    go (yes d) = let e = getD-set-same φ x unbound unbound d in let z : _≡_ {A = ℕ} 0 1 = cc in omega arith
-    go (no d) = let m = qubit-in-range (set φ x unbound) x l h in omega (arith, length-set φ x unbound)
-
-qubit-held : (v : Slot device Bool) (o : ℕ) → Holds (λ l. v ≡ qubit l) (needQubit v o)
-qubit-held unbound o = not-ok
-qubit-held (qubit l) o = by refl
-qubit-held (bool b) o = not-ok
-qubit-held (ref b) o = not-ok
-
+-- 2. Slots: one that a test finds to hold a qubit, and a caller's after a return
 qubit-is : (v : Slot device Bool) (p : Place device) → isQubitAt v p ≡ true → (l : Place device) × (v ≡ qubit l) × (l .no ≡ p .no)
 qubit-is unbound p h = absurd (false≢true h)
 qubit-is (qubit k) p h = (k, refl, eqb-true (k .no) (p .no) h)
 qubit-is (bool b) p h = absurd (false≢true h)
 qubit-is (ref b) p h = absurd (false≢true h)
-
--- a number is among the arguments or not
-find : (xs : List ℕ) (y : ℕ) → ((i : ℕ) × (i < length xs) × (getD xs i 0 ≡ y)) ⊎ ((i : ℕ) → i < length xs → getD xs i 0 ≢ y)
-find [] y = inr (λ i h. absurd (omega arith))
-find (x ∷ xs) y = go (ℕ-discrete x y) (find xs y)
-  where
-    more : x ≢ y → ((i : ℕ) → i < length xs → getD xs i 0 ≢ y) → (i : ℕ) → i < suc (length xs) → getD (x ∷ xs) i 0 ≢ y
-    more n f zero h = n
-    more n f (suc i) h = f i (omega arith)
-
-    go : Dec (x ≡ y) → ((i : ℕ) × (i < length xs) × (getD xs i 0 ≡ y)) ⊎ ((i : ℕ) → i < length xs → getD xs i 0 ≢ y)
-        → ((i : ℕ) × (i < suc (length xs)) × (getD (x ∷ xs) i 0 ≡ y)) ⊎ ((i : ℕ) → i < suc (length xs) → getD (x ∷ xs) i 0 ≢ y)
-    go (yes e) r = inl (0, omega arith, e)
-    go (no e) (inl r) = inl (suc (r .0), omega (arith, r .1), r .2)
-    go (no e) (inr r) = inr (more e r)
-
--- what a callee's fresh frame holds
-no-qubit-there : (r x : ℕ) (l : Place device) → slot (replicate {A = Slot device Bool} r unbound) x ≡ qubit l → ⊥
-no-qubit-there zero x l h = let z : _≡_ {A = ℕ} 0 1 = cc in omega arith
-no-qubit-there (suc r) zero l h = let z : _≡_ {A = ℕ} 0 1 = cc in omega arith
-no-qubit-there (suc r) (suc x) l h = no-qubit-there r x l h
-
-at-entered : (ls : List (Place device)) (r x : ℕ) (l : Place device) → slot {B = Bool} (map qubit ls ++ replicate r unbound) x ≡ qubit l → (l ≡ at ls x) × (x < length ls)
-at-entered [] r x l h = absurd (no-qubit-there r x l h)
-at-entered (k ∷ ls) r zero l h = let q : l ≡ k = cc in (q, omega arith)
-at-entered (k ∷ ls) r (suc x) l h = let q = at-entered ls r x l h in (q .0, omega (arith, q .1))
-
-take-at : (m : ℕ) (ls : List (Place device)) (x : ℕ) → x < length (take m ls) → (at (take m ls) x ≡ at ls x) × (x < m)
-take-at zero ls x h = absurd (omega arith)
-take-at (suc m) [] x h = absurd (omega arith)
-take-at (suc m) (l ∷ ls) zero h = (refl, omega arith)
-take-at (suc m) (l ∷ ls) (suc x) h = let q = take-at m ls x (omega arith) in (q .0, omega (arith, q .1))
 
 -- what a caller's frame holds after a return: only what it held, and of the arguments only what the callee ended with
 set-all-old : (ns : List ℕ) (φ : Frame) (y : ℕ) (l : Place device) → slot (setAll unbound ns φ) y ≡ qubit l → slot φ y ≡ qubit l
@@ -277,7 +144,7 @@ back-kept p (x ∷ xs) φ i zero l h k = let z : i + 0 ≡ i = omega arith in rw
   where
     go : (t : Bool) → p i ≡ t → slot (setAll unbound (without (t ∷ upTo (suc i) (length xs) p) (x ∷ xs)) φ) x ≡ qubit l → p i ≡ true
     go true e h = e
-    go false e h = absurd (unset (setAll unbound (without (upTo (suc i) (length xs) p) xs) φ) x l h)
+    go false e h = unbound-qubit _ l (getD-set-default (setAll unbound (without (upTo (suc i) (length xs) p) xs) φ) x unbound) h
 back-kept p (x ∷ xs) φ i (suc j) l h k = let z : i + suc j ≡ suc i + j = omega arith in rw z (back-kept p xs φ (suc i) j l (go (p i) h) (omega arith))
   where
     go : (t : Bool) → slot (setAll unbound (without (t ∷ upTo (suc i) (length xs) p) (x ∷ xs)) φ) (getD xs j 0) ≡ qubit l
@@ -286,10 +153,6 @@ back-kept p (x ∷ xs) φ i (suc j) l h k = let z : i + suc j ≡ suc i + j = om
     go false h = old-qubit (setAll unbound (without (upTo (suc i) (length xs) p) xs) φ) x (getD xs j 0) unbound l refl h
 
 -- 3. The invariant
--- no two slots hold one location
-abbrev pub Once : Frame → Type 0
-Once φ = (x y : ℕ) (l k : Place device) → slot φ x ≡ qubit l → slot φ y ≡ qubit k → l .no ≡ k .no → x ≡ y
-
 -- The body on top: its qubits sit on the job's locations of its own places, no two on one
 pub record Tidy {s : Side} (j : ℕ) (occ : List ℕ) (σ : Actual s) (size : ℕ) (φ : Frame) : Type 0 where
   pub held : (x : ℕ) (l : Place device) → slot φ x ≡ qubit l → (p : Place s) × (p .no < size) × (locate σ p ≡ l)
@@ -336,7 +199,7 @@ abbrev pub Keeps : ℕ → List ℕ → List ℕ → Type 0
 Keeps j occ occ′ = (l : ℕ) → getD occ l 0 ≡ j → getD occ′ l 0 ≡ j
 
 keeps-take : (j : ℕ) (occ : List ℕ) (t : ℕ) → Keeps j occ (set occ t j)
-keeps-take j occ t l h = ⊎-elim (λ c. c .1) (λ c. c ∙ h) (getD-set-cases occ t l j 0)
+keeps-take j occ t l h = getD-set-stays occ t l j 0 h
 
 module _ {j : ℕ} where
   tidy-keep : {occ occ′ : List ℕ} {s : Side} {σ : Actual s} {n : ℕ} {φ : Frame} → Keeps j occ occ′ → Tidy j occ σ n φ → Tidy j occ′ σ n φ
@@ -416,25 +279,17 @@ module _ {j : ℕ} {s : Side} {σ : Actual s} {size : ℕ} where
     held = λ y k h. ⊎-elim (λ c. (p, r, same y k c h)) (λ c. T .held y k (sym c ∙ h)) (getD-set-cases φ x y (qubit (locate σ p)) unbound);
     taken = λ y k h. ⊎-elim (λ c. rw (← (same y k c h)) (getD-set-same occ (locate σ p .no) j 0 w)) (λ c. keeps-take j occ (locate σ p .no) (k .no) (T .taken y k (sym c ∙ h)))
         (getD-set-cases φ x y (qubit (locate σ p)) unbound);
-    once = λ y z k m h h′ e. both y z k m h h′ e (getD-set-cases φ x y (qubit (locate σ p)) unbound) (getD-set-cases φ x z (qubit (locate σ p)) unbound);
+    once = once-held φ x (locate σ p) (T .once) not-there;
   }
     where
       same : (y : ℕ) (k : Place device) → (y ≡ x) × (slot (set φ x (qubit (locate σ p))) y ≡ qubit (locate σ p)) → slot (set φ x (qubit (locate σ p))) y ≡ qubit k → locate σ p ≡ k
-      same y k c h = let e = c .1 in cc
+      same y k c h = same-qubit _ (locate σ p) k (c .1) h
 
-      not-there : (y : ℕ) (k m : Place device) → locate σ p ≡ k → slot φ y ≡ qubit m → k .no ≡ m .no → ⊥
-      not-there y k m a h e =
-          let t : getD occ (m .no) 0 ≡ j = T .taken y m h in
-          let z : getD occ (m .no) 0 ≡ 0 = ap (λ (n : ℕ). getD occ n 0) (sym (ap (λ (l : Place device). l .no) a ∙ e)) ∙ f in
+      not-there : (y : ℕ) (k : Place device) → slot φ y ≡ qubit k → k .no ≢ locate σ p .no
+      not-there y k h e =
+          let t : getD occ (k .no) 0 ≡ j = T .taken y k h in
+          let z : getD occ (k .no) 0 ≡ 0 = rw e f in
           omega arith
-
-      both : (y z : ℕ) (k m : Place device) → slot (set φ x (qubit (locate σ p))) y ≡ qubit k → slot (set φ x (qubit (locate σ p))) z ≡ qubit m → k .no ≡ m .no
-          → ((y ≡ x) × (slot (set φ x (qubit (locate σ p))) y ≡ qubit (locate σ p))) ⊎ (slot (set φ x (qubit (locate σ p))) y ≡ slot φ y)
-          → ((z ≡ x) × (slot (set φ x (qubit (locate σ p))) z ≡ qubit (locate σ p))) ⊎ (slot (set φ x (qubit (locate σ p))) z ≡ slot φ z) → y ≡ z
-      both y z k m h h′ e (inl c) (inl d) = c .0 ∙ sym (d .0)
-      both y z k m h h′ e (inl c) (inr d) = absurd (not-there z k m (same y k c h) (sym d ∙ h′) e)
-      both y z k m h h′ e (inr c) (inl d) = absurd (not-there y m k (same z m d h′) (sym c ∙ h) (sym e))
-      both y z k m h h′ e (inr c) (inr d) = T .once y z k m (sym c ∙ h) (sym d ∙ h′) e
 
   -- the other qubits are on other locations
   tidy-give : {occ : List ℕ} {φ : Frame} (x : ℕ) (l : Place device) → slot φ x ≡ qubit l → Tidy j occ σ size φ → Tidy j (set occ (l .no) 0) σ size (set φ x unbound)
@@ -448,11 +303,11 @@ module _ {j : ℕ} {s : Side} {σ : Actual s} {size : ℕ} where
       old y k h = old-qubit φ x y unbound k refl h
 
       other : (y : ℕ) (k : Place device) → slot (set φ x unbound) y ≡ qubit k → y ≡ x → ⊥
-      other y k h e = unset φ x k (subst (λ (z : ℕ). slot (set φ x unbound) z ≡ qubit k) e h)
+      other y k h e = unbound-qubit _ k (ap (λ (z : ℕ). slot (set φ x unbound) z) e ∙ getD-set-default φ x unbound) h
 
 -- what is free to a job has byte 0, and is on the map
 free-there : (R : Region) (occ : List ℕ) (l : ℕ) → length (R .owned) ≡ length occ → freeIn R occ l ≡ true → (getD occ l 0 ≡ 0) × (l < length occ)
-free-there R occ l e h = (eqb-true (getD occ l 0) 0 (and-right (owns R l) _ h), omega (arith, owns-in-range (R .owned) l (and-left (owns R l) _ h)))
+free-there R occ l e h = (eqb-true (getD occ l 0) 0 (and-right (owns R l) _ h), omega (arith, true-in-range (R .owned) l (and-left (owns R l) _ h)))
 
 -- 6. The moves of job j
 module _ (R : Region) (fs : List Function) (bodies : (f : ℕ) → ScopedBlock fs (function fs f .k) (function fs f .body)) (v : Bool) (j : ℕ) (pos : 1 ≤ j) (occ : List ℕ)
@@ -463,20 +318,20 @@ module _ (R : Region) (fs : List Function) (bodies : (f : ℕ) → ScopedBlock f
   neat-op : {s : Side} {σ : Actual s} {n : ℕ} {φ : Frame} {φs : List Frame} {is : List Item} (o : ℕ) (a : Op s) → ScopedOp n a → Tidy j occ σ n φ → Stack fs j occ s σ n φs is
       → Holds (OpNeat σ n φs is) (perform (floor R fs v (freeIn R occ) σ) o φ a)
   neat-op {σ = σ} o (init q x l) c T S =
-      holds-then (any-check _) λ _ _. holds-then (any-check _) λ _ _. holds-then (holds-need (freeIn R occ (locate σ l .no)) 14 o) λ _ f.
+      holds-then (holds-any _) λ _ _. holds-then (holds-any _) λ _ _. holds-then (holds-need (freeIn R occ (locate σ l .no)) 14 o) λ _ f.
       let g = free-there R occ (locate σ l .no) fits f in
       by (g, tidy-take x l pos c (g .0) (g .1) T, stack-keep (keeps-take j occ (locate σ l .no)) S)
   neat-op {s = s} {σ = σ} {n = n} {φ = φ} {φs = φs} {is = is} o (free x) c T S = holds-bind (qubit-held (slot φ x) o) λ l p.
       let h = T .held x l p in
       by (T .taken x l p, tidy-give x l p T, subst (λ (k : Place device). Stack fs j (set occ (k .no) 0) s σ n φs is) (h .2) (stack-give (h .0) (h .1) S))
-  neat-op o (gate g x) c T S = holds-bind (any-check _) λ _ _. by (tt, T, S)
-  neat-op o (measure y b x) c T S = holds-then (any-check _) λ _ _. holds-bind (any-check _) λ _ _. by (tt, tidy-store y (bool v) refl T, S)
+  neat-op o (gate g x) c T S = holds-bind (holds-any _) λ _ _. by (tt, T, S)
+  neat-op o (measure y b x) c T S = holds-then (holds-any _) λ _ _. holds-bind (holds-any _) λ _ _. by (tt, tidy-store y (bool v) refl T, S)
   neat-op o (merge y b x e z) c T S =
-      holds-then (any-check _) λ _ _. holds-bind (any-check _) λ _ _. holds-bind (any-check _) λ _ _. holds-then (any-check _) λ _ _. by (tt, tidy-store y (bool v) refl T, S)
-  neat-op o (newRef r y) c T S = holds-then (any-check _) λ _ _. holds-bind (any-check _) λ b _. by (tt, tidy-store r (ref b) refl T, S)
-  neat-op o (getRef y r) c T S = holds-then (any-check _) λ _ _. holds-bind (any-check _) λ b _. by (tt, tidy-store y (bool b) refl T, S)
-  neat-op o (setRef r y) c T S = holds-bind (any-check _) λ _ _. holds-bind (any-check _) λ b _. by (tt, tidy-store r (ref b) refl T, S)
-  neat-op o (constant y u) c T S = holds-then (any-check _) λ _ _. by (tt, tidy-store y (bool u) refl T, S)
+      holds-then (holds-any _) λ _ _. holds-bind (holds-any _) λ _ _. holds-bind (holds-any _) λ _ _. holds-then (holds-any _) λ _ _. by (tt, tidy-store y (bool v) refl T, S)
+  neat-op o (newRef r y) c T S = holds-then (holds-any _) λ _ _. holds-bind (holds-any _) λ b _. by (tt, tidy-store r (ref b) refl T, S)
+  neat-op o (getRef y r) c T S = holds-then (holds-any _) λ _ _. holds-bind (holds-any _) λ b _. by (tt, tidy-store y (bool b) refl T, S)
+  neat-op o (setRef r y) c T S = holds-bind (holds-any _) λ _ _. holds-bind (holds-any _) λ b _. by (tt, tidy-store r (ref b) refl T, S)
+  neat-op o (constant y u) c T S = holds-then (holds-any _) λ _ _. by (tt, tidy-store y (bool u) refl T, S)
 
   -- a call's arguments are qubits at the call's first locations
   arguments-there : {s : Side} (σ : Actual s) (o : ℕ) (φ : Frame) (xs : List ℕ) (ls : List (Place device)) → length xs ≤ length ls
@@ -494,25 +349,26 @@ module _ (R : Region) (fs : List Function) (bodies : (f : ℕ) → ScopedBlock f
 
   -- a call that was let through
   module _ {s : Side} (σ : Actual s) (n k : ℕ) (φ : Frame) (ls : List (Place s)) (xs : List ℕ) (T : Tidy j occ σ n φ) (c : ScopedCall k n ls xs)
-      (q : distinct (map (λ l. l .no) (map (locate σ) ls)) ≡ true) (a : (i : ℕ) → i < length xs → slot φ (getD xs i 0) ≡ qubit (at (map (locate σ) ls) i))
+      (q : distinct (numbers (map (locate σ) ls)) ≡ true) (a : (i : ℕ) → i < length xs → slot φ (getD xs i 0) ≡ qubit (at (map (locate σ) ls) i))
       (w : all (λ l. freeIn R occ (l .no)) (drop (length xs) (map (locate σ) ls)) ≡ true) where
     rest-free : (i : ℕ) → length xs ≤ i → i < length ls → getD occ (at (map (locate σ) ls) i .no) 0 ≡ 0
-    rest-free i h r = free-there R occ (at (map (locate σ) ls) i .no) fits (drop-at (λ l. freeIn R occ (l .no)) (length xs) (map (locate σ) ls) i w h (omega (arith, length-located σ ls))) .0
+    rest-free i h r = free-there R occ (at (map (locate σ) ls) i .no) fits (drop-at (λ l. freeIn R occ (l .no)) (length xs) (map (locate σ) ls) i w h (omega (arith, length-map ls (locate σ)))) .0
 
     callee-tidy : Tidy j occ (locations (map (locate σ) ls)) k (entered (take (length xs) (map (locate σ) ls)))
     callee-tidy = record {
       held = λ x l h. let g = here x l h in (record { no = x }, omega (arith, g .1, c .few, c .size), sym (g .0));
       taken = λ x l h. let g = here x l h in T .taken (getD xs x 0) l (a x (g .1) ∙ ap (λ (p : Place device). qubit p) (sym (g .0)));
       once = λ x y l m h h′ r. let g = here x l h in let g′ = here y m h′ in
-          distinct-at (map (locate σ) ls) x y q (omega (arith, g .1, c .few, length-located σ ls)) (omega (arith, g′ .1, c .few, length-located σ ls))
+          distinct-places (map (locate σ) ls) x y q (omega (arith, g .1, c .few, length-map ls (locate σ))) (omega (arith, g′ .1, c .few, length-map ls (locate σ)))
           (ap (λ (p : Place device). p .no) (sym (g .0)) ∙ r ∙ ap (λ (p : Place device). p .no) (g′ .0));
     }
       where
         here : (x : ℕ) (l : Place device) → slot {B = Bool} (entered (take (length xs) (map (locate σ) ls))) x ≡ qubit l → (l ≡ at (map (locate σ) ls) x) × (x < length xs)
         here x l h =
-            let g = at-entered (take (length xs) (map (locate σ) ls)) (32 - length (take (length xs) (map (locate σ) ls))) x l h in
-            let t = take-at (length xs) (map (locate σ) ls) x (g .1) in
-            (g .0 ∙ t .0, t .1)
+            let t = length-take-le (length xs) (map (locate σ) ls) (omega (arith, c .few, length-map ls (locate σ))) in
+            let g = entered-qubit Bool (take (length xs) (map (locate σ) ls)) x l h in
+            let d : x < length xs = omega (arith, g .1) in
+            (g .0 ∙ getD-take (length xs) (map (locate σ) ls) x _ d, d)
 
     waits : Waits j occ k (map (locate σ) ls) φ xs
     waits = record {
@@ -520,7 +376,7 @@ module _ (R : Region) (fs : List Function) (bodies : (f : ℕ) → ScopedBlock f
       σ = σ;
       size = n;
       places = ls;
-      located = λ i h. map-at σ ls i (omega (arith, c .size));
+      located = λ i h. at-map (locate σ) ls i (omega (arith, c .size));
       range = λ i h. c .below i (omega (arith, c .size));
       enough = omega (arith, c .few, c .size);
       args = a;
@@ -569,23 +425,14 @@ module _ (R : Region) (fs : List Function) (bodies : (f : ℕ) → ScopedBlock f
       → Holds NeatMove (move R fs v (freeIn R occ) φ φs i is)
   unfolding waits
   neat-move {s = s} {σ = σ} {n = n} φ φs i is T (todo {t = op o a} c S) =
-      holds-bind (neat-op o a c T S) λ d p. holds-bind (any-check _) λ _ _. by (p .0, record { s = s; σ = σ; size = n; tidy = p .1; stack = p .2 })
+      holds-bind (neat-op o a c T S) λ d p. holds-bind (holds-any _) λ _ _. by (p .0, record { s = s; σ = σ; size = n; tidy = p .1; stack = p .2 })
   neat-move {s = s} {σ = σ} {n = n} φ φs i is T (todo {t = if o y b d} c S) =
-      holds-bind (any-check _) λ t _. by (tt, record { s = s; σ = σ; size = n; tidy = T; stack = pick t (stack-block b (c .0) S) (stack-block d (c .1) S) })
-    where
-      pick : (t : Bool) → Stack fs j occ s σ n φs (blockBefore σ b is) → Stack fs j occ s σ n φs (blockBefore σ d is) → Stack fs j occ s σ n φs (chosen t (blockBefore σ b is) (blockBefore σ d is))
-      pick true p q = p
-      pick false p q = q
+      holds-bind (holds-any _) λ t _. by (tt, record { s = s; σ = σ; size = n; tidy = T; stack = chosen-has (λ js. Stack fs j occ s σ n φs js) t (stack-block b (c .0) S) (stack-block d (c .1) S) })
   neat-move {s = s} {σ = σ} {n = n} φ φs i is T (todo {t = while o r b} c S) =
-      holds-bind (any-check _) λ t _. by (tt, record { s = s; σ = σ; size = n; tidy = T; stack = pick t (stack-block b c (todo {t = while o r b} c S)) S })
-    where
-      pick : (t : Bool) → Stack fs j occ s σ n φs (blockBefore σ b (run σ (while o r b) ∷ is)) → Stack fs j occ s σ n φs is
-          → Stack fs j occ s σ n φs (chosen t (blockBefore σ b (run σ (while o r b) ∷ is)) is)
-      pick true p q = p
-      pick false p q = q
+      holds-bind (holds-any _) λ t _. by (tt, record { s = s; σ = σ; size = n; tidy = T; stack = chosen-has (λ js. Stack fs j occ s σ n φs js) t (stack-block b c (todo {t = while o r b} c S)) S })
   neat-move {s = s} {σ = σ} {n = n} φ φs i is T (todo {t = call o f ls xs} c S) =
-      holds-then (holds-then (any-check _) λ _ _. holds-then (holds-need (distinct (map (λ l. l .no) (map (locate σ) ls)) && distinct xs) 15 o) λ _ q.
-      holds-then (arguments-there σ o φ xs (map (locate σ) ls) (omega (arith, c .few, length-located σ ls))) λ _ a.
+      holds-then (holds-then (holds-any _) λ _ _. holds-then (holds-need (distinct (numbers (map (locate σ) ls)) && distinct xs) 15 o) λ _ q.
+      holds-then (arguments-there σ o φ xs (map (locate σ) ls) (omega (arith, c .few, length-map ls (locate σ)))) λ _ a.
       holds-map (λ _ w. record {
         s = parameter;
         σ = locations (map (locate σ) ls);
@@ -617,7 +464,7 @@ neat-fresh p r j occ = record {
   s = device;
   σ = themselves;
   size = 256;
-  tidy = record { held = λ x l h. absurd (no-qubit-there 32 x l h); taken = λ x l h. absurd (no-qubit-there 32 x l h); once = λ x y l k h h′ e. absurd (no-qubit-there 32 x l h) };
+  tidy = record { held = λ x l h. unbound-qubit _ l (getD-replicate-default 32 x unbound) h; taken = λ x l h. unbound-qubit _ l (getD-replicate-default 32 x unbound) h; once = λ x y l k h h′ e. unbound-qubit _ l (getD-replicate-default 32 x unbound) h };
   stack = stack-block (p .main) (main-scoped p r) empty;
 }
 

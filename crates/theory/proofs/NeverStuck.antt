@@ -4,48 +4,36 @@ use mathlib.Core.Bool.{Bool, true, false, _&&_, false≢true}
 use mathlib.Core.List.{List, [], _∷_}
 use mathlib.Core.Logic.{_≢_}
 use mathlib.Core.Path.{_≡_, refl, sym, ap, _∙_}
-use native.Mathlib.Decide.{ℕ-discrete, decLt}
+use native.Mathlib.Decide.{ℕ-discrete}
+use native.Mathlib.Nat.{add-zero}
 use native.Mathlib.Omega.{arith}
-use Prim.Native.Nat.{ℕ, zero, suc, _≤_, _<_}
+use Prim.Native.Nat.{ℕ, suc, _+_, _≤_}
 use lib.Dec.{eqb, leb}
-use lib.ListN.{getD, set, length, drop, replicate, List·getD-eq-default}
-use lib.Seq.{getD-set-same, getD-set-other, set-out}
+use lib.ListN.{getD, set, length, drop}
+use lib.Seq.{getD-set-other, getD-drop, drop-drop}
 use Rattle.rules.specs.Basics.{all}
 use Rattle.rules.specs.Device.{Device}
 use Rattle.rules.specs.Region.{Region, regionOf, owns, freeIn}
-use Rattle.rules.specs.Syntax.{device, Place, Function, function, Program}
-use Rattle.rules.specs.Slots.{unbound, slot, Act, quiet, takes, gives, merges}
-use Rattle.rules.specs.Commands.{Commands, ε, alloc, release, connect, either, repeat, commandsAt}
-use Rattle.rules.specs.Typing.{Signature, afterAct, mainContext, start}
+use Rattle.rules.specs.Syntax.{device, Function, function, Program}
+use Rattle.rules.specs.Slots.{Slot, unbound, Act, quiet, takes, gives, merges}
+use Rattle.rules.specs.Commands.{Commands, commandsAt}
+use Rattle.rules.specs.Typing.{Kind, Signature, afterAct, mainContext, start}
 use Rattle.rules.specs.Figures.{FunctionsRule, T-NoFun, T-Fundecl, Connects, ProgramRule}
 use Rattle.rules.specs.Machine.{fresh, themselves}
 use Rattle.rules.specs.Run.{Turn, written, started, records}
 use Rattle.theory.specs.WellRead.{FunctionsRead, none-read, function-read, ProgramRead}
 use Rattle.theory.specs.Interleaving.{turnsOf, recordsOf}
-use Rattle.theory.proofs.Frames.{Match}
-use Rattle.theory.proofs.Safety.{true-in-range, Known, known-none, known-more, finished, rest-block, Inv, Fine, fine-step}
+use Rattle.theory.proofs.Base.{true-in-range, getD-set-default, getD-replicate-default}
+use Rattle.theory.proofs.Places.{at-same}
+use Rattle.theory.proofs.Safety.{Known, known-none, known-more, finished, rest-block, Inv, Fine, fine-step}
 use Rattle.theory.proofs.Isolation.{OwnAct, own-step, View, view, view-step, view-after, view-records, sound-started, view-started, free-started, SoundView, sound-view, sound-view-after, records-of}
 
 -- 1. The first state of a derived program is typed.
-commands-at-self : (c : Commands device) → commandsAt (λ l. l) c ≡ c
-commands-at-self ε = refl
-commands-at-self (alloc q l c) = ap (λ d. alloc q l d) (commands-at-self c)
-commands-at-self (release l c) = ap (λ d. release l d) (commands-at-self c)
-commands-at-self (connect o b l e k c) = ap (λ d. connect o b l e k d) (commands-at-self c)
-commands-at-self (either a b c) = λ i. either (commands-at-self a i) (commands-at-self b i) (commands-at-self c i)
-commands-at-self (repeat a c) = λ i. repeat (commands-at-self a i) (commands-at-self c i)
-
 function-at : (fs : List Function) (n : ℕ) (g : Function) (gs : List Function) → drop n fs ≡ g ∷ gs → function fs n ≡ g
-function-at [] zero g gs h = cc
-function-at [] (suc n) g gs h = cc
-function-at (f ∷ fs) zero g gs h = cc
-function-at (f ∷ fs) (suc n) g gs h = function-at fs n g gs h
+function-at fs n g gs h = ap (λ i. function fs i) (sym (add-zero n)) ∙ sym (getD-drop n fs 0 _) ∙ ap (λ r. function r 0) h
 
 drop-tail : (fs : List Function) (n : ℕ) (g : Function) (gs : List Function) → drop n fs ≡ g ∷ gs → drop (suc n) fs ≡ gs
-drop-tail [] zero g gs h = cc
-drop-tail [] (suc n) g gs h = cc
-drop-tail (f ∷ fs) zero g gs h = cc
-drop-tail (f ∷ fs) (suc n) g gs h = drop-tail fs n g gs h
+drop-tail fs n g gs h = let e : suc n ≡ n + 1 = omega arith in ap (λ i. drop i fs) e ∙ sym (drop-drop 1 n fs) ∙ ap (λ r. drop 1 r) h
 
 -- a frame has room for the arguments of every function read
 abbrev Roomy : List Function → Type 0
@@ -61,14 +49,9 @@ module _ (R : Region) (fs : List Function) where
   known-all T-NoFun h m K = K
   known-all (T-Fundecl {g = g} {fs = rest} {gs = gs} j r) h m K = known-all r (drop-tail fs (length gs) g rest h) (m .1) (known-more K (function-at fs (length gs) g rest h) (m .0) j)
 
-match-start : (x n : ℕ) → Match (λ (l : Place device). l) (slot (replicate n unbound) x) (slot (replicate n unbound) x)
-match-start x zero = refl
-match-start zero (suc n) = refl
-match-start (suc x) (suc n) = match-start x n
-
 first-typed : (R : Region) (p : Program) (c : Commands device) → Roomy (p .functions) → ProgramRule R p c → Inv R (p .functions) (length (R .owned)) (R .owned) (fresh p)
 first-typed R p c m A =
-    let w : Connects R (R .owned) (commandsAt (λ l. l) c) (A .left) = rw (commands-at-self c) (A .connects) in
+    let w : Connects R (R .owned) (commandsAt (λ l. l) c) (A .left) = rw (at-same c) (A .connects) in
     record {
       s = device;
       B = record { context = mainContext (R .owned) (A .signatures); actual = themselves; place = λ l. l; size = length (R .owned) };
@@ -78,7 +61,7 @@ first-typed R p c m A =
         placed = record { agree = λ l h. refl; own = λ l h. h; range = λ l h. true-in-range (R .owned) (l .no) h; apart = λ l k h i e. e; room = λ l h. h };
         sized = refl;
         long = refl;
-        fits = record { kinds-long = refl; slots-long = refl; each = λ x. match-start x 32 };
+        fits = record { kinds-long = refl; slots-long = refl; each = λ x. rw (getD-replicate-default {A = Kind device} 32 x unbound, getD-replicate-default {A = Slot device Bool} 32 x unbound) };
         frees = λ l h. h;
       };
       rest = rest-block R (p .functions) (length (R .owned)) (p .main) (A .main) w finished;
@@ -92,26 +75,18 @@ module _ (R : Region) (j : ℕ) where
   free-other : (occ : List ℕ) (k x l : ℕ) → l ≢ k → freeIn R occ l ≡ true → freeIn R (set occ k x) l ≡ true
   free-other occ k x l n h = ap (λ y. owns R l && eqb y 0) (getD-set-other occ k l x 0 n) ∙ h
 
-  given-zero : (occ : List ℕ) (k : ℕ) → getD (set occ k 0) k 0 ≡ 0
-  given-zero occ k = go (decLt k (length occ))
-    where
-      go : Dec (k < length occ) → getD (set occ k 0) k 0 ≡ 0
-      go (yes h) = getD-set-same occ k 0 0 h
-      go (no h) = ap (λ o. getD o k 0) (set-out occ k 0 (omega arith)) ∙ List·getD-eq-default occ 0 (omega arith)
-
   free-after : (a : Act device) (L : List Bool) (occ : List ℕ) → OwnAct (owns R) a → FreeOn L occ → FreeOn (afterAct a L) (written j a occ)
   free-after quiet L occ own F l h = F l h
-  free-after (takes q k) L occ own F l h = go (ℕ-discrete l (k .no)) (decLt (k .no) (length L))
+  free-after (takes q k) L occ own F l h = go (ℕ-discrete l (k .no))
     where
-      go : Dec (l ≡ k .no) → Dec (k .no < length L) → freeIn R (set occ (k .no) j) l ≡ true
-      go (no n) d = free-other occ (k .no) j l n (F l (sym (getD-set-other L (k .no) l false false n) ∙ h))
-      go (yes e) (yes r) = absurd (false≢true (sym (getD-set-same L (k .no) false false r) ∙ rw e at h))
-      go (yes e) (no r) = let z = true-in-range L l (rw (set-out L (k .no) false (omega arith)) at h) in absurd (omega arith)
+      go : Dec (l ≡ k .no) → freeIn R (set occ (k .no) j) l ≡ true
+      go (no n) = free-other occ (k .no) j l n (F l (sym (getD-set-other L (k .no) l false false n) ∙ h))
+      go (yes e) = absurd (false≢true (sym (getD-set-default L (k .no) false) ∙ rw e at h))
   free-after (gives k) L occ own F l h = go (ℕ-discrete l (k .no))
     where
       go : Dec (l ≡ k .no) → freeIn R (set occ (k .no) 0) l ≡ true
       go (no n) = free-other occ (k .no) 0 l n (F l (sym (getD-set-other L (k .no) l true false n) ∙ h))
-      go (yes e) = rw (e, own, given-zero occ (k .no))
+      go (yes e) = rw (e, own, getD-set-default occ (k .no) 0)
   free-after (merges b k e k′) L occ own F l h = F l h
 
 -- 3. Over any schedule

@@ -1,40 +1,25 @@
--- Facts on lists of places and numbers, on what stands where after several stores, on the arguments of a call, and on the slots at a body's entry and
--- at a block's end.
+-- What several proofs on programs need, each said once. Of lists, by induction: numbers of which none comes twice, what stands where after several
+-- stores, the places of a call and their numbers. Of slots, in typing and on the device, by their cases: which hold a qubit, before and after a store.
+-- Of programs: the arguments of a call, commands at other places, which signature a number stands for, and the slots at a body's entry and a block's end.
 use mathlib.Core.Bool.{Bool, true, false, not, _&&_, _||_, false≢true}
 use mathlib.Core.List.{List, [], _∷_, _++_, map}
 use mathlib.Core.Logic.{_≢_, _⊎_, inl, inr, ⊎-elim}
 use mathlib.Core.Path.{_≡_, refl, sym, ap, subst, _∙_}
 use native.Mathlib.Decide.{ℕ-discrete, decLt}
-use native.Mathlib.Nat.{zero-add}
 use native.Mathlib.Omega.{arith}
 use Prim.Native.Nat.{ℕ, zero, suc, _+_, _-_, _≤_, _<_}
 use lib.Dec.{eqb}
-use lib.ListN.{getD, set, length, drop, replicate, length-set, length-replicate, length-append, length-map}
+use lib.ListN.{getD, set, length, drop, replicate, length-set, length-replicate, length-append, length-map, List·getD-append, List·getD-eq-default}
 use lib.Seq.{getD-set-same, getD-set-other, set-getD}
+use Rattle.answers.proofs.Laws.{Holds, not-ok, by}
 use Rattle.rules.specs.Basics.{chosen, all, any, upTo, without, setAll, distinct}
 use Rattle.rules.specs.Syntax.{Side, parameter, Place, param, at}
-use Rattle.rules.specs.Slots.{Slot, unbound, qubit, bool, ref, slot, holdsNoQubit, isClassical, entered}
+use Rattle.rules.specs.Slots.{Slot, unbound, qubit, bool, ref, slot, needQubit, holdsNoQubit, isClassical, entered}
 use Rattle.rules.specs.Commands.{Commands, ε, alloc, release, connect, either, repeat, commandsAt}
-use Rattle.rules.specs.Typing.{Kind, Env, sameKind, kindNumber, allStay, narrowed}
+use Rattle.rules.specs.Typing.{Kind, Env, Signature, signature, sameKind, kindNumber, allStay, narrowed}
 use Rattle.rules.specs.Figures.{stored, Arguments, no-more, and}
-use Rattle.rules.proofs.Basics.{getD-upTo, all-upTo}
-use Rattle.theory.proofs.Base.{T→eq, eq→T, eqb-true, eqb-same, and-left, and-right}
-
-pub place-path : {s : Side} (p q : Place s) → p .no ≡ q .no → p ≡ q
-place-path p q e = λ i. record { no = e i }
-
-pub true-in-range : (bs : List Bool) (i : ℕ) → getD bs i false ≡ true → i < length bs
-true-in-range [] i h = absurd (false≢true h)
-true-in-range (b ∷ bs) zero h = omega arith
-true-in-range (b ∷ bs) (suc i) h = let k : i < length bs = true-in-range bs i h in omega arith
-
-or-right : (a b : Bool) → b ≡ true → (a || b) ≡ true
-or-right true b h = refl
-or-right false b h = h
-
-not-both : (b : Bool) → not b ≡ true → b ≡ true → ⊥
-not-both true h k = false≢true h
-not-both false h k = false≢true k
+use Rattle.rules.proofs.Basics.{length-upTo, getD-upTo-zero, all-upTo}
+use Rattle.theory.proofs.Base.{T→eq, eq→T, eqb-true, eqb-same, eqb-other, and-left, and-right, or-right, distinct-head, distinct-tail, getD-set-cases, getD-replicate-default}
 
 -- numbers of which none comes twice
 pub any-at : (ns : List ℕ) (i : ℕ) → i < length ns → any (eqb (getD ns i 0)) ns ≡ true
@@ -45,15 +30,12 @@ any-at (n ∷ ns) (suc i) k = or-right (eqb (getD ns i 0) n) _ (any-at ns i (ome
 pub distinct-at : (ns : List ℕ) (i j : ℕ) → distinct ns ≡ true → i < length ns → j < length ns → getD ns i 0 ≡ getD ns j 0 → i ≡ j
 distinct-at [] i j h k m e = absurd (omega arith)
 distinct-at (n ∷ ns) zero zero h k m e = refl
-distinct-at (n ∷ ns) zero (suc j) h k m e = absurd (not-both (any (eqb n) ns) (and-left _ _ h) (rw e (any-at ns j (omega arith))))
-distinct-at (n ∷ ns) (suc i) zero h k m e = absurd (not-both (any (eqb n) ns) (and-left _ _ h) (rw (← e) (any-at ns i (omega arith))))
-distinct-at (n ∷ ns) (suc i) (suc j) h k m e = ap suc (distinct-at ns i j (and-right (not (any (eqb n) ns)) _ h) (omega arith) (omega arith) e)
+distinct-at (n ∷ ns) zero (suc j) h k m e = absurd (false≢true (sym (distinct-head n ns h) ∙ rw e (any-at ns j (omega arith))))
+distinct-at (n ∷ ns) (suc i) zero h k m e = absurd (false≢true (sym (distinct-head n ns h) ∙ rw (← e) (any-at ns i (omega arith))))
+distinct-at (n ∷ ns) (suc i) (suc j) h k m e = ap suc (distinct-at ns i j (distinct-tail n ns h) (omega arith) (omega arith) e)
 
-pub distinct-head : (n : ℕ) (ns : List ℕ) → distinct (n ∷ ns) ≡ true → (i : ℕ) → i < length ns → getD ns i 0 ≢ n
-distinct-head n ns h i k e = let z : suc i ≡ 0 = distinct-at (n ∷ ns) (suc i) 0 h (omega arith) (omega arith) e in omega arith
-
-pub distinct-tail : (n : ℕ) (ns : List ℕ) → distinct (n ∷ ns) ≡ true → distinct ns ≡ true
-distinct-tail n ns h = and-right (not (any (eqb n) ns)) _ h
+distinct-first : (n : ℕ) (ns : List ℕ) → distinct (n ∷ ns) ≡ true → (i : ℕ) → i < length ns → getD ns i 0 ≢ n
+distinct-first n ns h i k e = let z : suc i ≡ 0 = distinct-at (n ∷ ns) (suc i) 0 h (omega arith) (omega arith) e in omega arith
 
 -- where a number stands, or that it stands nowhere
 pub find : (ns : List ℕ) (n : ℕ) → ((i : ℕ) × (i < length ns) × (getD ns i 0 ≡ n)) ⊎ ((i : ℕ) → i < length ns → getD ns i 0 ≢ n)
@@ -89,7 +71,7 @@ module _ {A : Type 0} where
   stored-at (v ∷ vs) [] φ i d u e h r = absurd (omega arith)
   stored-at (v ∷ vs) (n ∷ ns) φ zero d u e h r = getD-set-same (stored vs ns φ) n v d (omega (arith, length-stored vs ns φ))
   stored-at (v ∷ vs) (n ∷ ns) φ (suc i) d u e h r =
-      getD-set-other (stored vs ns φ) n (getD ns i 0) v d (distinct-head n ns u i (omega arith)) ∙ stored-at vs ns φ i d (distinct-tail n ns u) (omega arith) (omega arith) r
+      getD-set-other (stored vs ns φ) n (getD ns i 0) v d (distinct-first n ns u i (omega arith)) ∙ stored-at vs ns φ i d (distinct-tail n ns u) (omega arith) (omega arith) r
 
   -- Stores that say again what stands there, but for those that store v: the same as v at the numbers that do not stay.
   pub stored-agrees : (d v : A) (bs : List Bool) (vs : List A) (ns : List ℕ) (φ : List A) → distinct ns ≡ true → length vs ≡ length ns
@@ -104,22 +86,24 @@ module _ {A : Type 0} where
       ⊎-elim (λ c. rw r (ap (λ (a : A). set φ n a) (c .1) ∙ set-getD φ n d)) (λ c. absurd (false≢true (sym (c .0)))) (h 0 (omega arith))
   stored-agrees d v (true ∷ bs) (w ∷ vs) (n ∷ ns) φ u e h =
       let r : stored vs ns φ ≡ setAll v (without bs ns) φ = stored-agrees d v bs vs ns φ (distinct-tail n ns u) (omega arith) (λ j k. h (suc j) (omega arith)) in
-      ⊎-elim (λ c. ap (λ (a : A). set (stored vs ns φ) n a) (c .1 ∙ sym (stored-other vs ns φ n d (distinct-head n ns u))) ∙ set-getD (stored vs ns φ) n d ∙ r)
+      ⊎-elim (λ c. ap (λ (a : A). set (stored vs ns φ) n a) (c .1 ∙ sym (stored-other vs ns φ n d (distinct-first n ns u))) ∙ set-getD (stored vs ns φ) n d ∙ r)
       (λ c. absurd (false≢true (sym (c .0)))) (h 0 (omega arith))
   stored-agrees d v (false ∷ bs) (w ∷ vs) (n ∷ ns) φ u e h =
       let r : stored vs ns φ ≡ setAll v (without bs ns) φ = stored-agrees d v bs vs ns φ (distinct-tail n ns u) (omega arith) (λ j k. h (suc j) (omega arith)) in
       ⊎-elim (λ c. absurd (false≢true (c .0))) (λ c. ap (λ (a : A). set (stored vs ns φ) n a) (c .1) ∙ ap (λ (l : List A). set l n v) r) (h 0 (omega arith))
 
-  pub length-upTo : (i m : ℕ) (f : ℕ → A) → length (upTo i m f) ≡ m
-  length-upTo i zero f = refl
-  length-upTo i (suc m) f = ap suc (length-upTo (suc i) m f)
-
-  pub getD-upTo-zero : (m k : ℕ) (f : ℕ → A) (d : A) → k < m → getD (upTo 0 m f) k d ≡ f k
-  getD-upTo-zero m k f d h = getD-upTo 0 m k f d h ∙ ap f (zero-add k)
-
 -- places
 module _ {s : Side} where
-  pub number-at : (ls : List (Place s)) (i : ℕ) → getD (map (λ l. l .no) ls) i 0 ≡ at ls i .no
+  pub place-path : (p q : Place s) → p .no ≡ q .no → p ≡ q
+  place-path p q e = λ i. record { no = e i }
+
+  abbrev pub numbers : List (Place s) → List ℕ
+  numbers ls = map (λ l. l .no) ls
+
+  pub length-numbers : (ls : List (Place s)) → length (numbers ls) ≡ length ls
+  length-numbers ls = length-map ls (λ l. l .no)
+
+  pub number-at : (ls : List (Place s)) (i : ℕ) → getD (numbers ls) i 0 ≡ at ls i .no
   number-at [] i = refl
   number-at (l ∷ ls) zero = refl
   number-at (l ∷ ls) (suc i) = number-at ls i
@@ -135,29 +119,90 @@ module _ {s : Side} where
   drop-at f (suc m) (l ∷ ls) zero h j k = absurd (omega arith)
   drop-at f (suc m) (l ∷ ls) (suc i) h j k = drop-at f m ls i h (omega arith) (omega arith)
 
-  pub distinct-places : (ls : List (Place s)) (i j : ℕ) → distinct (map (λ l. l .no) ls) ≡ true → i < length ls → j < length ls → at ls i .no ≡ at ls j .no → i ≡ j
-  distinct-places ls i j h k m e =
-      let n : length (map (λ (l : Place s). l .no) ls) ≡ length ls = length-map ls (λ l. l .no) in
-      distinct-at (map (λ l. l .no) ls) i j h (omega arith) (omega arith) (number-at ls i ∙ e ∙ sym (number-at ls j))
+  pub at-map : {t : Side} (f : Place s → Place t) (ls : List (Place s)) (i : ℕ) → i < length ls → at (map f ls) i ≡ f (at ls i)
+  at-map f [] i h = absurd (omega arith)
+  at-map f (l ∷ ls) zero h = refl
+  at-map f (l ∷ ls) (suc i) h = at-map f ls i (omega arith)
+
+  pub distinct-places : (ls : List (Place s)) (i j : ℕ) → distinct (numbers ls) ≡ true → i < length ls → j < length ls → at ls i .no ≡ at ls j .no → i ≡ j
+  distinct-places ls i j h k m e = let n = length-numbers ls in distinct-at (numbers ls) i j h (omega arith) (omega arith) (number-at ls i ∙ e ∙ sym (number-at ls j))
 
   -- which of the places has the number, if one has
   pub find-place : (ls : List (Place s)) (l : Place s) → ((i : ℕ) × (i < length ls) × (at ls i ≡ l)) ⊎ ((i : ℕ) → i < length ls → at ls i .no ≢ l .no)
   find-place ls l =
-      let n : length (map (λ (k : Place s). k .no) ls) ≡ length ls = length-map ls (λ k. k .no) in
-      ⊎-elim (λ c. inl (c .0, omega (arith, c .1), place-path (at ls (c .0)) l (sym (number-at ls (c .0)) ∙ c .2))) (λ c. inr (λ i h e. c i (omega arith) (number-at ls i ∙ e))) (find (map (λ k. k .no) ls) (l .no))
+      let n = length-numbers ls in
+      ⊎-elim (λ c. inl (c .0, omega (arith, c .1), place-path (at ls (c .0)) l (sym (number-at ls (c .0)) ∙ c .2))) (λ c. inr (λ i h e. c i (omega arith) (number-at ls i ∙ e))) (find (numbers ls) (l .no))
 
-  pub map-without : (bs : List Bool) (ls : List (Place s)) → map (λ l. l .no) (without bs ls) ≡ without bs (map (λ l. l .no) ls)
+  pub map-without : (bs : List Bool) (ls : List (Place s)) → numbers (without bs ls) ≡ without bs (numbers ls)
   map-without [] ls = refl
   map-without (b ∷ bs) [] = refl
   map-without (true ∷ bs) (l ∷ ls) = map-without bs ls
   map-without (false ∷ bs) (l ∷ ls) = ap (λ (ns : List ℕ). l .no ∷ ns) (map-without bs ls)
 
-  pub qubit-in-range : (φ : List (Kind s)) (x : ℕ) (l : Place s) → slot φ x ≡ qubit l → x < length φ
-  qubit-in-range [] x l h = let z : _≡_ {A = ℕ} 0 1 = cc in absurd (omega arith)
-  qubit-in-range (v ∷ φ) zero l h = omega arith
-  qubit-in-range (v ∷ φ) (suc x) l h = let k = qubit-in-range φ x l h in omega arith
+  -- stores at the numbers of places
+  pub stored-place : (bs : List Bool) (ls : List (Place s)) (fs : List Bool) (i : ℕ) → distinct (numbers ls) ≡ true → length bs ≡ length ls → i < length ls → at ls i .no < length fs
+      → getD (stored bs (numbers ls) fs) (at ls i .no) false ≡ getD bs i false
+  stored-place bs ls fs i u e h r =
+      let n = length-numbers ls in
+      let q : getD (numbers ls) i 0 ≡ at ls i .no = number-at ls i in
+      rw (← q) (stored-at bs (numbers ls) fs i false u (omega arith) (omega arith) (omega arith))
 
-  -- the arguments of a call
+  pub stored-other-place : (bs : List Bool) (ls : List (Place s)) (fs : List Bool) (l : Place s) → ((i : ℕ) → i < length ls → at ls i .no ≢ l .no)
+      → getD (stored bs (numbers ls) fs) (l .no) false ≡ getD fs (l .no) false
+  stored-other-place bs ls fs l h = let n = length-numbers ls in stored-other bs (numbers ls) fs (l .no) false (λ i j e. h i (omega arith) (sym (number-at ls i) ∙ e))
+
+-- slots, in typing and on the device
+module _ {s : Side} {B : Type 0} where
+  pub slot-out : (φ : List (Slot s B)) (x : ℕ) → length φ ≤ x → slot φ x ≡ unbound
+  slot-out φ x h = List·getD-eq-default φ unbound h
+
+  -- a slot that holds no qubit does not hold this one, and a slot holds one qubit
+  pub not-qubit : {X : Type 0} (v : Slot s B) (l : Place s) → holdsNoQubit v ≡ true → v ≡ qubit l → X
+  not-qubit v l n h = absurd (false≢true (sym (ap holdsNoQubit h) ∙ n))
+
+  pub unbound-qubit : {X : Type 0} (v : Slot s B) (l : Place s) → v ≡ unbound → v ≡ qubit l → X
+  unbound-qubit v l e h = not-qubit v l (ap holdsNoQubit e) h
+
+  pub same-qubit : (v : Slot s B) (l k : Place s) → v ≡ qubit l → v ≡ qubit k → l ≡ k
+  same-qubit v l k h h′ = cc
+
+  pub qubit-in-range : (φ : List (Slot s B)) (x : ℕ) (l : Place s) → slot φ x ≡ qubit l → x < length φ
+  qubit-in-range φ x l h = go (decLt x (length φ))
+    where
+      go : Dec (x < length φ) → x < length φ
+      go (yes d) = d
+      go (no d) = unbound-qubit (slot φ x) l (slot-out φ x (omega arith)) h
+
+  -- a qubit after a store of something else was there before
+  pub old-qubit : (φ : List (Slot s B)) (x y : ℕ) (v : Slot s B) (l : Place s) → holdsNoQubit v ≡ true → slot (set φ x v) y ≡ qubit l → slot φ y ≡ qubit l
+  old-qubit φ x y v l n h = ⊎-elim (λ c. not-qubit v l n (sym (c .1) ∙ h)) (λ c. sym c ∙ h) (getD-set-cases φ x y v unbound)
+
+  -- no two slots hold one place
+  abbrev pub Once : List (Slot s B) → Type 0
+  Once φ = (x y : ℕ) (l k : Place s) → slot φ x ≡ qubit l → slot φ y ≡ qubit k → l .no ≡ k .no → x ≡ y
+
+  -- this stays so with a new qubit at a place that none held
+  pub once-held : (φ : List (Slot s B)) (x : ℕ) (l : Place s) → Once φ → ((y : ℕ) (k : Place s) → slot φ y ≡ qubit k → k .no ≢ l .no) → Once (set φ x (qubit l))
+  once-held φ x l O new y z k m h h′ e = go (getD-set-cases φ x y (qubit l) unbound) (getD-set-cases φ x z (qubit l) unbound)
+    where
+      is : (y : ℕ) (k : Place s) → slot (set φ x (qubit l)) y ≡ qubit l → slot (set φ x (qubit l)) y ≡ qubit k → k .no ≡ l .no
+      is y k p q = ap (λ (p : Place s). p .no) (same-qubit _ k l q p)
+
+      go : ((y ≡ x) × (slot (set φ x (qubit l)) y ≡ qubit l)) ⊎ (slot (set φ x (qubit l)) y ≡ slot φ y)
+          → ((z ≡ x) × (slot (set φ x (qubit l)) z ≡ qubit l)) ⊎ (slot (set φ x (qubit l)) z ≡ slot φ z) → y ≡ z
+      go (inl c) (inl d) = c .0 ∙ sym (d .0)
+      go (inl c) (inr d) = absurd (new z m (sym d ∙ h′) (sym e ∙ is y k (c .1) h))
+      go (inr c) (inl d) = absurd (new y k (sym c ∙ h) (e ∙ is z m (d .1) h′))
+      go (inr c) (inr d) = O y z k m (sym c ∙ h) (sym d ∙ h′) e
+
+  pub qubit-held : (v : Slot s B) (o : ℕ) → Holds (λ l. v ≡ qubit l) (needQubit v o)
+  qubit-held unbound o = not-ok
+  qubit-held (qubit l) o = by refl
+  qubit-held (bool b) o = not-ok
+  qubit-held (ref b) o = not-ok
+
+-- the arguments of a call
+module _ {s : Side} where
   pub argument-at : {Γ : Env s} (xs : List ℕ) (ls : List (Place s)) (i : ℕ) → Arguments Γ xs ls → i < length xs → slot (Γ .slots) (getD xs i 0) ≡ qubit (at ls i)
   argument-at [] ls i a h = absurd (omega arith)
   argument-at (x ∷ xs) (l ∷ ls) zero (and p r) h = p
@@ -177,6 +222,34 @@ at-at σ ls (connect o b l e k c) = ap (λ d. connect o b (σ (at ls (l .no))) e
 at-at σ ls (either a b c) = λ i. either (at-at σ ls a i) (at-at σ ls b i) (at-at σ ls c i)
 at-at σ ls (repeat a c) = λ i. repeat (at-at σ ls a i) (at-at σ ls c i)
 
+pub at-same : {s : Side} (c : Commands s) → commandsAt (λ l. l) c ≡ c
+at-same ε = refl
+at-same (alloc q l c) = ap (λ d. alloc q l d) (at-same c)
+at-same (release l c) = ap (λ d. release l d) (at-same c)
+at-same (connect o b l e k c) = ap (λ d. connect o b l e k d) (at-same c)
+at-same (either a b c) = λ i. either (at-same a i) (at-same b i) (at-same c i)
+at-same (repeat a c) = λ i. repeat (at-same a i) (at-same c i)
+
+-- the newest signature stands for the highest number, the others for what they stood for
+pub signature-newest : (g : Signature) (gs : List Signature) (f : ℕ) → f ≡ length gs → signature (g ∷ gs) f ≡ g
+signature-newest g gs f e = rw (e, eqb-same (length gs))
+
+pub signature-older : (g : Signature) (gs : List Signature) (f : ℕ) → f < length gs → signature (g ∷ gs) f ≡ signature gs f
+signature-older g gs f h = rw (eqb-other f (length gs) (λ e. absurd (omega (arith, e, h))))
+
+-- what holds of each signature holds of the one that a number stands for
+abbrev pub AllOf : (Signature → Type 0) → List Signature → Type 0
+AllOf P [] = Unit {0}
+AllOf P (g ∷ gs) = P g × AllOf P gs
+
+pub all-of-at : (P : Signature → Type 0) (gs : List Signature) (f : ℕ) → AllOf P gs → f < length gs → P (signature gs f)
+all-of-at P [] f H h = absurd (omega arith)
+all-of-at P (g ∷ gs) f H h = go (ℕ-discrete f (length gs)) (λ k. all-of-at P gs f (H .1) k)
+  where
+    go : Dec (f ≡ length gs) → (f < length gs → P (signature gs f)) → P (signature (g ∷ gs) f)
+    go (yes e) rest = subst P (sym (signature-newest g gs f e)) (H .0)
+    go (no n) rest = subst P (sym (signature-older g gs f (omega arith))) (rest (omega arith))
+
 -- the places of a body on entry: the arguments' are taken, the rest free
 pub entry-free : (m : ℕ) (bs : List Bool) (i : ℕ) → getD (replicate m false ++ bs) i false ≡ true → m ≤ i
 entry-free zero bs i h = omega arith
@@ -187,9 +260,7 @@ pub length-entry : (m r : ℕ) → length (replicate m false ++ replicate r true
 length-entry m r = length-append (replicate m false) (replicate r true) ∙ rw (length-replicate m false, length-replicate r true)
 
 pub entry-taken : (m r i : ℕ) → i < m → getD (replicate m false ++ replicate r true) i false ≡ false
-entry-taken zero r i h = absurd (omega arith)
-entry-taken (suc m) r zero h = refl
-entry-taken (suc m) r (suc i) h = entry-taken m r i (omega arith)
+entry-taken m r i h = List·getD-append (replicate m false) (replicate r true) false i (omega (arith, length-replicate m false)) ∙ getD-replicate-default m i false
 
 pub entry-rest : (m r i : ℕ) → m ≤ i → i < m + r → getD (replicate m false ++ replicate r true) i false ≡ true
 entry-rest zero zero i h k = absurd (omega arith)
@@ -200,11 +271,6 @@ entry-rest (suc m) r (suc i) h k = entry-rest m r i (omega arith) (omega arith)
 
 -- the slots of a body on entry: argument i in slot i at place i, the rest unbound
 module _ {s : Side} (B : Type 0) where
-  pub slot-none : (n x : ℕ) → slot (replicate {A = Slot s B} n unbound) x ≡ unbound
-  slot-none zero x = refl
-  slot-none (suc n) zero = refl
-  slot-none (suc n) (suc x) = slot-none n x
-
   pub length-entered : (ls : List (Place s)) → length ls ≤ 32 → length (entered {B = B} ls) ≡ 32
   length-entered ls h =
       let n : length (map {A = Place s} {B = Slot s B} qubit ls) ≡ length ls = length-map ls qubit in
@@ -217,7 +283,7 @@ module _ {s : Side} (B : Type 0) where
   entered-front (l ∷ ls) n (suc x) h = entered-front ls n x (omega arith)
 
   entered-back : (ls : List (Place s)) (n x : ℕ) → length ls ≤ x → slot (map {B = Slot s B} qubit ls ++ replicate n unbound) x ≡ unbound
-  entered-back [] n x h = slot-none n x
+  entered-back [] n x h = getD-replicate-default n x unbound
   entered-back (l ∷ ls) n zero h = absurd (omega arith)
   entered-back (l ∷ ls) n (suc x) h = entered-back ls n x (omega arith)
 
@@ -226,6 +292,13 @@ module _ {s : Side} (B : Type 0) where
 
   pub entered-past : (ls : List (Place s)) (x : ℕ) → length ls ≤ x → slot (entered {B = B} ls) x ≡ unbound
   entered-past ls x h = entered-back ls (32 - length ls) x h
+
+  pub entered-qubit : (ls : List (Place s)) (x : ℕ) (l : Place s) → slot (entered {B = B} ls) x ≡ qubit l → (l ≡ at ls x) × (x < length ls)
+  entered-qubit ls x l h = go (decLt x (length ls))
+    where
+      go : Dec (x < length ls) → (l ≡ at ls x) × (x < length ls)
+      go (yes d) = (same-qubit _ l (at ls x) h (entered-at ls x d), d)
+      go (no d) = unbound-qubit _ l (entered-past ls x (omega arith)) h
 
 -- a typed function's slots on entry
 pub entry-at : (m x : ℕ) → x < m → slot (entered {B = Unit {0}} (upTo 0 m param)) x ≡ qubit (param x)
@@ -237,14 +310,11 @@ pub entry-past : (m x : ℕ) → m ≤ x → slot (entered {B = Unit {0}} (upTo 
 entry-past m x h = let n : length (upTo 0 m param) ≡ m = length-upTo 0 m param in entered-past (Unit {0}) (upTo 0 m param) x (omega arith)
 
 pub entry-qubit : (m x : ℕ) (l : Place parameter) → slot (entered {B = Unit {0}} (upTo 0 m param)) x ≡ qubit l → (l ≡ param x) × (x < m)
-entry-qubit m x l h = go (decLt x m)
-  where
-    go : Dec (x < m) → (l ≡ param x) × (x < m)
-    go (yes d) = let e = entry-at m x d in let q : l ≡ param x = cc in (q, d)
-    go (no d) = let e = entry-past m x (omega arith) in let z : _≡_ {A = ℕ} 0 1 = cc in absurd (omega arith)
-
-number-apart : (k : ℕ) {X : Type 0} → eqb 0 (3 + k) ≡ true → X
-number-apart k h = let e : 0 ≡ 3 + k = eqb-true _ _ h in absurd (omega arith)
+entry-qubit m x l h =
+    let n : length (upTo 0 m param) ≡ m = length-upTo 0 m param in
+    let q = entered-qubit (Unit {0}) (upTo 0 m param) x l h in
+    let d : x < m = omega (arith, q .1) in
+    (q .0 ∙ getD-upTo-zero m x param _ d, d)
 
 -- the end of a block
 module _ {s : Side} where
@@ -258,23 +328,15 @@ module _ {s : Side} where
   pub length-narrowed : (vs ws : List (Kind s)) → length (narrowed vs ws) ≡ 32
   length-narrowed vs ws = length-upTo 0 32 (λ y. narrow (slot vs y) (slot ws y))
 
-  pub narrow-qubit : (v w : Kind s) (l : Place s) → narrow v w ≡ qubit l → w ≡ qubit l
-  narrow-qubit unbound unbound l h = h
-  narrow-qubit (qubit k) unbound l h = h
-  narrow-qubit (bool a) unbound l h = h
-  narrow-qubit (ref a) unbound l h = h
-  narrow-qubit unbound (qubit j) l h = h
-  narrow-qubit (qubit k) (qubit j) l h = h
-  narrow-qubit (bool a) (qubit j) l h = h
-  narrow-qubit (ref a) (qubit j) l h = h
-  narrow-qubit unbound (bool b) l h = cc
-  narrow-qubit (qubit k) (bool b) l h = cc
-  narrow-qubit (bool a) (bool b) l h = h
-  narrow-qubit (ref a) (bool b) l h = h
-  narrow-qubit unbound (ref b) l h = cc
-  narrow-qubit (qubit k) (ref b) l h = cc
-  narrow-qubit (bool a) (ref b) l h = h
-  narrow-qubit (ref a) (ref b) l h = h
+  unless : (t : Bool) (w : Kind s) (l : Place s) → chosen t unbound w ≡ qubit l → w ≡ qubit l
+  unless true w l h = unbound-qubit unbound l refl h
+  unless false w l h = h
+
+  narrow-qubit : (v w : Kind s) (l : Place s) → narrow v w ≡ qubit l → w ≡ qubit l
+  narrow-qubit v unbound l h = h
+  narrow-qubit v (qubit j) l h = h
+  narrow-qubit v (bool b) l h = unless (not (isClassical v)) (bool b) l h
+  narrow-qubit v (ref b) l h = unless (not (isClassical v)) (ref b) l h
 
   -- a qubit after the closing was there before it
   pub narrowed-qubit : (vs ws : List (Kind s)) (x : ℕ) (l : Place s) → slot (narrowed vs ws) x ≡ qubit l → slot ws x ≡ qubit l
@@ -325,7 +387,7 @@ module _ {s : Side} where
   -- One slot over a whole block: it ends as on entry, or it held a qubit and ends unbound, if the statements left alone what was classical.
   pub narrow-cases : (v w : Kind s) → (holdsNoQubit w || sameKind v w) ≡ true → (isClassical v ≡ true → w ≡ v) → (narrow v w ≡ v) ⊎ ((l : Place s) × (v ≡ qubit l) × (narrow v w ≡ unbound))
   narrow-cases unbound unbound h c = inl refl
-  narrow-cases unbound (qubit l) h c = absurd (number-apart (l .no) h)
+  narrow-cases unbound (qubit l) h c = unbound-qubit unbound l refl (kind-sound unbound (qubit l) h)
   narrow-cases unbound (bool b) h c = inl refl
   narrow-cases unbound (ref b) h c = inl refl
   narrow-cases (qubit k) unbound h c = inr (k, refl, refl)
@@ -334,3 +396,14 @@ module _ {s : Side} where
   narrow-cases (qubit k) (ref b) h c = inr (k, refl, refl)
   narrow-cases (bool a) w h c = let e : w ≡ bool a = c refl in rw e (inl refl)
   narrow-cases (ref a) w h c = let e : w ≡ ref a = c refl in rw e (inl refl)
+
+  -- so a slot that held a qubit on entry ends with it, or unbound
+  pub narrowed-home : (vs ws : List (Kind s)) (x : ℕ) (l : Place s) → allStay vs ws ≡ true → slot vs x ≡ qubit l → (slot (narrowed vs ws) x ≡ qubit l) ⊎ (slot (narrowed vs ws) x ≡ unbound)
+  narrowed-home vs ws x l h e = go (decLt x 32)
+    where
+      go : Dec (x < 32) → (slot (narrowed vs ws) x ≡ qubit l) ⊎ (slot (narrowed vs ws) x ≡ unbound)
+      go (yes r) = ⊎-elim
+          (λ q. inl (slot-narrowed vs ws x r ∙ q ∙ e))
+          (λ q. inr (slot-narrowed vs ws x r ∙ q .2))
+          (narrow-cases (slot vs x) (slot ws x) (all-stay-at vs ws x h r) (λ t. absurd (false≢true (sym (ap isClassical e) ∙ t))))
+      go (no r) = let n = length-narrowed vs ws in inr (slot-out (narrowed vs ws) x (omega arith))

@@ -8,37 +8,23 @@ use mathlib.Core.Logic.{_≢_, inl, inr}
 use mathlib.Core.Option.{Option, none, some}
 use mathlib.Core.Path.{_≡_, refl, sym, ap, ap₂, subst, _∙_}
 use native.Mathlib.Decide.{ℕ-discrete, decLt}
-use native.Mathlib.Nat.{zero-add}
 use native.Mathlib.Omega.{arith}
 use Prim.Native.Nat.{ℕ, zero, suc, _+_, _*_, _≤_, _<_}
-use lib.Dec.{eqb, leb, leb→le}
+use lib.Dec.{eqb, leb}
 use lib.ListN.{getD, length, length-map}
 use Rattle.answers.proofs.Laws.{Holds, by, holds-bind, holds-then, holds-need, holds-at, holds-any}
 use Rattle.rules.specs.Basics.{any, distinct, upTo, firstFrom, byte, word, hasMark}
 use Rattle.rules.specs.Device.{deviceHeader, owners, edges, readDevice}
 use Rattle.rules.specs.Region.{Region, regionOf, owns, touches, joined}
 use Rattle.rules.specs.Path.{NotAfter, between, Along, last, then, Path, Route, reach, fewest, smallestFrom, traced, route}
-use Rattle.rules.proofs.Basics.{getD-upTo}
+use Rattle.rules.proofs.Basics.{length-upTo, getD-upTo-zero}
 use Rattle.theory.specs.Routes.{NoRoute, TheRoute, OneRoute, ShortRoute}
-use Rattle.theory.proofs.Base.{eqb-true, eqb-same, eqb-other, and-left, and-right, eq→T}
-use Rattle.theory.proofs.Pigeon.{Below, not-true, pigeonhole}
-
--- a number that passes is below the table's length
-getD-in : (l : List Bool) (x : ℕ) → getD l x false ≡ true → x < length l
-getD-in [] x h = absurd (false≢true h)
-getD-in (y ∷ l) zero h = omega arith
-getD-in (y ∷ l) (suc x) h = let r = getD-in l x h in omega arith
-
-length-upTo : {A : Type 0} (i m : ℕ) (f : ℕ → A) → length (upTo i m f) ≡ m
-length-upTo i zero f = refl
-length-upTo i (suc m) f = ap suc (length-upTo (suc i) m f)
+use Rattle.theory.proofs.Base.{eqb-true, eqb-same, eqb-other, eqb-false, at-most, and-left, and-right, and-both, or-right, not-true, distinct-head, true-in-range}
+use Rattle.theory.proofs.Pigeon.{Below, pigeonhole}
 
 -- what a table of tests says at a number
-table : (m : ℕ) (f : ℕ → Bool) (x : ℕ) → x < m → getD (upTo 0 m f) x false ≡ f x
-table m f x h = getD-upTo 0 m x f false h ∙ ap f (zero-add x)
-
 in-table : (m : ℕ) (f : ℕ → Bool) (x : ℕ) → getD (upTo 0 m f) x false ≡ true → f x ≡ true
-in-table m f x h = let r = getD-in (upTo 0 m f) x h in let e = length-upTo 0 m f in sym (table m f x (omega arith)) ∙ h
+in-table m f x h = let r = true-in-range (upTo 0 m f) x h in let e = length-upTo 0 m f in sym (getD-upTo-zero m x f false (omega arith)) ∙ h
 
 any-some : (p : ℕ → Bool) (i m y : ℕ) → i ≤ y → y < i + m → p y ≡ true → any p (upTo i m λ k. k) ≡ true
 any-some p i zero y h l e = absurd (omega arith)
@@ -82,10 +68,10 @@ both-ways (x ∷ p) (y ∷ q) (inr h) (inr k) = ap₂ _∷_ (h .0) (both-ways p 
 module _ (R : Region) where
   -- both ends of an edge of the region are locations of the device
   joined-from : (x y : ℕ) → joined R x y ≡ true → x < length (R .owned)
-  joined-from x y h = getD-in (R .owned) x (and-left (owns R x) (owns R y) (and-left (owns R x && owns R y) (any (touches x y) (R .edges)) h))
+  joined-from x y h = true-in-range (R .owned) x (and-left (owns R x) (owns R y) (and-left (owns R x && owns R y) (any (touches x y) (R .edges)) h))
 
   joined-to : (x y : ℕ) → joined R x y ≡ true → y < length (R .owned)
-  joined-to x y h = getD-in (R .owned) y (and-right (owns R x) (owns R y) (and-left (owns R x && owns R y) (any (touches x y) (R .edges)) h))
+  joined-to x y h = true-in-range (R .owned) y (and-right (owns R x) (owns R y) (and-left (owns R x && owns R y) (any (touches x y) (R .edges)) h))
 
 module _ (R : Region) (free : ℕ → Bool) (a b : ℕ) where
   abbrev Way : ℕ → List ℕ → Type 0
@@ -106,7 +92,7 @@ module _ (R : Region) (free : ℕ → Bool) (a b : ℕ) where
   best k x = smallestFrom R free a b k x
 
   between-not-end : (y : ℕ) → between R free a b y ≡ true → y ≢ b
-  between-not-end y h q = false≢true (sym (ap not (ap (λ (z : ℕ). eqb z b) q ∙ eqb-same b)) ∙ and-right (free y && not (eqb y a)) (not (eqb y b)) h)
+  between-not-end y h = eqb-false y b (not-true (eqb y b) (and-right (free y && not (eqb y a)) (not (eqb y b)) h))
 
   way-length : {x : ℕ} {p : List ℕ} → Way x p → (k : ℕ) × (length p ≡ suc (suc k))
   way-length (last j) = (0, refl)
@@ -137,19 +123,16 @@ module _ (R : Region) (free : ℕ → Bool) (a b : ℕ) where
       then (and-left (joined R x (next k x)) _ j) (and-right (joined R x (next k x)) _ j) (leads-way k (next k x) (and-right (joined R x (next k x) && between R free a b (next k x)) _ s))
 
   hop-passes : (k x y : ℕ) → joined R x y ≡ true → between R free a b y ≡ true → Leads k y ≡ true → hop k x y ≡ true
-  hop-passes k x y j t l = go _ _ _ j t l
-    where
-      go : (r s u : Bool) → r ≡ true → s ≡ true → u ≡ true → (r && s && u) ≡ true
-      go r s u e f g = rw (e, f, g)
+  hop-passes k x y j t l = and-both _ _ (and-both _ _ j t) l
 
   -- and a way of k + 2 locations is found by the table
   way-leads : (k : ℕ) {x : ℕ} {p : List ℕ} → Way x p → length p ≡ suc (suc k) → Leads k x ≡ true
-  way-leads zero (last {x = x} j) e = table (length (R .owned)) (λ y. joined R y b) x (joined-from R x b j) ∙ j
+  way-leads zero (last {x = x} j) e = getD-upTo-zero (length (R .owned)) x (λ y. joined R y b) false (joined-from R x b j) ∙ j
   way-leads zero (then j t w) e = let r = way-length w in absurd (omega (arith, r .1))
   way-leads (suc k) (last j) e = absurd (omega arith)
   way-leads (suc k) (then {x = x} {y = y} j t w) e =
       let h : hop k x y ≡ true = hop-passes k x y j t (way-leads k w (omega arith)) in
-      table (length (R .owned)) _ x (joined-from R x y j) ∙ any-some (hop k x) 0 (length (R .owned)) y (omega arith) (omega (arith, joined-to R x y j)) h
+      getD-upTo-zero (length (R .owned)) x _ false (joined-from R x y j) ∙ any-some (hop k x) 0 (length (R .owned)) y (omega arith) (omega (arith, joined-to R x y j)) h
 
   -- among the ways from x by k + 1 edges the one given is the smallest
   best-first : (k : ℕ) {x : ℕ} {q : List ℕ} → Way x q → length q ≡ suc (suc k) → NotAfter (best k x) q
@@ -190,20 +173,12 @@ module _ (R : Region) (free : ℕ → Bool) (a b : ℕ) where
 
   -- b is on every way, so on a way from b it comes twice
   ends : {x : ℕ} {p : List ℕ} → Way x p → any (eqb b) p ≡ true
-  ends (last {x = x} j) = go (eqb b x)
-    where
-      go : (t : Bool) → (t || (eqb b b || false)) ≡ true
-      go true = refl
-      go false = rw (eqb-same b)
-  ends (then {x = x} {p = p} j t w) = go (eqb b x) (ends w)
-    where
-      go : (t : Bool) → any (eqb b) p ≡ true → (t || any (eqb b) p) ≡ true
-      go true r = refl
-      go false r = r
+  ends (last {x = x} j) = or-right (eqb b x) _ (rw (eqb-same b))
+  ends (then {x = x} {p = p} j t w) = or-right (eqb b x) _ (ends w)
 
   no-loop : {p : List ℕ} → Way b p → distinct p ≡ true → ⊥
   no-loop (last j) d = false≢true (rw (eqb-same b) at d)
-  no-loop (then {p = p} j t w) d = false≢true (sym (not-true (any (eqb b) p) (and-left (not (any (eqb b) p)) (distinct p) d)) ∙ ends w)
+  no-loop (then {p = p} j t w) d = false≢true (sym (distinct-head b p d) ∙ ends w)
 
   -- k is the first number from i on with a in `reach k`
   record Fewest (i k : ℕ) : Type 0 where
@@ -280,7 +255,7 @@ module _ (R : Region) (free : ℕ → Bool) (a b : ℕ) where
 
       go : (t : Bool) → eqb a b ≡ t → answers t ≡ some p → Route R free a b p
       go true e k = let z : _≡_ {A = ℕ} 0 1 = cc in absurd (omega arith)
-      go false e k = found (λ q. false≢true (sym e ∙ ap (λ (x : ℕ). eqb x b) q ∙ eqb-same b)) _ refl k
+      go false e k = found (eqb-false a b e) _ refl k
 
   -- and where it finds nothing there is no path
   no-path : route R free a b ≡ none → (p : List ℕ) → Path R free a b p → ⊥
@@ -313,6 +288,14 @@ no-route R free a b = (no-path R free a b, back)
         go none e = refl
         go (some p) e = absurd (h p (route-found R free a b p e .path))
 
+-- where there is a path there is a route
+pub path-route : (R : Region) (free : ℕ → Bool) (a b : ℕ) (p : List ℕ) → Path R free a b p → (q : List ℕ) × (route R free a b ≡ some q)
+path-route R free a b p P = go (route R free a b) refl
+  where
+    go : (r : Option (List ℕ)) → route R free a b ≡ r → (q : List ℕ) × (r ≡ some q)
+    go none e = absurd (no-path R free a b e p P)
+    go (some q) e = (q, refl)
+
 pub the-route : TheRoute
 the-route R free a b p = (route-found R free a b p, back)
   where
@@ -327,7 +310,7 @@ the-route R free a b p = (route-found R free a b p, back)
 header-fits : (n e : ℕ) → Holds (λ h. h .locations ≤ 256) (deviceHeader n e)
 header-fits n e =
     holds-then (holds-need (leb 1 n && leb n 256) 4 5) λ u h.
-    holds-then (holds-need (leb e 1024) 4 7) λ v k. by (leb→le n 256 (eq→T (leb n 256) (and-right (leb 1 n) (leb n 256) h)))
+    holds-then (holds-need (leb e 1024) 4 7) λ v k. by (at-most n 256 (and-right (leb 1 n) (leb n 256) h))
 
 owners-many : (s : List ℕ) (i m : ℕ) → Holds (λ ws. length ws ≡ m) (owners s i m)
 owners-many s i zero = by refl

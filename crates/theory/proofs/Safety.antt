@@ -1,17 +1,17 @@
 -- One step of a typed job moves, or finds the job finished, and leaves it typed. What is to come is typed item by item: `Rest` goes through the items
 -- with the environment and the free locations that each will meet, with the silent end of a block between items and a waiting caller at each return.
 -- The typing's free places are free on the device, its kinds fit the slots, and Figure 12 has a path at each merge: these are the tests of a step.
-use mathlib.Core.Bool.{Bool, true, false, not, _&&_, _||_, cond, false≢true}
+use mathlib.Core.Bool.{Bool, true, false, not, _&&_, false≢true}
 use mathlib.Core.List.{List, [], _∷_, _++_, map}
 use mathlib.Core.Logic.{_≢_, _⊎_, inl, inr, ⊎-elim}
-use mathlib.Core.Option.{Option, none, some}
+use mathlib.Core.Option.{some}
 use mathlib.Core.Path.{_≡_, refl, sym, ap, subst, _∙_}
 use native.Mathlib.Decide.{ℕ-discrete, decLt}
 use native.Mathlib.Nat.{zero-add}
 use native.Mathlib.Omega.{arith}
-use Prim.Native.Nat.{ℕ, zero, suc, _+_, _-_, _≤_, _<_}
-use lib.Dec.{eqb, ltb, leb, ltb→lt}
-use lib.ListN.{getD, set, length, drop, take, replicate, length-set, length-replicate, length-append, length-map}
+use Prim.Native.Nat.{ℕ, zero, suc, _-_, _≤_, _<_}
+use lib.Dec.{eqb, leb}
+use lib.ListN.{getD, set, length, drop, take, replicate, length-set, length-map}
 use lib.Seq.{getD-set-same, getD-set-other, set-out}
 use Rattle.answers.specs.Check.{ok, _>>=_, _>>_}
 use Rattle.rules.specs.Basics.{chosen, all, any, upTo, without, setAll, distinct}
@@ -23,72 +23,13 @@ use Rattle.rules.specs.Commands.{Commands, ε, alloc, release, connect, either,
 use Rattle.rules.specs.Typing.{Kind, Env, Typed, Signature, Context, signature, afterAct, narrowed, entry, bodyContext, signatureOf}
 use Rattle.rules.specs.Figures.{stored, kindAt, substituted, OpRule, T-Init, T-MInit, T-Free, T-Gate, T-Meas1, T-Meas2, T-MkRef, T-Deref, T-Assign, T-Bool, Arguments, no-more, and, Callable, StatementRule, T-Op, T-If, T-While, T-Call, StatementsRule, T-Unit, T-Seq, BlockRule, T-Close, Linked, Connects, C-Empty, C-Alloc, C-Free, C-Merge, C-If, C-Loop}
 use Rattle.rules.specs.Machine.{Frame, Actual, locations, locate, Item, run, return, Job, statementsBefore, blockBefore, Move, silent, floor, edgesOf, move, Stepped, stepItems, step}
-use Rattle.theory.proofs.Base.{eq→T, eqb-same, eqb-other, and-left, and-right, getD-set-cases}
-use Rattle.theory.proofs.Routes.{no-route}
-use Rattle.theory.proofs.Frames.{Fits, fits-set, fits-narrowed, fits-back, fits-entered, slot-entered, narrowed-home, settled}
+use Rattle.theory.proofs.Base.{eqb-same, eqb-other, below, and-left, and-right, chosen-has, true-in-range, getD-set-stays, getD-set-default}
+use Rattle.theory.proofs.Places.{length-stored, place-path, numbers, all-at, drop-at, at-map, distinct-places, arguments-length, at-at, signature-newest, signature-older, entry-free, length-entry, entry-at, narrowed-home}
+use Rattle.theory.proofs.Routes.{path-route}
+use Rattle.theory.proofs.Frames.{Fits, fits-set, fits-narrowed, fits-back, fits-entered, settled}
 
--- 1. Lists and places
-pub true-in-range : (fs : List Bool) (i : ℕ) → getD fs i false ≡ true → i < length fs
-true-in-range [] i h = absurd (false≢true h)
-true-in-range (b ∷ fs) zero h = omega arith
-true-in-range (b ∷ fs) (suc i) h = let k : i < length fs = true-in-range fs i h in omega arith
-
-stays-true : (L : List Bool) (i j : ℕ) → getD L i false ≡ true → getD (set L j true) i false ≡ true
-stays-true L i j h = ⊎-elim (λ c. c .1) (λ c. c ∙ h) (getD-set-cases L j i true false)
-
-or-right : (a b : Bool) → b ≡ true → (a || b) ≡ true
-or-right true b h = refl
-or-right false b h = h
-
-not-both : (b : Bool) → not b ≡ true → b ≡ true → ⊥
-not-both true h k = false≢true h
-not-both false h k = false≢true k
-
-place-path : {s : Side} (p q : Place s) → p .no ≡ q .no → p ≡ q
-place-path p q e = λ i. record { no = e i }
-
-length-stored : {A : Type 0} (vs : List A) (ns : List ℕ) (φ : List A) → length (stored vs ns φ) ≡ length φ
-length-stored [] ns φ = refl
-length-stored (v ∷ vs) [] φ = refl
-length-stored (v ∷ vs) (n ∷ ns) φ = length-set (stored vs ns φ) n v ∙ length-stored vs ns φ
-
+-- 1. The places of a call, and what it leaves free
 module _ {s : Side} where
-  abbrev numbers : List (Place s) → List ℕ
-  numbers ls = map (λ l. l .no) ls
-
-  all-at : (f : Place s → Bool) (ls : List (Place s)) (i : ℕ) → all f ls ≡ true → i < length ls → f (at ls i) ≡ true
-  all-at f [] i h k = absurd (omega arith)
-  all-at f (l ∷ ls) zero h k = and-left _ _ h
-  all-at f (l ∷ ls) (suc i) h k = all-at f ls i (and-right (f l) _ h) (omega arith)
-
-  drop-at : (f : Place s → Bool) (m : ℕ) (ls : List (Place s)) (i : ℕ) → all f (drop m ls) ≡ true → m ≤ i → i < length ls → f (at ls i) ≡ true
-  drop-at f zero ls i h j k = all-at f ls i h k
-  drop-at f (suc m) [] i h j k = absurd (omega arith)
-  drop-at f (suc m) (l ∷ ls) zero h j k = absurd (omega arith)
-  drop-at f (suc m) (l ∷ ls) (suc i) h j k = drop-at f m ls i h (omega arith) (omega arith)
-
-  any-at : (ls : List (Place s)) (i : ℕ) → i < length ls → any (eqb (at ls i .no)) (numbers ls) ≡ true
-  any-at [] i k = absurd (omega arith)
-  any-at (l ∷ ls) zero k = rw (eqb-same (l .no))
-  any-at (l ∷ ls) (suc i) k = or-right (eqb (at ls i .no) (l .no)) _ (any-at ls i (omega arith))
-
-  -- equal places of a list without repetition stand at equal indices
-  distinct-at : (ls : List (Place s)) (i j : ℕ) → distinct (numbers ls) ≡ true → i < length ls → j < length ls → at ls i .no ≡ at ls j .no → i ≡ j
-  distinct-at [] i j h k m e = absurd (omega arith)
-  distinct-at (l ∷ ls) zero zero h k m e = refl
-  distinct-at (l ∷ ls) zero (suc j) h k m e = absurd (not-both (any (eqb (l .no)) (numbers ls)) (and-left _ _ h) (rw e (any-at ls j (omega arith))))
-  distinct-at (l ∷ ls) (suc i) zero h k m e = absurd (not-both (any (eqb (l .no)) (numbers ls)) (and-left _ _ h) (rw (← e) (any-at ls i (omega arith))))
-  distinct-at (l ∷ ls) (suc i) (suc j) h k m e = ap suc (distinct-at ls i j (and-right (not (any (eqb (l .no)) (numbers ls))) _ h) (omega arith) (omega arith) e)
-
-  arguments-length : {Γ : Env s} {xs : List ℕ} {ls : List (Place s)} → Arguments Γ xs ls → length xs ≤ length ls
-  arguments-length no-more = omega arith
-  arguments-length (and p r) = let h = arguments-length r in omega arith
-
-  at-map : (f : Place s → Place device) (ls : List (Place s)) (i : ℕ) → i < length ls → at (map f ls) i ≡ f (at ls i)
-  at-map f [] i h = absurd (omega arith)
-  at-map f (l ∷ ls) zero h = refl
-  at-map f (l ∷ ls) (suc i) h = at-map f ls i (omega arith)
-
   map-same : (f g : Place s → Place device) (p : Place s → Bool) (ls : List (Place s)) → ((l : Place s) → p l ≡ true → f l ≡ g l) → all p ls ≡ true → map f ls ≡ map g ls
   map-same f g p [] h k = refl
   map-same f g p (l ∷ ls) h k = rw (h l (and-left _ _ k), map-same f g p ls h (and-right (p l) _ k))
@@ -115,23 +56,6 @@ module _ {s : Side} where
           absurd (omega arith)
       go (no n) d rec = ⊎-elim (λ c. inl (suc (c .0), c .1, c .2)) (λ c. inr (more n (c .0), c .1)) (rec (sym (getD-set-other (stored bs (numbers ls) fs) (l .no) (q .no) b false n) ∙ h))
 
-commands-at-at : {s : Side} (ρ : Place s → Place device) (ls : List (Place s)) (c : Commands parameter)
-    → commandsAt ρ (commandsAt (λ p. at ls (p .no)) c) ≡ commandsAt (λ p. ρ (at ls (p .no))) c
-commands-at-at ρ ls ε = refl
-commands-at-at ρ ls (alloc q l c) = ap (λ d. alloc q (ρ (at ls (l .no))) d) (commands-at-at ρ ls c)
-commands-at-at ρ ls (release l c) = ap (λ d. release (ρ (at ls (l .no))) d) (commands-at-at ρ ls c)
-commands-at-at ρ ls (connect o b l e k c) = ap (λ d. connect o b (ρ (at ls (l .no))) e (ρ (at ls (k .no))) d) (commands-at-at ρ ls c)
-commands-at-at ρ ls (either a b c) = λ i. either (commands-at-at ρ ls a i) (commands-at-at ρ ls b i) (commands-at-at ρ ls c i)
-commands-at-at ρ ls (repeat a c) = λ i. repeat (commands-at-at ρ ls a i) (commands-at-at ρ ls c i)
-
-entry-free : (m : ℕ) (bs : List Bool) (i : ℕ) → getD (replicate m false ++ bs) i false ≡ true → m ≤ i
-entry-free zero bs i h = omega arith
-entry-free (suc m) bs zero h = absurd (false≢true h)
-entry-free (suc m) bs (suc i) h = let k = entry-free m bs i h in omega arith
-
-length-entry : (m r : ℕ) → length (replicate m false ++ replicate r true) ≡ m + r
-length-entry m r = length-append (replicate m false) (replicate r true) ∙ omega (arith, length-replicate m false, length-replicate r true)
-
 -- 2. A path over some free locations is one over more, so there is a route
 module _ (R : Region) (f g : ℕ → Bool) (a b : ℕ) (more : (i : ℕ) → f i ≡ true → g i ≡ true) where
   between-more : (x : ℕ) → between R f a b x ≡ true → between R g a b x ≡ true
@@ -144,11 +68,7 @@ module _ (R : Region) (f g : ℕ → Bool) (a b : ℕ) (more : (i : ℕ) → f i
   along-more ((then) {y = y} h k r) = (then) h (between-more y k) (along-more r)
 
   route-more : (p : List ℕ) → Path R f a b p → (q : List ℕ) × (route R g a b ≡ some q)
-  route-more p P = go (route R g a b) refl
-    where
-      go : (r : Option (List ℕ)) → route R g a b ≡ r → (q : List ℕ) × (r ≡ some q)
-      go none e = absurd (no-route R g a b .0 e p (record { along = along-more (P .along); once = P .once }))
-      go (some q) e = (q, refl)
+  route-more p P = path-route R g a b p (record { along = along-more (P .along); once = P .once })
 
 -- 3. A body on the device: what it may use, what its places are, and how many there are
 pub record Body (s : Side) : Type 0 where
@@ -161,9 +81,9 @@ pub record Body (s : Side) : Type 0 where
 abbrev pub Frees : {s : Side} → (Place s → Place device) → List Bool → List Bool → Type 0
 Frees ρ fs N = (p : Place _) → getD fs (p .no) false ≡ true → getD N (ρ p .no) false ≡ true
 
--- an argument's slot ends with nothing of the caller's, or with the argument where it was
+-- an argument's slot ends with the argument where it was, or with nothing of the caller's
 abbrev pub Home : ℕ → List (Kind parameter) → Type 0
-Home m vs = (j : ℕ) → j < m → (slot vs j ≡ unbound) ⊎ (slot vs j ≡ qubit (param j))
+Home m vs = (j : ℕ) → j < m → (slot vs j ≡ qubit (param j)) ⊎ (slot vs j ≡ unbound)
 
 module _ (R : Region) (fs : List Function) (len : ℕ) where
   pub record Placed {s : Side} (B : Body s) : Type 0 where
@@ -178,7 +98,7 @@ module _ (R : Region) (fs : List Function) (len : ℕ) where
   take-frees {B = B} fr N l P e k F p h = go (ℕ-discrete (p .no) (l .no))
     where
       go : Dec (p .no ≡ l .no) → getD (set N (B .place l .no) false) (B .place p .no) false ≡ true
-      go (yes q) = absurd (false≢true (sym (getD-set-same fr (l .no) false false (omega arith)) ∙ rw q at h))
+      go (yes q) = absurd (false≢true (sym (getD-set-default fr (l .no) false) ∙ rw q at h))
       go (no n) =
           let h′ : getD fr (p .no) false ≡ true = sym (getD-set-other fr (l .no) (p .no) false false n) ∙ h in
           let r : p .no < length fr = true-in-range fr (p .no) h′ in
@@ -189,12 +109,12 @@ module _ (R : Region) (fs : List Function) (len : ℕ) where
   give-frees {B = B} fr N l P e e′ F p h = go (ℕ-discrete (p .no) (l .no)) (decLt (l .no) (length fr))
     where
       go : Dec (p .no ≡ l .no) → Dec (l .no < length fr) → getD (set N (B .place l .no) true) (B .place p .no) false ≡ true
-      go (no n) d = stays-true N _ _ (F p (sym (getD-set-other fr (l .no) (p .no) true false n) ∙ h))
+      go (no n) d = getD-set-stays N _ _ true false (F p (sym (getD-set-other fr (l .no) (p .no) true false n) ∙ h))
       go (yes q) (yes d) =
           let same : B .place p .no ≡ B .place l .no = ap (λ n. B .place (record { no = n }) .no) q in
           let r : B .place l .no < len = P .room l (omega arith) in
           rw same (getD-set-same N (B .place l .no) true false (omega arith))
-      go (yes q) (no d) = stays-true N _ _ (F p (rw (set-out fr (l .no) true (omega arith)) at h))
+      go (yes q) (no d) = getD-set-stays N _ _ true false (F p (rw (set-out fr (l .no) true (omega arith)) at h))
 
   -- Each known signature is that of a typed function
   pub data Known : List Signature → Type 0 where
@@ -216,9 +136,9 @@ module _ (R : Region) (fs : List Function) (len : ℕ) where
   known-at f known-none h = absurd (omega arith)
   known-at f (known-more {gs = gs} {g = g} {d = d} K b n j) h = go (λ k. known-at f K k) (ℕ-discrete f (length gs))
     where
-      go : (f < length gs → Callee f (signature gs f)) → Dec (f ≡ length gs) → Callee f (cond (eqb f (length gs)) (signatureOf g d) (signature gs f))
-      go rec (yes e) = record { gs = gs; g = g; d = d; known = K; found = ap (λ n. function fs n) e ∙ b; few = n; typed = j; is = rw (e, eqb-same (length gs)) }
-      go rec (no n) = rw (eqb-other f (length gs) n) (rec (omega arith))
+      go : (f < length gs → Callee f (signature gs f)) → Dec (f ≡ length gs) → Callee f (signature (signatureOf g d ∷ gs) f)
+      go rec (yes e) = record { gs = gs; g = g; d = d; known = K; found = ap (λ n. function fs n) e ∙ b; few = n; typed = j; is = signature-newest (signatureOf g d) gs f e }
+      go rec (no n) = rw (signature-older (signatureOf g d) gs f (omega arith)) (rec (omega arith))
 
   -- A caller with slots χ that waits for its callee D, called at these locations with these argument slots
   pub record Waiting (N : List Bool) (D : Body parameter) (χ : Frame) (actual : List (Place device)) (xs : List ℕ) : Type 0 where
@@ -243,7 +163,7 @@ module _ (R : Region) (fs : List Function) (len : ℕ) where
   abbrev pub resumed : {N : List Bool} {D : Body parameter} {χ : Frame} {actual : List (Place device)} {xs : List ℕ} (w : Waiting N D χ actual xs) → Env parameter → Env (w .s)
   resumed {xs = xs} w Δ = record {
     slots = stored (upTo 0 (length xs) λ i. kindAt (w .ls) (slot (Δ .slots) i)) xs (w .Γ .slots);
-    free = stored (Δ .free) (map (λ l. l .no) (w .ls)) (w .Γ .free);
+    free = stored (Δ .free) (numbers (w .ls)) (w .Γ .free);
   }
 
   -- What is left to do, typed. N is free now, L will be free when the items are reached.
@@ -289,7 +209,7 @@ module _ (R : Region) (fs : List Function) (len : ℕ) where
     named = w .named;
     count = w .count;
     range = w .range;
-    frees = λ q n h. stays-true N _ t (w .frees q n h);
+    frees = λ q n h. getD-set-stays N t _ true false (w .frees q n h);
   }
 
   waiting-take : {N : List Bool} {D : Body parameter} {χ : Frame} {actual : List (Place device)} {xs : List ℕ} (l : Place parameter) → l .no < D .size
@@ -489,12 +409,8 @@ module _ (R : Region) (fs : List Function) (len : ℕ) where
           record {
             to = silent φ φs (chosen t (blockBefore (B .actual) b is) (blockBefore (B .actual) b′ is));
             moves = rw e;
-            inv = record { s = s; B = B; Γ = Γ; good = G; rest = go t (rest-block b j w₁ z) (rest-block b′ k w₂ z) };
+            inv = record { s = s; B = B; Γ = Γ; good = G; rest = chosen-has (λ js. Rest N s B Γ N φs js) t (rest-block b j w₁ z) (rest-block b′ k w₂ z) };
           }
-        where
-          go : {ys ns : List Item} (t : Bool) → Rest N s B Γ N φs ys → Rest N s B Γ N φs ns → Rest N s B Γ N φs (chosen t ys ns)
-          go true r r′ = r
-          go false r r′ = r′
 
       while-moves : {M : List Bool} {φs : List Frame} {is : List Item} {o r : ℕ} (b : Block s) {c : Commands s}
           → slot (Γ .slots) r ≡ ref tt → BlockRule (B .context) Γ b Γ c → Connects R N (commandsAt (B .place) (repeat c ε)) M → Rest N s B Γ M φs is
@@ -506,12 +422,8 @@ module _ (R : Region) (fs : List Function) (len : ℕ) where
           record {
             to = silent φ φs (chosen t (blockBefore (B .actual) b (run (B .actual) (while o r b) ∷ is)) is);
             moves = rw e;
-            inv = record { s = s; B = B; Γ = Γ; good = G; rest = go t (rest-block b j w₁ (next (T-While p j) w z)) (now q z) };
+            inv = record { s = s; B = B; Γ = Γ; good = G; rest = chosen-has (λ js. Rest N s B Γ N φs js) t (rest-block b j w₁ (next (T-While p j) w z)) (now q z) };
           }
-        where
-          go : {ys ns : List Item} (t : Bool) → Rest N s B Γ N φs ys → Rest N s B Γ N φs ns → Rest N s B Γ N φs (chosen t ys ns)
-          go true r₁ r₂ = r₁
-          go false r₁ r₂ = r₂
 
     -- 7. The return: the caller finds its slots and its places as typing says
     return-moves : {D : Body parameter} {Δ : Env parameter} {N : List Bool} {φ χ : Frame} {φs : List Frame} {is : List Item} {o : ℕ} {actual : List (Place device)} {xs : List ℕ}
@@ -527,7 +439,7 @@ module _ (R : Region) (fs : List Function) (len : ℕ) where
         good = record {
           known = w .known;
           placed = w .placed;
-          sized = length-stored (Δ .free) (map (λ l. l .no) (w .ls)) (w .Γ .free) ∙ w .sized;
+          sized = length-stored (Δ .free) (numbers (w .ls)) (w .Γ .free) ∙ w .sized;
           long = G .long;
           fits = fits-back (w .B .place) 0 (λ i. kindAt (w .ls) (slot (Δ .slots) i)) (λ i. isQubitAt (slot φ i) (at actual i)) xs (w .ls) (w .fits) (w .arguments) (w .different)
               (λ j k. rw (zero-add j) (settled (D .place) (w .ls) actual (slot (Δ .slots) j) (slot φ j) j (G .fits .each j) (w .named j k) (h j k)));
@@ -573,7 +485,7 @@ module _ (R : Region) (fs : List Function) (len : ℕ) where
   -- a function's body ends with its arguments at home
   body-home : {C : Context parameter} {Δ : Env parameter} {c : Commands parameter} (g : Function) (b : Block parameter) → BlockRule C (entry g) b Δ c → Home (g .m) (Δ .slots)
   body-home g (block o ts) (T-Close {Δ = Δ} j p) i k =
-      narrowed-home (entry g .slots) (Δ .slots) i (param i) p (slot-entered 0 (g .m) (32 - length (upTo 0 (g .m) param)) i k ∙ ap (λ n. qubit (param n)) (zero-add i))
+      narrowed-home (entry g .slots) (Δ .slots) i (param i) p (entry-at (g .m) i k)
 
   module _ (v : Bool) (isFree : ℕ → Bool) {s : Side} {B : Body s} {Γ : Env s} {N : List Bool} {φ : Frame} (more : (l : ℕ) → getD N l false ≡ true → isFree l ≡ true) (G : Good B Γ N φ) where
     arguments-ok : (o : ℕ) {xs : List ℕ} {ls : List (Place s)} → Arguments Γ xs ls → argumentsAt (floor R fs v isFree (B .actual)) o φ xs (map (B .place) ls) ≡ ok tt
@@ -619,15 +531,12 @@ module _ (R : Region) (fs : List Function) (len : ℕ) where
           let k : i < length ls = omega (arith, many) in
           at-map (locate (B .actual)) ls i k ∙ G .placed .agree (at ls i) (all-at (B .context .inside) ls i (A .inside) k)
 
-      below : (i : ℕ) → ltb i (callee .g .k) ≡ true → i < callee .g .k
-      below i h = ltb→lt i (callee .g .k) (eq→T _ h)
-
       inner-placed : Placed inner
       inner-placed = record {
-        agree = λ i h. named-at (i .no) (below (i .no) h);
-        own = λ i h. G .placed .own (at ls (i .no)) (all-at (B .context .inside) ls (i .no) (A .inside) (omega (arith, many, below (i .no) h)));
-        range = λ i h. below (i .no) h;
-        apart = λ i j h k e. distinct-at ls (i .no) (j .no) (A .different) (omega (arith, many)) (omega (arith, many))
+        agree = λ i h. named-at (i .no) (below (i .no) (callee .g .k) h);
+        own = λ i h. G .placed .own (at ls (i .no)) (all-at (B .context .inside) ls (i .no) (A .inside) (omega (arith, many, below (i .no) (callee .g .k) h)));
+        range = λ i h. below (i .no) (callee .g .k) h;
+        apart = λ i j h k e. distinct-places ls (i .no) (j .no) (A .different) (omega (arith, many)) (omega (arith, many))
             (G .placed .apart (at ls (i .no)) (at ls (j .no)) (range-of (i .no) h) (range-of (j .no) k) e);
         room = λ i h. G .placed .room (at ls (i .no)) (range-of (i .no) h);
       }
@@ -679,7 +588,7 @@ module _ (R : Region) (fs : List Function) (len : ℕ) where
           B = inner;
           Γ = entry (callee .g);
           good = inner-good;
-          rest = rw (callee .found) (rest-block (callee .g .body) (callee .typed) (rw (commands-at-at (B .place) ls (callee .d .commands)) at w)
+          rest = rw (callee .found) (rest-block (callee .g .body) (callee .typed) (rw (at-at (B .place) ls (callee .d .commands)) at w)
               (back waiting (rw given-many (body-home (callee .g) (callee .g .body) (callee .typed))) (rw (← given-many) at z)));
         };
       }

@@ -3,12 +3,12 @@
 -- steps of other jobs leave the number of the job's bytes alone. A stuck job stays stuck: a refusal changes nothing that the job sees, no refusal
 -- reads the outcome, and other jobs change nothing that the job sees.
 use mathlib.Core.Path.{_≡_, refl, sym, ap, subst, _∙_}
-use mathlib.Core.List.{List, [], _∷_, map}
-use mathlib.Core.Logic.{_≢_, _⊎_, inl, inr, ⊎-elim}
+use mathlib.Core.List.{List, [], _∷_}
+use mathlib.Core.Logic.{_≢_, inl, inr, ⊎-elim}
 use mathlib.Core.Bool.{Bool, true, not, _&&_}
 use Prim.Native.Nat.{ℕ, zero, suc, _+_, _≤_, _<_}
 use lib.Dec.{eqb}
-use lib.ListN.{getD, set, length, replicate}
+use lib.ListN.{getD, set, length, replicate, length-map}
 use lib.Seq.{getD-set-other}
 use native.Mathlib.Decide.{ℕ-discrete}
 use native.Mathlib.Omega.{arith}
@@ -24,7 +24,7 @@ use Rattle.rules.specs.Run.{Turn, Machine, written, started, stepOf, after, fin
 use Rattle.theory.specs.Interleaving.{turnsOf}
 use Rattle.theory.specs.Tidy.{isInit, isFree, bytesOf, Readable, acts, Occupied, MapByte, frame, StuckStays, HeldOnce}
 use Rattle.theory.proofs.Base.{eqb-same, eqb-other}
-use Rattle.theory.proofs.Isolation.{ownSlot, OwnFrame, OwnFrames, OwnAct, OwnJob, owns-owner, View, view, view-step, view-after, view-final, Sound, sound-started, sound-after, sound-final, acts-own, same-step, view-same, view-of-final}
+use Rattle.theory.proofs.Isolation.{Byte, ownSlot, OwnFrame, OwnFrames, OwnAct, OwnJob, owns-owner, View, view, view-step, view-after, view-final, Sound, sound-started, sound-after, sound-final, acts-own, same-step, view-same, view-of-final}
 use Rattle.theory.proofs.Neat.{Neat, Counts, Keeps, neat-keep, neat-step, neat-fresh, bodies-scoped, frames-once}
 
 -- 1. The map's bytes
@@ -32,23 +32,16 @@ pub map-byte : MapByte
 map-byte D programs ts l = sound-final D programs ts (started D programs) (sound-started D programs) .bytes l
 
 -- 2. Every job from 1 on stays neat.
-length-owned : (j : ℕ) (ws : List ℕ) → length (map (λ w. eqb w j) ws) ≡ length ws
-length-owned j [] = refl
-length-owned j (w ∷ ws) = ap suc (length-owned j ws)
-
 module _ (D : Device) (programs : ℕ → Program) where
-  abbrev Byte : List ℕ → ℕ → Type 0
-  Byte occ l = (getD occ l 0 ≡ 0) ⊎ (getD occ l 0 ≡ getD (D .owners) l 0)
-
   -- a byte of job j is not where another job owns
-  untouched : (i j k l : ℕ) (occ : List ℕ) → 1 ≤ j → j ≢ i → owns (regionOf D i) k ≡ true → ((l : ℕ) → Byte occ l) → getD occ l 0 ≡ j → l ≢ k
+  untouched : (i j k l : ℕ) (occ : List ℕ) → 1 ≤ j → j ≢ i → owns (regionOf D i) k ≡ true → ((l : ℕ) → Byte D occ l) → getD occ l 0 ≡ j → l ≢ k
   untouched i j k l occ pos n h b e same = go (b l)
     where
-      go : Byte occ l → ⊥
+      go : Byte D occ l → ⊥
       go (inl z) = omega arith
       go (inr o) = n (sym e ∙ o ∙ ap (λ (m : ℕ). getD (D .owners) m 0) same ∙ owns-owner (D .owners) i k h .1)
 
-  keeps-other : (i j : ℕ) (a : Act device) (occ : List ℕ) → 1 ≤ j → j ≢ i → OwnAct (owns (regionOf D i)) a → ((l : ℕ) → Byte occ l) → Keeps j occ (written i a occ)
+  keeps-other : (i j : ℕ) (a : Act device) (occ : List ℕ) → 1 ≤ j → j ≢ i → OwnAct (owns (regionOf D i)) a → ((l : ℕ) → Byte D occ l) → Keeps j occ (written i a occ)
   keeps-other i j quiet occ pos n h b l e = e
   keeps-other i j (takes q k) occ pos n h b l e = getD-set-other occ (k .no) l i 0 (untouched i j (k .no) l occ pos n h b e) ∙ e
   keeps-other i j (gives k) occ pos n h b l e = getD-set-other occ (k .no) l 0 0 (untouched i j (k .no) l occ pos n h b e) ∙ e
@@ -81,10 +74,10 @@ module _ (D : Device) (programs : ℕ → Program) where
   bytes-own j (merges b l e k) occ pos f h c = refl
 
   -- another job
-  not-its : (i j : ℕ) (occ : List ℕ) (k : ℕ) → 1 ≤ j → j ≢ i → owns (regionOf D i) k ≡ true → ((l : ℕ) → Byte occ l) → getD occ k 0 ≢ j
+  not-its : (i j : ℕ) (occ : List ℕ) (k : ℕ) → 1 ≤ j → j ≢ i → owns (regionOf D i) k ≡ true → ((l : ℕ) → Byte D occ l) → getD occ k 0 ≢ j
   not-its i j occ k pos n h b e = untouched i j k k occ pos n h b e refl
 
-  bytes-other : (i j : ℕ) (a : Act device) (occ : List ℕ) → 1 ≤ j → j ≢ i → length (D .owners) ≡ length occ → OwnAct (owns (regionOf D i)) a → ((l : ℕ) → Byte occ l)
+  bytes-other : (i j : ℕ) (a : Act device) (occ : List ℕ) → 1 ≤ j → j ≢ i → length (D .owners) ≡ length occ → OwnAct (owns (regionOf D i)) a → ((l : ℕ) → Byte D occ l)
       → bytesOf j (written i a occ) ≡ bytesOf j occ
   bytes-other i j quiet occ pos n f h b = refl
   bytes-other i j (takes q k) occ pos n f h b = bytes-same j occ (k .no) i (omega (arith, owns-owner (D .owners) i (k .no) h .0)) (not-its i j occ (k .no) pos n h b) (λ e. n (sym e))
@@ -103,7 +96,7 @@ module _ (D : Device) (programs : ℕ → Program) where
         × Neat (programs (t .job) .functions) (t .job) (written (t .job) (stepOf D programs t M .act) (M .occupancy)) (stepOf D programs t M .next)
     neat-own t M S pos A =
         neat-step (regionOf D (t .job)) (programs (t .job) .functions) (bodies-scoped (programs (t .job)) (readable (t .job) .1)) (t .outcome) (t .job) pos (M .occupancy)
-        (length-owned (t .job) (D .owners) ∙ S .fits) (M .jobs (t .job)) (A (t .job) pos)
+        (length-map (D .owners) (λ w. eqb w (t .job)) ∙ S .fits) (M .jobs (t .job)) (A (t .job) pos)
 
     neat-after : (t : Turn) (M : Machine) → Sound D programs M → AllNeat M → AllNeat (after D programs t M)
     neat-after t M S A j pos = go (ℕ-discrete j (t .job))

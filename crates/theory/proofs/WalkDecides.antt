@@ -2,33 +2,32 @@
 -- walk's list says the same at the device locations that these places stand for, in main and in every call, for a call names each place once. So an
 -- init meets a free location, both blocks of an if end with the same list, and a loop's body ends with the list that it began with; locations that the
 -- body has no place for stay as they are.
-use mathlib.Core.Bool.{Bool, true, false, false≢true, cond}
-use mathlib.Core.List.{List, [], _∷_, _++_, map}
-use mathlib.Core.Logic.{_≢_, _⊎_, inl, inr, ⊎-elim, _↔_}
+use mathlib.Core.Bool.{Bool, true, false}
+use mathlib.Core.List.{List, [], _∷_, _++_}
+use mathlib.Core.Logic.{_≢_, _⊎_, inl, inr, ⊎-elim}
 use mathlib.Core.Option.{Option, none, some}
 use mathlib.Core.Path.{_≡_, refl, sym, ap, subst, _∙_}
 use native.Mathlib.Decide.{ℕ-discrete, decLt}
 use native.Mathlib.Omega.{arith}
-use Prim.Native.Nat.{ℕ, zero, suc, _+_, _-_, _≤_, _<_}
-use lib.Dec.{eqb}
-use lib.ListN.{getD, set, length, drop, replicate, length-set, length-map}
+use Prim.Native.Nat.{ℕ, zero, suc, _-_, _<_}
+use lib.ListN.{getD, set, length, drop, replicate, length-set}
 use lib.Seq.{getD-set-same, getD-set-other, ext-getD}
 use Rattle.answers.specs.Check.{Check, ok, refused, _>>=_, _>>_}
 use Rattle.answers.proofs.Laws.{Holds, not-ok, by, holds-bind, holds-then, holds-map, holds-at, bind-assoc, bind-under}
 use Rattle.rules.specs.Basics.{all, distinct}
 use Rattle.rules.specs.Region.{Region}
-use Rattle.rules.specs.Path.{Path, route}
+use Rattle.rules.specs.Path.{route}
 use Rattle.rules.specs.Syntax.{Side, device, parameter, Place, param, at, Preparation, Op, Statement, op, if, while, call, Statements, done, _⨾_, Block, block, Function, Program}
 use Rattle.rules.specs.Program.{Scope}
 use Rattle.rules.specs.Commands.{Commands, ε, alloc, release, connect, either, repeat, _then_, commandsAt, needRoute, walk}
-use Rattle.rules.specs.Typing.{Env, Typed, Signature, Context, signature, entry, bodyContext, signatureOf, mainContext, start}
-use Rattle.rules.specs.Figures.{stored, OpRule, T-Init, T-MInit, T-Free, T-Gate, T-Meas1, T-Meas2, T-MkRef, T-Deref, T-Assign, T-Bool, Arguments, Callable, StatementRule, T-Op, T-If, T-While, T-Call, StatementsRule, T-Unit, T-Seq, BlockRule, T-Close, FunctionsRule, T-NoFun, T-Fundecl, Linked, Connects, C-Empty, C-Alloc, C-Free, C-Merge, C-If, C-Loop}
-use Rattle.theory.specs.WellRead.{StatementRead, op-read, if-read, while-read, call-read, StatementsRead, done-read, next-read, BlockRead, block-read, FunctionsRead, none-read, function-read, ProgramRead}
+use Rattle.rules.specs.Typing.{Env, Typed, Signature, Context, signature, bodyContext, mainContext}
+use Rattle.rules.specs.Figures.{stored, OpRule, T-Init, T-MInit, T-Free, T-Gate, T-Meas1, T-Meas2, T-MkRef, T-Deref, T-Assign, T-Bool, Arguments, StatementRule, T-Op, T-If, T-While, T-Call, StatementsRule, T-Unit, T-Seq, BlockRule, T-Close, FunctionsRule, T-NoFun, T-Fundecl, Linked, Connects, C-Empty, C-Alloc, C-Free, C-Merge, C-If, C-Loop}
+use Rattle.theory.specs.WellRead.{StatementRead, if-read, while-read, StatementsRead, next-read, BlockRead, block-read, FunctionsRead, none-read, function-read, ProgramRead}
 use Rattle.theory.specs.Exact.{Derives, WalkDecides}
-use Rattle.theory.proofs.Base.{eqb-same}
-use Rattle.theory.proofs.Places.{place-path, true-in-range, stored-other, stored-at, number-at, all-at, drop-at, distinct-places, find-place, argument-at, at-at, length-entry, entry-taken, entry-rest}
-use Rattle.theory.proofs.Linear.{Linear, Ends, AllEnd, ends-at, linear-statement, linear-start, linear-entry, free-length-statement, function-ends}
-use Rattle.theory.proofs.Routes.{no-route, the-route}
+use Rattle.theory.proofs.Base.{true-in-range, getD-set-default}
+use Rattle.theory.proofs.Places.{place-path, numbers, all-at, drop-at, distinct-places, find-place, stored-place, stored-other-place, argument-at, at-at, at-same, AllOf, all-of-at, length-entry, entry-taken, entry-rest}
+use Rattle.theory.proofs.Linear.{Linear, Ends, AllEnd, linear-statement, linear-start, linear-entry, free-length-statement, function-ends}
+use Rattle.theory.proofs.Routes.{path-route, the-route}
 
 then-bind : {A B C : Type 0} (m : Check A) (n : Check B) (f : B → Check C) → ((m >> n) >>= f) ≡ (m >> (n >>= f))
 unfolding _>>=_ _>>_
@@ -47,14 +46,6 @@ image σ (suc i) n = ⊎-elim (λ c. inl (c .0, omega (arith, c .1), c .2)) (λ 
         last : (p : Place _) → p .no < suc i → Dec (p .no ≡ i) → σ p .no ≢ n
         last p h (yes e) q = d (ap (λ (m : ℕ). σ (record { no = m }) .no) (sym e) ∙ q)
         last p h (no f) q = c p (omega arith) q
-
-at-same : {s : Side} (c : Commands s) → commandsAt (λ l. l) c ≡ c
-at-same ε = refl
-at-same (alloc q l c) = ap (λ d. alloc q l d) (at-same c)
-at-same (release l c) = ap (λ d. release l d) (at-same c)
-at-same (connect o b l e k c) = ap (λ d. connect o b l e k d) (at-same c)
-at-same (either a b c) = λ i. either (at-same a i) (at-same b i) (at-same c i)
-at-same (repeat a c) = λ i. repeat (at-same a i) (at-same c i)
 
 -- the device has len locations
 module _ (R : Region) (len : ℕ) where
@@ -116,12 +107,11 @@ module _ (R : Region) (len : ℕ) where
   alloc-does {size = size} {σ = σ} fs q l A z f L e x =
       let r : l .no < length fs = true-in-range fs (l .no) f in
       let r′ : l .no < size = omega arith in
-      let w : σ l .no < len = A .room l r′ in
-      by (record { connects = C-Alloc (sym (x l r′) ∙ f) C-Empty; long = length-set L _ false ∙ e; exact = λ p h. go r w p h (ℕ-discrete (p .no) (l .no)); outside = λ n h. getD-set-other L (σ l .no) n false false (λ c. h l r′ (sym c)) })
+      by (record { connects = C-Alloc (sym (x l r′) ∙ f) C-Empty; long = length-set L _ false ∙ e; exact = λ p h. go r′ p h (ℕ-discrete (p .no) (l .no)); outside = λ n h. getD-set-other L (σ l .no) n false false (λ c. h l r′ (sym c)) })
     where
-      go : l .no < length fs → σ l .no < len → (p : Place _) → p .no < size → Dec (p .no ≡ l .no) → getD (set fs (l .no) false) (p .no) false ≡ getD (set L (σ l .no) false) (σ p .no) false
-      go r w p h (yes c) = rw (place-path p l c) (getD-set-same fs (l .no) false false r ∙ sym (getD-set-same L (σ l .no) false false (omega arith)))
-      go r w p h (no c) = getD-set-other fs (l .no) (p .no) false false c ∙ x p h ∙ sym (getD-set-other L (σ l .no) (σ p .no) false false (λ v. c (A .apart p l h (omega arith) v)))
+      go : l .no < size → (p : Place _) → p .no < size → Dec (p .no ≡ l .no) → getD (set fs (l .no) false) (p .no) false ≡ getD (set L (σ l .no) false) (σ p .no) false
+      go r p h (yes c) = rw (place-path p l c) (getD-set-default fs (l .no) false ∙ sym (getD-set-default L (σ l .no) false))
+      go r p h (no c) = getD-set-other fs (l .no) (p .no) false false c ∙ x p h ∙ sym (getD-set-other L (σ l .no) (σ p .no) false false (λ v. c (A .apart p l h r v)))
 
   release-does : {s : Side} {size : ℕ} {σ : Place s → Place device} (fs : List Bool) (l : Place s) → Apart size σ → length fs ≡ size → l .no < size
       → Effect size σ fs (set fs (l .no) true) (release (σ l) ε)
@@ -139,11 +129,7 @@ module _ (R : Region) (len : ℕ) where
   route-found (some p) o = by refl
 
   linked-route : (L : List Bool) (l k : Place device) (o : ℕ) → Linked R L l k → (p : List ℕ) × (needRoute (route R (λ i. getD L i false) (l .no) (k .no)) o ≡ ok p)
-  linked-route L l k o h = go (route R (λ i. getD L i false) (l .no) (k .no)) refl
-    where
-      go : (r : Option (List ℕ)) → route R (λ i. getD L i false) (l .no) (k .no) ≡ r → (p : List ℕ) × (needRoute r o ≡ ok p)
-      go none e = absurd (no-route R (λ i. getD L i false) (l .no) (k .no) .0 e (h .0) (h .1))
-      go (some p) e = (p, refl)
+  linked-route L l k o h = let (p, e) = path-route R (λ i. getD L i false) (l .no) (k .no) (h .0) (h .1) in (p, rw e)
 
   connect-does : {s : Side} {size : ℕ} {σ : Place s → Place device} {fs : List Bool} (o b : ℕ) (l : Place device) (d : ℕ) (k : Place device) → Effect size σ fs fs (connect o b l d k ε)
   connect-does o b l d k L e x = holds-then (route-found (route R (λ i. getD L i false) (l .no) (k .no)) o) λ p r.
@@ -154,20 +140,7 @@ module _ (R : Region) (len : ℕ) where
   Does g = (τ : Place parameter → Place device) → Apart (g .k) τ → Effect (g .k) τ (replicate (g .m) false ++ replicate (g .k - g .m) true) (g .ends .free) (commandsAt τ (g .commands))
 
   abbrev AllDo : List Signature → Type 0
-  AllDo [] = Unit {0}
-  AllDo (g ∷ gs) = Does g × AllDo gs
-
-  does-at : (gs : List Signature) (f : ℕ) → AllDo gs → f < length gs → Does (signature gs f)
-  does-at [] f H h = absurd (omega arith)
-  does-at (g ∷ gs) f H h = go (eqb f (length gs)) refl (λ k. does-at gs f (H .1) k)
-    where
-      go : (t : Bool) → eqb f (length gs) ≡ t → (f < length gs → Does (signature gs f)) → Does (cond t g (signature gs f))
-      go true e rest = H .0
-      go false e rest = rest (below (ℕ-discrete f (length gs)))
-        where
-          below : Dec (f ≡ length gs) → f < length gs
-          below (yes q) = absurd (false≢true (sym e ∙ ap (λ (n : ℕ). eqb n (length gs)) q ∙ eqb-same (length gs)))
-          below (no q) = omega arith
+  AllDo gs = AllOf Does gs
 
   -- a body with `size` places, these at σ
   module _ {s : Side} (C : Context s) (size : ℕ) (σ : Place s → Place device) (A : Apart size σ) where
@@ -184,8 +157,8 @@ module _ (R : Region) (len : ℕ) where
     op-does (T-Bool p) I z = none-does
 
     call-does : (Γ : Env s) (g : Signature) (ls : List (Place s)) (xs : List ℕ) → Ends g → Does g → length ls ≡ g .k → length xs ≡ g .m → all (C .inside) ls ≡ true
-        → distinct (map (λ l. l .no) ls) ≡ true → Arguments Γ xs ls → all (λ l. getD (Γ .free) (l .no) false) (drop (length xs) ls) ≡ true → Linear C Γ → length (Γ .free) ≡ size
-        → Effect size σ (Γ .free) (stored (g .ends .free) (map (λ l. l .no) ls) (Γ .free)) (commandsAt σ (commandsAt (λ p. at ls (p .no)) (g .commands)))
+        → distinct (numbers ls) ≡ true → Arguments Γ xs ls → all (λ l. getD (Γ .free) (l .no) false) (drop (length xs) ls) ≡ true → Linear C Γ → length (Γ .free) ≡ size
+        → Effect size σ (Γ .free) (stored (g .ends .free) (numbers ls) (Γ .free)) (commandsAt σ (commandsAt (λ p. at ls (p .no)) (g .commands)))
     call-does Γ g ls xs N D k m ins u a w I z L e x =
         rw (at-at σ ls (g .commands))
         (holds-map (λ M P. record { connects = P .connects; long = P .long; exact = λ r h. exact M P r h (find-place ls r); outside = λ n h. P .outside n (λ i j. h (at ls (i .no)) (in-range (i .no) j)) })
@@ -211,18 +184,13 @@ module _ (R : Region) (len : ℕ) where
 
         exact : (M : List Bool) → After (g .k) τ (g .ends .free) L (commandsAt τ (g .commands)) M → (r : Place s) → r .no < size
             → ((i : ℕ) × (i < length ls) × (at ls i ≡ r)) ⊎ ((i : ℕ) → i < length ls → at ls i .no ≢ r .no)
-            → getD (stored (g .ends .free) (map (λ l. l .no) ls) (Γ .free)) (r .no) false ≡ getD M (σ r .no) false
+            → getD (stored (g .ends .free) (numbers ls) (Γ .free)) (r .no) false ≡ getD M (σ r .no) false
         exact M P r h (inl c) =
-            let n : length (map (λ (l : Place s). l .no) ls) ≡ length ls = length-map ls (λ l. l .no) in
-            let q : getD (map (λ (l : Place s). l .no) ls) (c .0) 0 ≡ at ls (c .0) .no = number-at ls (c .0) in
             let b : c .0 < g .k = omega (arith, c .1) in
-            let b′ : at ls (c .0) .no < size = in-range (c .0) b in
-            let one : getD (stored (g .ends .free) (map (λ (l : Place s). l .no) ls) (Γ .free)) (at ls (c .0) .no) false ≡ getD (g .ends .free) (c .0) false
-            = rw (← q) (stored-at (g .ends .free) (map (λ l. l .no) ls) (Γ .free) (c .0) false u (omega (arith, N .free-size)) (omega arith) (omega arith)) in
-            subst (λ (t : Place s). getD (stored (g .ends .free) (map (λ l. l .no) ls) (Γ .free)) (t .no) false ≡ getD M (σ t .no) false) (c .2) (one ∙ P .exact (param (c .0)) b)
+            let one = stored-place (g .ends .free) ls (Γ .free) (c .0) u (N .free-size ∙ sym k) (c .1) (omega (arith, in-range (c .0) b)) in
+            subst (λ (t : Place s). getD (stored (g .ends .free) (numbers ls) (Γ .free)) (t .no) false ≡ getD M (σ t .no) false) (c .2) (one ∙ P .exact (param (c .0)) b)
         exact M P r h (inr c) =
-            let n : length (map (λ (l : Place s). l .no) ls) ≡ length ls = length-map ls (λ l. l .no) in
-            stored-other (g .ends .free) (map (λ l. l .no) ls) (Γ .free) (r .no) false (λ i j q. c i (omega arith) (sym (number-at ls i) ∙ q)) ∙ x r h
+            stored-other-place (g .ends .free) ls (Γ .free) r c ∙ x r h
             ∙ sym (P .outside (σ r .no) (λ i j t. c (i .no) (omega arith) (A .apart (at ls (i .no)) r (in-range (i .no) j) h t)))
 
     then-does : (fs : List Bool) {gs hs : List Bool} (c d : Commands s) → Effect size σ fs gs (commandsAt σ c) → Effect size σ gs hs (commandsAt σ d) → Effect size σ fs hs (commandsAt σ (c then d))
@@ -249,7 +217,7 @@ module _ (R : Region) (len : ℕ) where
         statement-does (if i y b b′) (T-If {Γ = Γ} {c = c} {c′ = c′} e j k) (if-read h r r′) I z = either-does (Γ .free) c c′ (block-does b j r I z) (block-does b′ k r′ I z)
         statement-does (while i y b) (T-While {c = c} e j) (while-read h r) I z = repeat-does c (block-does b j r I z)
         statement-does (call i f ls xs) (T-Call {Γ = Γ} J) r I z =
-            call-does Γ (signature (C .functions) f) ls xs (ends-at (C .functions) f N (J .earlier)) (does-at (C .functions) f H (J .earlier)) (J .locations) (J .slots) (J .inside) (J .different) (J .arguments) (J .others-free) I z
+            call-does Γ (signature (C .functions) f) ls xs (all-of-at Ends (C .functions) f N (J .earlier)) (all-of-at Does (C .functions) f H (J .earlier)) (J .locations) (J .slots) (J .inside) (J .different) (J .arguments) (J .others-free) I z
 
         statements-do : (ts : Statements s) {Γ Δ : Env s} {c : Commands s} {d o p : ℕ} → StatementsRule C Γ ts Δ c → StatementsRead S d o p ts → Linear C Γ → length (Γ .free) ≡ size
             → Effect size σ (Γ .free) (Δ .free) (commandsAt σ c)

@@ -1,38 +1,25 @@
 -- What reading guarantees. Every reading function is a row of checks, so what it gives is what its checks let through: for each of them one lemma
 -- says what holds of its result, and the lemmas follow the functions. The statement table is taken by its thirteen rows once, in `table-good`. The
 -- statements of a block fill it exactly: each takes at least one byte, so the count of bytes is enough for them.
-use mathlib.Core.Bool.{Bool, true, false, not, _&&_}
+use mathlib.Core.Bool.{Bool, true, false, _&&_}
 use mathlib.Core.List.{List, [], _∷_, _++_, append-assoc, append-nil}
 use mathlib.Core.Path.{_≡_, refl, sym, ap, subst, _∙_}
 use native.Mathlib.Nat.{add-zero, add-suc, suc-add, le-of-suc-le-suc, not-suc-le-zero}
 use native.Mathlib.Omega.{arith}
 use Prim.Native.Nat.{ℕ, zero, suc, _+_, _<_, _≤_}
-use lib.Dec.{eqb, ltb, leb, ltb→lt, leb→le, nltb→le}
+use lib.Dec.{eqb, ltb, leb}
 use lib.ListN.{getD, getElem?, length, length-replicate, replicate}
 use Rattle.answers.specs.Check.{Check}
 use Rattle.answers.proofs.Laws.{Holds, not-ok, by, holds-bind, holds-then, holds-need, holds-map, holds-at}
 use Rattle.rules.specs.declared.statements.Operand.{Operand}
 use Rattle.rules.specs.declared.statements.Operand.the-variants.{Slot, Location, Gate, Basis, Value, Callee, CalleeK, CalleeM, Nothing}
 use Rattle.rules.specs.Basics.{upTo, byte, word, hasMark}
-use Rattle.rules.proofs.Basics.{getD-upTo}
+use Rattle.rules.proofs.Basics.{length-upTo, getD-upTo}
 use Rattle.rules.specs.Syntax.{Side, device, parameter, Place, at, Op, Statement, call, done, Block, Function, function}
 use Rattle.rules.specs.Table.{simple, branches, loops, calls, Row, table, rowOf, size}
 use Rattle.rules.specs.Program.{Read, Scope, inRange, known, operands, meant, statement, statements, readBlock, functionHeader, programHeader, functionsAt, readProgram}
 use Rattle.theory.specs.WellRead.{OpRead, CallRead, StatementRead, op-read, if-read, while-read, call-read, StatementsRead, done-read, next-read, BlockRead, block-read, FunctionsRead, none-read, function-read, ProgramRead, WellRead}
-use Rattle.theory.proofs.Base.{eq→T, eqb-true, and-left, and-right}
-
-below : (m n : ℕ) → ltb m n ≡ true → m < n
-below m n h = ltb→lt m n (eq→T (ltb m n) h)
-
-at-most : (m n : ℕ) → leb m n ≡ true → m ≤ n
-at-most m n h = leb→le m n (eq→T (leb m n) h)
-
-not-below : (m n : ℕ) → ltb m n ≡ false → n ≤ m
-not-below m n h = nltb→le m n (eq→T (not (ltb m n)) (ap not h))
-
-length-upTo : {A : Type 0} (i m : ℕ) (f : ℕ → A) → length (upTo i m f) ≡ m
-length-upTo i zero f = refl
-length-upTo i (suc m) f = ap suc (length-upTo (suc i) m f)
+use Rattle.theory.proofs.Base.{eqb-true, below, not-below, at-most, and-left, and-right}
 
 -- a choice by a test: what holds of what is chosen, with what the test said
 holds-choice : {A : Type 0} {P : A → Type 0} (b : Bool) {x y : Check A} → (b ≡ false → Holds P x) → (b ≡ true → Holds P y) → Holds P (elim b [ false ↦ x | true ↦ y ])

@@ -1,0 +1,31 @@
+-- How an export packs its answer in one u64: bits 0 to 31 the call's value or the place of a refusal, bits 32 to 39 its number (0 accepted), bits 40 to 47
+-- the file that the place is in.
+use Prim.Native.Nat.{ℕ, _+_, _*_, _%_, _^_}
+use Rattle.answers.specs.Check.{Check, ok, refused}
+use Rattle.answers.specs.declared.File.{File}
+use Rattle.answers.specs.declared.File.the-variants.{NoFile, Device, Schedule, Program}
+use Rattle.answers.specs.declared.Moved.{Moved}
+use Rattle.answers.specs.declared.Refusal.{Refusal}
+
+-- 0 none, 1 device, 2 schedule, 16 + j the program of job j
+abbrev pub fileCode : File → ℕ
+fileCode NoFile = 0
+fileCode Device = 1
+fileCode Schedule = 2
+fileCode (Program j) = 16 + j
+
+abbrev pub packedRefusal : Refusal → ℕ
+packedRefusal r = r .place % 2 ^ 32 + r .number * 2 ^ 32 + fileCode (r .file) * 2 ^ 40
+
+-- a read has no value, a check and a route have one, a run has two
+abbrev pub packedRead : Check (Unit {0}) → ℕ
+packedRead (ok u) = 0
+packedRead (refused r) = packedRefusal r
+
+abbrev pub packedValue : Check ℕ → ℕ
+packedValue (ok v) = v % 2 ^ 32
+packedValue (refused r) = packedRefusal r
+
+abbrev pub packedMoved : Check Moved → ℕ
+packedMoved (ok m) = m .first % 65536 + (m .second % 65536) * 65536
+packedMoved (refused r) = packedRefusal r

@@ -1,0 +1,9 @@
+pub mod PastLaws
+pub mod RowLaws
+pub mod OperandLaws
+pub mod StatementLaws
+pub mod BlockLaws
+pub mod FunctionLaws
+pub mod FileLaws
+pub mod Base
+pub mod In

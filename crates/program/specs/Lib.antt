@@ -1,0 +1,2 @@
+pub mod In
+pub mod Reader

@@ -1,9 +1,10 @@
--- The cycle of blocks and statements: its calls go down by the depths left. In the loop over a block's statements, what is left to read from the
+-- The cycle of blocks and statements: at each call the remaining bytes fall. In the loop over a block's statements, what is left to read from the
 -- position on gives what the block gives.
 use borrow.Author.Needs.{needs}
 use native.Mathlib.Omega.{arith}
 use mathlib.Core.Path.{_≡_, sym, _∙_}
 use Prim.Native.Nat.{ℕ, _+_, _-_, _*_, _<_, _≤_}
+use lib.ListN.{length}
 use Rattle.rules.specs.Syntax.{Side}
 use Rattle.rules.specs.Program.{Scope}
 use Rattle.program.specs.Reader.{Behind, blockPast}
@@ -29,13 +30,13 @@ use Rattle.program.proofs.blocks.+read_block+read_if+read_statement.{st
 use Rattle.program.proofs.blocks.+read_block+read_if+read_statement.Tie.{close}
 
 abbrev μ-read-block : Measures 1 read-block-kinds.ps ℕ
-μ-read-block κs a = 3 * a .1 .1 .1 .0
+μ-read-block κs a = 3 * (length (a .0 .now) - a .1 .0)
 
 abbrev μ-read-if : Measures 1 read-if-kinds.ps ℕ
-μ-read-if κs a = 3 * a .1 .1 .1 .0 + 1
+μ-read-if κs a = 3 * (length (a .0 .now) - a .1 .0) + 1
 
 abbrev μ-read-statement : Measures 1 read-statement-kinds.ps ℕ
-μ-read-statement κs a = 3 * a .1 .1 .1 .0 + 2
+μ-read-statement κs a = 3 * (length (a .0 .now) - a .1 .0) + 2
 
 abbrev read-block-at : ℕ → In 1 read-block-kinds.ps
 read-block-at t =
@@ -171,6 +172,7 @@ read-if-enum-known-q t c = search needs
 
 read-if-read-block-requires-2 : (t : ℕ) → read-if-lts.Need-read-block-requires-2 (fixed-part-reads.Asked, fixed-part-reads.Learnt, read-block-below t, read-block.Post) (read-if-at t) read-if.Post
 read-if-read-block-requires-2 t c κs =
+    let w = fixed-past _ _ _ _ (c .before .before .before .before .before .before .before .fixed-part .ensures .1) _ (omega arith) (omega arith) (c .before .before .before .before .before .p .given .1) in
     let v = between-past _ _ _ _ (c .before .q .given .1) (c .before .before .before .read-block .ensures .1) in omega arith
 
 read-if-enum-known-x : (t : ℕ) → read-if-lts.Need-enum-known-x (fixed-part-reads.Asked, fixed-part-reads.Learnt, read-block-below t, read-block.Post) (read-if-at t) read-if.Post

@@ -1,0 +1,13 @@
+pub mod LowBits
+pub mod Members
+pub mod Swept
+pub mod Written
+pub mod Sizes
+pub mod Sides
+pub mod Edges
+pub mod Walks
+pub mod Shortest
+pub mod Turns
+pub mod Hopped
+pub mod Hunt
+pub mod Answered

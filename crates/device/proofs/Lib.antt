@@ -1,5 +1,6 @@
 pub mod DeviceLaws
 pub mod EdgeLaws
+pub mod FreeLaws
 pub mod HeaderLaws
 pub mod OwnerLaws
 pub mod RegionLaws

@@ -1,5 +1,5 @@
 -- What the parts of the reader answer: the tests of the owner bytes, of an edge and of all edges, and what comes after the header.
-use mathlib.Core.Bool.{Bool, _&&_}
+use mathlib.Core.Bool.{Bool, not, _&&_, _||_}
 use mathlib.Core.List.{List}
 use mathlib.Core.Option.{Option, none, some}
 use Prim.Native.Nat.{ℕ, zero, suc, _+_, _*_}
@@ -9,6 +9,8 @@ use Rattle.answers.specs.Check.{Check, ok, refused, _>>_, need}
 use Rattle.rules.specs.declared.device.DeviceHeader.{DeviceHeader}
 use Rattle.rules.specs.Basics.{byte}
 use Rattle.rules.specs.Device.{Edge, owners, edges, increases}
+use Rattle.sets.specs.declared.LocationSet.{LocationSet}
+use Rattle.sets.specs.Sets.{has}
 
 -- whether checks passed, without what they give
 unfoldable pub tested : {A : Type 0} → Check A → Check (Unit {0})
@@ -41,3 +43,7 @@ edgeStands s n start i =
 -- the owner byte of a location names the job
 abbrev pub ownedBy : List ℕ → ℕ → ℕ → Bool
 ownedBy s j x = eqb (byte s (9 + x)) j
+
+-- a set without x where the map has it as taken
+abbrev pub thin : LocationSet → ℕ → ℕ → ℕ → Bool
+thin free x taken y = (eqb taken 0 || not (eqb y x)) && has free y

@@ -14,6 +14,7 @@ ghost use Rattle.device.specs.Parts.{bodyRead};
 ghost use Rattle.device.specs.Reader.{deviceSaid, deviceRead};
 
 mod edges;
+pub mod free;
 mod owners;
 pub mod region;
 

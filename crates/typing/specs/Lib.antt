@@ -1,0 +1,4 @@
+pub mod Stands
+pub mod Cases
+pub mod Calls
+pub mod Functions

@@ -1,0 +1,10 @@
+mod Sets
+mod Follow
+mod Whole
+mod NameLaws
+mod Views
+mod Ends
+mod Steps
+mod Arms
+mod Inner
+mod Main

@@ -1,0 +1,57 @@
+// The walk over the commands of a typed program: the first merge that no path joins, over the bytes of the program.
+use answers::ReadAnswer;
+use answers::Refusal;
+use names::Names;
+use program::functions::FunctionTable;
+use rules::place::Location;
+use sets::LocationSet;
+use walk::Fault;
+use walk::walk_block;
+ghost use mathlib.Core.Path.{_≡_};
+ghost use Prim.Native.Nat.{ℕ, _<_};
+ghost use lib.ListN.{getD, length};
+ghost use Rattle.answers.specs.Check.{ok, _>>_ as _then_};
+ghost use Rattle.answers.specs.Said.{readSaid};
+ghost use Rattle.rules.specs.Region.{Region};
+ghost use Rattle.rules.specs.Syntax.{device, Program};
+ghost use Rattle.rules.specs.Commands.{sizeOf, walk};
+ghost use Rattle.rules.specs.Typing.{Typed, signature};
+ghost use Rattle.theory.specs.Exact.{Derives};
+ghost use Rattle.device.specs.Reader.{Owned, Rows};
+ghost use Rattle.program.specs.In.{ProgramIn};
+ghost use Rattle.program.specs.Reader.{Tabled};
+
+mod names;
+mod positions;
+mod walk;
+
+// Walks a program that reads, with its table, the command counts of its functions and the place of main: all of the region's locations are free.
+pub fn walk_program(
+    s: &[u8],
+    t: FunctionTable,
+    counts: [usize; 16],
+    main: usize,
+    rows: &[u64; 1024],
+    owned: LocationSet,
+) -> ReadAnswer
+    requires { ⌜ ((p : Program) × ProgramIn (now s) p × Tabled p t main) ⌝ }
+    ensures { λ r. ⌜ ((p : Program) (R : Region) (d : Typed device) (e : Derives (R .owned) p d) → ProgramIn (now (s .entry)) p → Tabled p t main → Owned R owned → Rows R (now (rows .entry)) → ((f : ℕ) → f < length (p .functions) → getD counts f 0 ≡ 0 → sizeOf (signature (e .signatures) f .commands) ≡ 0) → readSaid r ≡ (walk R (R .owned) (d .commands) then ok tt)) ⌝ }
+{
+    let bodies = t.bodies;
+    let w = walk_block(
+        s,
+        &bodies,
+        &counts,
+        rows,
+        t.count,
+        Names::main(),
+        main,
+        [Location(0); 32],
+        owned,
+    );
+    let v = w.fault;
+    match v {
+        Fault::Nothing => ReadAnswer::Readable,
+        Fault::At(place) => ReadAnswer::Refused(Refusal::new(21, place)),
+    }
+}

@@ -1,4 +1,5 @@
 // The public calls with their promises, and their exports.
+pub mod checks;
 mod jobs;
 pub mod packed;
 pub mod reads;

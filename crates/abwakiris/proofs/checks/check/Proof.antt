@@ -1,0 +1,59 @@
+-- The row of the promise's checks, each exit at its place.
+use mathlib.Core.Path.{sym, ap, _∙_}
+use borrow.Author.Tests.{not-true, not-false}
+use Rattle.answers.specs.Check.{refused}
+use Rattle.answers.specs.declared.File.the-variants.{Device}
+use Rattle.device.proofs.DeviceLaws.{read-gives, read-refuses}
+use Rattle.abwakiris.proofs.CheckLaws.{check-no-job, check-no-device, check-done}
+use Rattle.abwakiris.proofs.RouteLaws.{one-or-two}
+use borrow.Author.Needs.{needs}
+use Rattle.abwakiris.proofs.checks.check.Statement.{statement}
+use Rattle.abwakiris.proofs.checks.check.Tie as tie
+
+is-job-requires : tie.Need-is-job-requires
+is-job-requires c κs = search needs
+
+new-requires : tie.Need-new-requires
+new-requires c κs = search needs
+
+returns : tie.Need-returns
+returns c = let a = c .before .before .before .before .before .args in ap refused (c .new .ensures) ∙ check-no-job (a .device .now) (a .program .now) (a .job) (sym (c .before .before .is-job .ensures) ∙ not-true _ (c .before .if1 .taken))
+
+read-device-requires : tie.Need-read-device-requires
+read-device-requires c κs = search needs
+
+enum-known-h : tie.Need-enum-known-h
+enum-known-h c = search needs
+
+narrow-requires : tie.Need-narrow-requires
+narrow-requires c κs = one-or-two _ (sym (c .before .before .before .before .before .is-job .ensures) ∙ not-false _ (c .before .before .before .before .if1 .left))
+
+check-in-requires : tie.Need-check-in-requires
+check-in-requires c κs = read-gives _ Device _ (rw (c .before .before .h .given .1) at (c .before .before .before .before .read-device .ensures))
+
+enum-known-x : tie.Need-enum-known-x
+enum-known-x c = search needs
+
+returns-2 : tie.Need-returns-2
+returns-2 c =
+    let a = c .before .before .before .before .before .before .before .before .before .before .args in 
+    let g = read-gives _ Device _ (rw (c .before .before .before .h .given .1) at (c .before .before .before .before .before .read-device .ensures)) in
+    check-done (a .device .now) (a .program .now) (a .job) (g .0) (sym (c .before .before .before .before .before .before .before .is-job .ensures) ∙ not-false _ (c .before .before .before .before .before .before .if1 .left)) (g .1 .reads) _ (rw (c .before .narrow .ensures) at (c .check-in .ensures (g .0) (g .1)))
+
+returns-3 : tie.Need-returns-3
+returns-3 c = let a = c .before .before .before .before .before .before .before .before .args in check-no-device (a .device .now) (a .program .now) (a .job) _ (sym (c .before .before .before .before .before .is-job .ensures) ∙ not-false _ (c .before .before .before .before .if1 .left)) (read-refuses _ Device _ (rw (c .before .x .given .1) at (c .before .before .before .read-device .ensures)))
+
+pub check-spec : {M : Type 1} → statement M
+check-spec =
+    tie.close
+    (tie.spec
+    is-job-requires
+    new-requires
+    returns
+    read-device-requires
+    enum-known-h
+    narrow-requires
+    check-in-requires
+    enum-known-x
+    returns-2
+    returns-3)

@@ -1,0 +1,63 @@
+// The check of a job's program on a device.
+use crate::jobs::{is_job, narrow};
+use crate::packed::packed_refusal;
+use answers::CheckAnswer;
+use answers::File;
+use answers::ReadAnswer;
+use answers::Refusal;
+use device::DeviceAnswer;
+use device::region::{owned_by, region_rows};
+use judge::judge;
+use rules::device::DeviceHeader;
+ghost use mathlib.Core.Path.{_≡_};
+ghost use Rattle.answers.specs.Said.{checkSaid};
+ghost use Rattle.rules.specs.Device.{Device};
+ghost use Rattle.rules.specs.Region.{regionOf};
+ghost use Rattle.rules.specs.Promises.{checkOf};
+ghost use Rattle.device.specs.Reader.{Reads};
+ghost use Rattle.abwakiris.specs.Packed.{packedValue};
+ghost use Rattle.abwakiris.specs.Checking.{checkedIn};
+
+// Job, device, program, typing, 20, 21.
+pub fn check(device: &[u8], program: &[u8], job: u64) -> CheckAnswer
+    ensures { λ r. ⌜ checkSaid r ≡ checkOf (now (device .entry)) (now (program .entry)) job ⌝ }
+{
+    if !is_job(job) {
+        return CheckAnswer::Refused(Refusal::new(25, 0));
+    }
+    match device::read_device(device) {
+        DeviceAnswer::Read(h) => check_in(device, h, program, narrow(job)),
+        DeviceAnswer::Refused(x) => CheckAnswer::Refused(x),
+    }
+}
+
+// Value: the command count.
+#[no_mangle]
+pub extern "C" fn abwakiris_check(device: &[u8], program: &[u8], job: u64) -> u64
+    ensures { λ r. ⌜ r ≡ packedValue (checkOf (now (device .entry)) (now (program .entry)) job) ⌝ }
+{
+    match check(device, program, job) {
+        CheckAnswer::Accepted(n) => (n as u64) % 4294967296,
+        CheckAnswer::Refused(x) => packed_refusal(x),
+    }
+}
+
+// On a device that was read, for a job that is one.
+fn check_in(device: &[u8], h: DeviceHeader, program: &[u8], job: u8) -> CheckAnswer
+    requires { ⌜ ((D : Device) × Reads (now device) h D) ⌝ }
+    ensures { λ r. ⌜ ((D : Device) → Reads (now (device .entry)) h D → checkSaid r ≡ checkedIn (regionOf D job) (now (program .entry)) job) ⌝ }
+{
+    let read = program::read_program(program, job);
+    let answer = read.answer;
+    if let ReadAnswer::Refused(x) = answer {
+        return CheckAnswer::Refused(x);
+    }
+    let owned = owned_by(device, h, job);
+    let mut rows = [0u64; 1024];
+    region_rows(device, h, job, &mut rows);
+    let table = read.functions;
+    match judge(program, table, read.main, &rows, owned) {
+        CheckAnswer::Accepted(n) => CheckAnswer::Accepted(n),
+        CheckAnswer::Refused(x) => CheckAnswer::Refused(x.in_file(File::Program(job))),
+    }
+}

@@ -1,0 +1,15 @@
+pub mod Applying
+pub mod Asking
+pub mod Branching
+pub mod Cells
+pub mod Coming
+pub mod Deciding
+pub mod Entering
+pub mod Lists
+pub mod Merging
+pub mod Operate
+pub mod Operating
+pub mod Perform
+pub mod Returning
+pub mod Seen
+pub mod Stand

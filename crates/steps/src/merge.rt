@@ -1,0 +1,107 @@
+// The merge: it asks for a route between its two qubits over the free locations of the region.
+use crate::Act;
+use crate::operations::Performed;
+use crate::operations::Told;
+use crate::operations::stuck;
+use crate::slots::Placed;
+use crate::slots::Slot;
+use crate::slots::Slots;
+use route::distance;
+use rules::bytes::wide;
+use rules::place::Location;
+use sets::LocationSet;
+ghost use mathlib.Core.Bool.{_&&_};
+ghost use mathlib.Core.Path.{_≡_};
+ghost use Prim.Native.Nat.{ℕ, _<_};
+ghost use lib.Dec.{eqb};
+ghost use lib.ListN.{getD};
+ghost use Rattle.sets.specs.Sets.{has};
+ghost use Rattle.steps.specs.Performing.{movedWith, thin, Merges, Routes};
+
+// A set without a location that the map has as taken.
+fn thinned(free: LocationSet, x: usize, taken: u8) -> LocationSet
+    requires { ⌜ x < 256 ⌝ }
+    ensures { λ r. ⌜ ((y : ℕ) → has r y ≡ thin free x taken y) ⌝ }
+{
+    if taken == 0 {
+        return free;
+    }
+    free.remove(x)
+}
+
+// The locations of the region that the map has as free.
+pub fn free_in(owned: LocationSet, map: &[u8; 256]) -> LocationSet
+    ensures { λ r. ⌜ ((y : ℕ) → has r y ≡ (has owned y && eqb (getD (now (map .entry)) y 0) 0)) ⌝ }
+{
+    let mut free = owned;
+    let mut x: usize = 0;
+    while x < 256 {
+        free = thinned(free, x, map[x]);
+        x += 1;
+    }
+    free
+}
+
+// A move of a merge, with the edges of its route.
+fn moved_along(slots: Slots, edges: usize) -> Performed
+    requires { ⌜ edges < 256 ⌝ }
+    ensures { λ r. ⌜ r ≡ movedWith slots edges Act.Quiet ⌝ }
+{
+    Performed {
+        slots: slots,
+        told: Told::Moved(edges as u8),
+        act: Act::Quiet,
+    }
+}
+
+// The merge of the qubits at two locations, which binds a slot to its outcome.
+fn join(
+    slots: Slots,
+    y: usize,
+    l: Location,
+    k: Location,
+    rows: &[u64; 1024],
+    owned: LocationSet,
+    map: &[u8; 256],
+    outcome: bool,
+) -> Performed
+    requires { ⌜ y < 32 ⌝ }
+    ensures { λ r. ⌜ Routes slots y l k (now (rows .entry)) owned (now (map .entry)) outcome r ⌝ }
+{
+    let free = free_in(owned, map);
+    let edges = distance(rows, free, wide(l.0), wide(k.0));
+    if edges == 0 {
+        return stuck(slots, 21);
+    }
+    moved_along(slots.bind(y, Slot::Bool(outcome)), edges)
+}
+
+pub fn merge(
+    slots: Slots,
+    y: usize,
+    x: usize,
+    z: usize,
+    rows: &[u64; 1024],
+    owned: LocationSet,
+    map: &[u8; 256],
+    outcome: bool,
+) -> Performed
+    requires { ⌜ (y < 32) × (x < 32) × (z < 32) ⌝ }
+    ensures { λ r. ⌜ Merges slots y x z (now (rows .entry)) owned (now (map .entry)) outcome r ⌝ }
+{
+    if !slots.may_bind(y) {
+        return stuck(slots, 12);
+    }
+    match slots.qubit(x) {
+        Placed::At(l) => match slots.qubit(z) {
+            Placed::At(k) => {
+                if x == z {
+                    return stuck(slots, 15);
+                }
+                join(slots, y, l, k, rows, owned, map, outcome)
+            }
+            Placed::Nowhere => stuck(slots, 11),
+        },
+        Placed::Nowhere => stuck(slots, 11),
+    }
+}

@@ -1,5 +1,5 @@
--- The occupancy map after an act. A location given back gets 0, which is what a map has past its end, so a store there changes nothing; a location that
--- is taken is one that the region owns, and so one that the map has.
+-- The occupancy map after an act. A location given back gets 0, which is what a map has past its end, so a store there changes nothing; a
+-- location that is taken is one that the region owns, and so one that the map has.
 use mathlib.Core.Bool.{Bool, true}
 use mathlib.Core.List.{List, [], _∷_}
 use mathlib.Core.Path.{_≡_, refl, sym, ap, _∙_, subst}

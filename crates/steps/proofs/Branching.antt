@@ -1,5 +1,5 @@
--- An if and a while. Their blocks stand in the file one after the other, each ending where its length word says, so what the code puts before the rest
--- is the block that the rules choose, and where the code goes on is where the statement ends.
+-- An if and a while. Their blocks stand in the file one after the other, each ending where its length word says, so what the code puts before
+-- the rest is the block that the rules choose, and where the code goes on is where the statement ends.
 use mathlib.Core.Bool.{Bool, true, false}
 use mathlib.Core.List.{List, _∷_}
 use mathlib.Core.Path.{_≡_, refl, sym, ap, _∙_, subst}

@@ -1,5 +1,5 @@
--- The statement to come of a job that stands, whatever its depth: all that a step needs to know of it. A step that is stuck leaves the job as it is; one
--- that moves says which job stands for the rules' next one.
+-- The statement to come of a job that stands, whatever its depth: all that a step needs to know of it. A step that is stuck leaves the job as it
+-- is; one that moves says which job stands for the rules' next one.
 use mathlib.Core.Bool.{Bool, true, false}
 use mathlib.Core.List.{List, [], _∷_}
 use mathlib.Core.Path.{_≡_, refl, sym, ap, _∙_, subst}

@@ -1,5 +1,5 @@
--- The step by what is to come, and the start. Each kind of step promises a part of what a step promises, the rest being asked by other kinds; a job that
--- has taken no step has main's statements in its one range.
+-- The step by what is to come, and the start. What each kind of step promises is what a step promises, with less asked; a job that has taken no
+-- step has main's statements in its one range.
 use mathlib.Core.Bool.{Bool}
 use mathlib.Core.List.{List, []}
 use mathlib.Core.Path.{_≡_, refl, sym, ap, _∙_, subst}

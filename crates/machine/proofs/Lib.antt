@@ -1,0 +1,5 @@
+mod Dealing
+mod Finishing
+mod Scheduling
+mod Turning
+mod Writing

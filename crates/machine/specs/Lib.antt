@@ -1,0 +1,3 @@
+pub mod Running
+pub mod Runs
+pub mod Scheduled

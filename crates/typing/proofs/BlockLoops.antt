@@ -1,5 +1,5 @@
--- The loop over a block's statements. It stands before the statements that are left, with an environment for them: what these are typed to is what the
--- whole block's statements are typed to, but for commands.
+-- The loop over a block's statements. It stands before the statements that are left, with an environment for them: what these are typed to is
+-- what the whole block's statements are typed to, but for commands.
 use mathlib.Core.List.{List}
 use mathlib.Core.Path.{_≡_, refl, sym, ap, subst, _∙_}
 use native.Mathlib.Omega.{arith}

@@ -1,5 +1,5 @@
--- Rows of checks against what the code answers. A check that lets through leaves the row after it to be answered; one that refuses is the answer. Slots
--- are tested by the number of their kind, as the code does.
+-- Rows of checks against what the code answers. A check that lets through leaves the row after it to be answered; one that refuses is the
+-- answer. Slots are tested by the number of their kind, as the code does.
 use mathlib.Core.Bool.{Bool, true, false, not, false≢true}
 use mathlib.Core.Path.{_≡_, refl, sym, ap, subst, _∙_}
 use native.Mathlib.Omega.{arith}

@@ -1,5 +1,5 @@
--- Laws of environments: a store to a slot, and a place taken or given back, in the code and in the rules. Both sides change the same slot or the same
--- place, so every slot and every place still agrees: at the number itself by what was stored, at every other because nothing was.
+-- Laws of environments: a store to a slot, and a place taken or given back, in the code and in the rules. Both sides change the same slot or the
+-- same place, so every slot and every place still agrees: at the number itself by what was stored, at every other because nothing was.
 use mathlib.Core.Bool.{Bool, true, false, not, _&&_, _||_}
 use mathlib.Core.List.{List}
 use mathlib.Core.Path.{_≡_, refl, sym, ap, subst, _∙_}

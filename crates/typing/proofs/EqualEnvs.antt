@@ -1,5 +1,5 @@
--- Two environments are equal where every slot has the same kind and every place is free in both or in neither: the code asks slot by slot, and of the
--- places whether one is in one set alone. A place that is in one alone is a place of the body, since beyond them both lists say no.
+-- Two environments are equal where every slot has the same kind and every place is free in both or in neither: the code asks slot by slot, and
+-- of the places whether one is in one set alone. A place that is in one alone is a place of the body, since beyond them both lists say no.
 use mathlib.Core.Bool.{Bool, true, false, not, _&&_, _||_, Bool·beq, true≢false, false≢true}
 use mathlib.Core.List.{List}
 use mathlib.Core.Path.{_≡_, refl, sym, ap, subst, _∙_}

@@ -1,5 +1,5 @@
--- The functions in file order. When the first f of them are typed, typing goes on with the rest and with their signatures, and the code knows of each
--- which arguments it ends with: one more function adds its own.
+-- The functions in file order. When the first f of them are typed, typing goes on with the rest and with their signatures, and the code knows of
+-- each which arguments it ends with: one more function adds its own.
 use mathlib.Core.Bool.{Bool, true, false, _||_, or-false, true≢false, cond}
 use mathlib.Core.List.{List, [], _∷_}
 use mathlib.Core.Path.{_≡_, refl, sym, ap, subst, _∙_}

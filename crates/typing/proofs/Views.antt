@@ -1,5 +1,5 @@
--- A statement by its byte. `View` says what the byte is by an equation; here the byte picks what is known, so that the arm of a match on it, or a function
--- for one kind, has its statement, its operands' bounds and where it ends.
+-- A statement by its byte. `View` says what the byte is by an equation; here the byte picks what is known, so that the arm of a match on it, or
+-- a function for one kind, has its statement, its operands' bounds and where it ends.
 use mathlib.Core.List.{List, [], _∷_}
 use mathlib.Core.Path.{_≡_, refl, sym, subst}
 use native.Mathlib.Decide.{ℕ-discrete}

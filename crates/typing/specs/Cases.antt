@@ -1,5 +1,5 @@
--- The cases that a function over the bytes is asked about, and what it says of each: the same record is what it requires one of and what it answers for
--- every one of.
+-- The cases that a function over the bytes is asked about, and what it says of each: the same record is what it requires one of and what it
+-- answers for every one of.
 use mathlib.Core.List.{List}
 use Prim.Native.Nat.{ℕ}
 use Rattle.answers.specs.Check.{Check, ok, need, _>>=_, _>>_}

@@ -1,4 +1,5 @@
-// Slots, as typing knows them: a bool's value is not known. A qubit's place is its number in the body, a location in main and a parameter in a function.
+// Slots, as typing knows them: a bool's value is not known. A qubit's place is its number in the body, a location in main and a parameter in a
+// function.
 use rules::bytes::wide;
 ghost use mathlib.Core.Path.{_≡_};
 ghost use Prim.Native.Nat.{_<_};

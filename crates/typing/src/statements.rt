@@ -29,6 +29,7 @@ pub fn type_operation(s: &[u8], inside: LocationSet, env: Env, at: usize) -> Out
         7 => env.new_reference(at, at + 3, operand(s, at, 1), operand(s, at, 2)),
         8 => env.get_reference(at, at + 3, operand(s, at, 1), operand(s, at, 2)),
         9 => env.set_reference(at, at + 3, operand(s, at, 1), operand(s, at, 2)),
+        // 13: the reader lets no other byte through.
         _ => env.constant(at, at + 3, operand(s, at, 1)),
     }
 }

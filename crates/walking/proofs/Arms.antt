@@ -23,11 +23,8 @@ use Rattle.sets.specs.Sets.{has}
 use Rattle.theory.proofs.Base.{eqb-same, eqb-other}
 use Rattle.program.proofs.In.{statement-view}
 use Rattle.walking.specs.declared.names.Names.{Names}
-use Rattle.walking.specs.declared.walk.Fault.{Fault}
-use Rattle.walking.specs.declared.walk.Fault.the-variants.{Nothing, At}
-use Rattle.walking.specs.declared.walk.Walked.{Walked}
 use Rattle.walking.specs.Walk.{Standing, Walker, put, taken, given, walkOp, walkStatement}
-use Rattle.walking.specs.Stands.{placed, named, standing, noPath, faultSaid, walkSaid, kept, StatementAt, Over}
+use Rattle.walking.specs.Stands.{Walked, placed, named, standing, noPath, faultSaid, walkSaid, kept, StatementAt, Over}
 use Rattle.walking.proofs.Views.{view-init, view-free, view-merge, view-quiet}
 
 -- a store in the frame, and sets that have the same
@@ -66,12 +63,14 @@ pub route-told : {A : Type 0} (st : A) (R : Region) (F : ℕ → Bool) (a b o : 
 unfolding noPath
 route-told st R F a b o t = told-choice st o t (eqb a b) (traced R F a b (fewest R F a b (length (R .owned)) 0 (reach R F a b 0))) (told-fewest st R F a b o t none) (told-fewest st R F a b o t (fewest R F a b (length (R .owned)) 0 (reach R F a b 0)))
 
--- the search between the locations of slots x and z
-pub searched : (R : Region) (F : ℕ → Bool) (f : List Location) (r x x′ a z z′ b : ℕ) → x′ ≡ x → a ≡ placed f x′ → z′ ≡ z → b ≡ placed f z′ → r ≡ edgesOf (route R F a b)
-    → eqb r 0 ≡ noPath R F (placed f x) (placed f z)
+-- the search between two ends
+pub searched : (R : Region) (F : ℕ → Bool) (r a a′ b b′ : ℕ) → a′ ≡ a → b′ ≡ b → r ≡ edgesOf (route R F a′ b′) → eqb r 0 ≡ noPath R F a b
 unfolding noPath
-searched R F f r x x′ a z z′ b e p g q d =
-    ap (λ (n : ℕ). eqb n 0) d ∙ ap (λ (n : ℕ). eqb (edgesOf (route R F n b)) 0) (p ∙ ap (placed f) e) ∙ ap (λ (n : ℕ). eqb (edgesOf (route R F (placed f x) n)) 0) (q ∙ ap (placed f) g)
+searched R F r a a′ b b′ e g d = ap (λ (n : ℕ). eqb n 0) d ∙ (λ i. eqb (edgesOf (route R F (e i) (g i))) 0)
+
+-- and between the locations of slots x and z
+pub no-path-of : (R : Region) (F : ℕ → Bool) (f : List Location) (x x′ z z′ : ℕ) (t : Bool) → x′ ≡ x → z′ ≡ z → noPath R F (placed f x′) (placed f z′) ≡ t → noPath R F (placed f x) (placed f z) ≡ t
+no-path-of R F f x x′ z z′ t e g h = (λ i. noPath R F (placed f (sym e i)) (placed f (sym g i))) ∙ h
 
 -- The statement t at p, in a block that the walk is over. The frame f and the set F are where the walk stands.
 module _ {s bodies counts rows : List ℕ} {g : ℕ} {n : Names} {p : ℕ} (f : List Location) (F : LocationSet) (t : StatementAt s bodies g n p) (R : Region) (W : Walker) (σ : Place (t .side) → Place device)
@@ -112,11 +111,16 @@ module _ {s bodies counts rows : List ℕ} {g : ℕ} {n : Names} {p : ℕ} (f : 
   pub on-quiet : 3 ≤ byte s p → byte s p ≢ 3 → byte s p ≢ 6 → ((9 < byte s p) × (byte s p < 13) → ⊥) → walkStatement R W σ (t .tree) (standing f F) ≡ ok (standing f F)
   on-quiet a b c d = let v = view-quiet (statement-view (t .stands)) a b c d in as-op (v .act) (v .is) ∙ v .still R W σ (standing f F)
 
--- what an inner walk's answer says of its statement
-pub kept-on : (f : List Location) (w : Walked) {m : Check Standing} → kept f (walkSaid w) ≡ m → w .fault ≡ Nothing → m ≡ ok (standing f (w .free))
-unfolding _>>=_
-kept-on f w e h = sym e ∙ ap (λ (v : Fault). kept f (faultSaid v (w .free))) h
+-- a fault is a refusal
+pub fault-said : (o : ℕ) (F : LocationSet) → o ≢ 0 → faultSaid o F ≡ refused (refusal 21 o)
+fault-said zero F h = absurd (h refl)
+fault-said (suc o) F h = refl
 
-pub kept-refused : (f : List Location) (w : Walked) {m : Check Standing} (o : ℕ) → kept f (walkSaid w) ≡ m → w .fault ≡ At o → m ≡ refused (refusal 21 o)
+-- what an inner walk's answer says of its statement
+pub kept-on : (f : List Location) (w : Walked) {m : Check Standing} → kept f (walkSaid w) ≡ m → w .fault ≡ 0 → m ≡ ok (standing f (w .free))
 unfolding _>>=_
-kept-refused f w o e h = sym e ∙ ap (λ (v : Fault). kept f (faultSaid v (w .free))) h
+kept-on f w e h = sym e ∙ ap (λ (o : ℕ). kept f (faultSaid o (w .free))) h
+
+pub kept-refused : (f : List Location) (w : Walked) {m : Check Standing} → kept f (walkSaid w) ≡ m → w .fault ≢ 0 → m ≡ refused (refusal 21 (w .fault))
+unfolding _>>=_
+kept-refused f w e h = sym e ∙ ap (kept f) (fault-said (w .fault) (w .free) h)

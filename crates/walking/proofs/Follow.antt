@@ -21,7 +21,7 @@ use Rattle.rules.specs.Typing.{Kind, Env, Signature, Context, signature}
 use Rattle.rules.specs.Figures.{stored, kindAt, substituted, OpRule, T-Init, T-MInit, T-Free, T-Gate, T-Meas1, T-Meas2, T-MkRef, T-Deref, T-Assign, T-Bool, Callable, StatementRule, T-Op, T-If, T-While, T-Call, StatementsRule, T-Unit, T-Seq, BlockRule, T-Close}
 use Rattle.rules.proofs.Basics.{getD-upTo-zero}
 use Rattle.theory.proofs.Base.{eqb-same, eqb-other, getD-set-cases}
-use Rattle.theory.proofs.Places.{at-at, not-qubit, unbound-qubit, same-qubit, argument-at}
+use Rattle.theory.proofs.Places.{at-at, not-qubit, unbound-qubit, same-qubit, old-qubit, argument-at}
 use Rattle.theory.proofs.Linear.{block-qubit}
 use Rattle.walking.specs.Walk.{Standing, Walker, put, walkOp, walkStatement, walkStatements, walkBlock}
 use Rattle.walking.proofs.Sets.{walkSet, set-then}
@@ -40,7 +40,7 @@ pub record Keeps (g : Signature) : Type 0 where
 
 module _ {s : Side} where
   pub older-put : (Γ : Env s) (fs : List Bool) (y : ℕ) (v : Kind s) → holdsNoQubit v ≡ true → Older Γ (record { slots = set (Γ .slots) y v; free = fs })
-  older-put Γ fs y v n = record { was = λ x l h. ⊎-elim (λ c. not-qubit v l n (sym (c .1) ∙ h)) (λ c. sym c ∙ h) (getD-set-cases (Γ .slots) y x v unbound) }
+  older-put Γ fs y v n = record { was = λ x l h. old-qubit (Γ .slots) y x v l n h }
 
   -- stores of what holds no qubit, or the qubit that was there
   stored-old : (vs : List (Kind s)) (ns : List ℕ) (φ : List (Kind s)) → ((j : ℕ) (l : Place s) → j < length ns → slot vs j ≡ qubit l → slot φ (getD ns j 0) ≡ qubit l)

@@ -3,10 +3,11 @@
 -- at the call's location i.
 use mathlib.Core.Bool.{Bool, true, false, cond}
 use mathlib.Core.List.{List}
+use mathlib.Core.Logic.{_≢_}
 use mathlib.Core.Path.{_≡_, refl, sym, ap, subst, _∙_}
 use native.Mathlib.Decide.{decLt}
 use native.Mathlib.Omega.{arith}
-use Prim.Native.Nat.{ℕ, _+_, _<_, _≤_}
+use Prim.Native.Nat.{ℕ, zero, suc, _+_, _<_, _≤_}
 use lib.Dec.{ltb}
 use lib.ListN.{getD, length, take}
 use lib.Seq.{getD-take, length-take-le}
@@ -22,13 +23,11 @@ use Rattle.rules.proofs.Basics.{getD-upTo}
 use Rattle.program.specs.In.{BlockIn, scopeOf}
 use Rattle.program.proofs.In.{statement-view}
 use Rattle.walking.specs.declared.names.Names.{Names}
-use Rattle.walking.specs.declared.walk.Fault.{Fault}
-use Rattle.walking.specs.declared.walk.Fault.the-variants.{Nothing, At}
-use Rattle.walking.specs.declared.walk.Walked.{Walked}
 use Rattle.walking.specs.Walk.{Walker, enteredAt, walkStatement, walkBlock}
-use Rattle.walking.specs.Stands.{placed, named, standing, faultSaid, kept, BlockAt, StatementAt, Over, BlockWalked, StatementWalked}
+use Rattle.walking.specs.Stands.{Walked, leaves, placed, named, standing, faultSaid, kept, BlockAt, StatementAt, Over, BlockWalked, StatementWalked}
 use Rattle.walking.proofs.Views.{view-if, view-while, view-call}
 use Rattle.walking.proofs.Ends.{block-ends}
+use Rattle.walking.proofs.Arms.{fault-said}
 
 module _ {s bodies : List ℕ} {g : ℕ} {n : Names} {p : ℕ} where
   -- the blocks of an if and of a while
@@ -57,15 +56,15 @@ module _ {s bodies : List ℕ} {g : ℕ} {n : Names} {p : ℕ} where
       record { side = t .side; program = t .program; scope = t .scope; depths = t .depths; tree = v .inner; next = t .next; body = t .body; stands = v .first }
 
 -- what two walks after one another say, and one whose free locations are not taken over
-both-said : (f : List Location) (v : Fault) (G H : LocationSet) → kept f (faultSaid v G) ≡ (ok (has G) >>= λ K. faultSaid v H >> ok (record { frame = placed f; free = K }))
+both-said : (f : List Location) (o : ℕ) (G H : LocationSet) → kept f (faultSaid o G) ≡ (ok (has G) >>= λ K. faultSaid o H >> ok (record { frame = placed f; free = K }))
 unfolding _>>=_ _>>_
-both-said f Nothing G H = refl
-both-said f (At o) G H = refl
+both-said f zero G H = refl
+both-said f (suc o) G H = refl
 
-once-said : (f : List Location) (v : Fault) (F G : LocationSet) → kept f (faultSaid v F) ≡ (faultSaid v G >> ok (standing f F))
+once-said : (f : List Location) (o : ℕ) (F G : LocationSet) → kept f (faultSaid o F) ≡ (faultSaid o G >> ok (standing f F))
 unfolding _>>=_ _>>_
-once-said f Nothing F G = refl
-once-said f (At o) F G = refl
+once-said f zero F G = refl
+once-said f (suc o) F G = refl
 
 module _ {s bodies : List ℕ} {g : ℕ} {n : Names} {p : ℕ} (f : List Location) (F : LocationSet) where
   if-is : (h : byte s p ≡ 10) (m : ℕ) (e : m ≡ p + 2 + 2 + word s (p + 2)) (t : StatementAt s bodies g n p) (R : Region) (W : Walker) (σ : Place (t .side) → Place device)
@@ -81,20 +80,21 @@ module _ {s bodies : List ℕ} {g : ℕ} {n : Names} {p : ℕ} (f : List Locatio
 
 module _ {s bodies counts rows : List ℕ} {g : ℕ} {n : Names} {p : ℕ} (f : List Location) (F : LocationSet) where
   -- both blocks walked: what the first left free, where the second found no fault
-  pub if-walked : (h : byte s p ≡ 10) (m : ℕ) (e : m ≡ p + 2 + 2 + word s (p + 2)) (a b : Walked) → BlockWalked s bodies counts rows g n (p + 2) f F a → a .fault ≡ Nothing
+  pub if-walked : (h : byte s p ≡ 10) (m : ℕ) (e : m ≡ p + 2 + 2 + word s (p + 2)) (a b : Walked) → BlockWalked s bodies counts rows g n (p + 2) f F a → a .fault ≡ 0
       → BlockWalked s bodies counts rows g n m f F b → StatementWalked s bodies counts rows g n p f F (record { fault = b .fault; free = a .free })
   if-walked h m e a b A z B t R W σ o =
-      let x : ok (has (a .free)) ≡ walkBlock R W σ (thenBlock h t .tree) (standing f F) = ap (λ (v : Fault). faultSaid v (a .free)) (sym z) ∙ A (thenBlock h t) R W σ o in
+      let x : ok (has (a .free)) ≡ walkBlock R W σ (thenBlock h t .tree) (standing f F) = ap (λ (v : ℕ). faultSaid v (a .free)) (sym z) ∙ A (thenBlock h t) R W σ o in
       both-said f (b .fault) (a .free) (b .free)
       ∙ (λ i. x i >>= λ K. B (elseBlock m h e t) R W σ o i >> ok (record { frame = placed f; free = K }))
       ∙ sym (if-is f F h m e t R W σ)
 
   -- the first refused
-  pub if-refused : (h : byte s p ≡ 10) (a : Walked) (o : ℕ) → BlockWalked s bodies counts rows g n (p + 2) f F a → a .fault ≡ At o → StatementWalked s bodies counts rows g n p f F a
+  pub if-refused : (h : byte s p ≡ 10) (a : Walked) → BlockWalked s bodies counts rows g n (p + 2) f F a → a .fault ≢ 0 → StatementWalked s bodies counts rows g n p f F a
   unfolding _>>=_
-  if-refused h a i A z t R W σ o =
-      let x : refused (refusal 21 i) ≡ walkBlock R W σ (thenBlock h t .tree) (standing f F) = ap (λ (v : Fault). faultSaid v (a .free)) (sym z) ∙ A (thenBlock h t) R W σ o in
-      ap (λ (v : Fault). kept f (faultSaid v (a .free))) z
+  if-refused h a A z t R W σ o =
+      let k = fault-said (a .fault) (a .free) z in
+      let x : refused (refusal 21 (a .fault)) ≡ walkBlock R W σ (thenBlock h t .tree) (standing f F) = sym k ∙ A (thenBlock h t) R W σ o in
+      ap (kept f) k
       ∙ ap (λ (q : Check (ℕ → Bool)). q >>= λ K. walkBlock R W σ (elseBlock _ h refl t .tree) (standing f F) >> ok (record { frame = placed f; free = K })) x
       ∙ sym (if-is f F h _ refl t R W σ)
 
@@ -102,6 +102,14 @@ module _ {s bodies counts rows : List ℕ} {g : ℕ} {n : Names} {p : ℕ} (f : 
   pub while-walked : (h : byte s p ≡ 11) (a : Walked) → BlockWalked s bodies counts rows g n (p + 2) f F a → StatementWalked s bodies counts rows g n p f F (record { fault = a .fault; free = F })
   while-walked h a A t R W σ o =
       once-said f (a .fault) F (a .free) ∙ ap (λ (m : Check (ℕ → Bool)). m >> ok (standing f F)) (A (loopBlock h t) R W σ o) ∙ sym (while-is f F h t R W σ)
+
+-- the same fault and the same words
+pub walked-as : (s bodies counts rows : List ℕ) (g : ℕ) (n : Names) (p : ℕ) (f : List Location) (F : LocationSet) (o : ℕ) (ws : List ℕ) (o′ : ℕ) (ws′ : List ℕ) → ws ≡ ws′ → o ≡ o′ → length ws′ ≡ 4
+    → StatementWalked s bodies counts rows g n p f F (leaves o′ ws′) → StatementWalked s bodies counts rows g n p f F (leaves o ws) × (length ws ≡ 4)
+walked-as s bodies counts rows g n p f F o ws o′ ws′ e d l h = (
+  subst (λ (v : ℕ). StatementWalked s bodies counts rows g n p f F (leaves v ws)) (sym d) (subst (λ (vs : List ℕ). StatementWalked s bodies counts rows g n p f F (leaves o′ vs)) (sym e) h),
+  ap length e ∙ l,
+)
 
 -- A call of function f, in a body of function g.
 module _ {s bodies : List ℕ} {g : ℕ} {n : Names} {p : ℕ} (h : byte s p ≡ 12) (f : ℕ) (e : f ≡ byte s (p + 1)) (t : StatementAt s bodies g n p) where
@@ -157,7 +165,7 @@ module _ {s bodies : List ℕ} {g : ℕ} {n : Names} {p : ℕ} (h : byte s p ≡
 
 module _ {s bodies counts rows : List ℕ} {g : ℕ} {n : Names} {p : ℕ} (fr : List Location) (F : LocationSet) where
   -- a callee without commands
-  pub call-skipped : (h : byte s p ≡ 12) (f : ℕ) → f ≡ byte s (p + 1) → getD counts f 0 ≡ 0 → StatementWalked s bodies counts rows g n p fr F (record { fault = Nothing; free = F })
+  pub call-skipped : (h : byte s p ≡ 12) (f : ℕ) → f ≡ byte s (p + 1) → getD counts f 0 ≡ 0 → StatementWalked s bodies counts rows g n p fr F (record { fault = 0; free = F })
   call-skipped h f e z t R W σ O =
       ap (kept fr) (sym (O .callees .skips f (callee-known h f e t .0) z (λ q. σ (at (places h f e t) (q .no))) (has F))) ∙ sym (call-is h f e t fr F R W σ)
 

@@ -1,7 +1,8 @@
--- The walk over main. Main stands where the table says, all functions are before it, and its places are locations; so what the walk over it answers is
--- what the walk over the program's commands does.
+-- The walk over main. Main stands where the table says, all functions are before it, and its places are locations; so what the walk over it
+-- answers is what the walk over the program's commands does.
 use mathlib.Core.Bool.{Bool, true, false≢true}
 use mathlib.Core.List.{List}
+use mathlib.Core.Logic.{_≢_}
 use mathlib.Core.Path.{_≡_, sym, ap, subst, _∙_}
 use native.Mathlib.Omega.{arith}
 use Prim.Native.Nat.{ℕ, _<_, _≤_}
@@ -24,10 +25,8 @@ use Rattle.program.specs.declared.functions.FunctionTable.{FunctionTable}
 use Rattle.program.specs.In.{BlockIn, ProgramIn, mainScope}
 use Rattle.program.specs.Reader.{Tabled}
 use Rattle.walking.specs.declared.names.Names.{Names}
-use Rattle.walking.specs.declared.walk.Fault.{Fault}
-use Rattle.walking.specs.declared.walk.Fault.the-variants.{Nothing, At}
-use Rattle.walking.specs.declared.walk.Walked.{Walked}
-use Rattle.walking.specs.Stands.{placed, faultSaid, walkSaid, BlockAt, Over, BlockWalked}
+use Rattle.walking.specs.Stands.{Walked, placed, faultSaid, walkSaid, BlockAt, Over, BlockWalked}
+use Rattle.walking.proofs.Arms.{fault-said}
 use Rattle.walking.proofs.Whole.{byCommands, callees, main-follows}
 
 -- main's block
@@ -68,10 +67,10 @@ module _ {s : List ℕ} {t : FunctionTable} {counts rows : List ℕ} {main : ℕ
         places = λ l q. rw h;
       }
 
-  pub main-walked : w .fault ≡ Nothing → readSaid Readable ≡ (walk R (R .owned) (d .commands) >> ok tt)
+  pub main-walked : w .fault ≡ 0 → readSaid Readable ≡ (walk R (R .owned) (d .commands) >> ok tt)
   unfolding _>>_
-  main-walked q = ap (λ (v : Fault). faultSaid v (w .free) >> ok (tt {0})) (sym q) ∙ main-said
+  main-walked q = ap (λ (o : ℕ). faultSaid o (w .free) >> ok (tt {0})) (sym q) ∙ main-said
 
-  pub main-refused : (o : ℕ) (x : Refusal) → w .fault ≡ At o → x ≡ refusal 21 o → readSaid (Refused x) ≡ (walk R (R .owned) (d .commands) >> ok tt)
+  pub main-refused : (x : Refusal) → w .fault ≢ 0 → x ≡ refusal 21 (w .fault) → readSaid (Refused x) ≡ (walk R (R .owned) (d .commands) >> ok tt)
   unfolding _>>_
-  main-refused o x q k = ap (λ (y : Refusal). readSaid (Refused y)) k ∙ ap (λ (v : Fault). faultSaid v (w .free) >> ok (tt {0})) (sym q) ∙ main-said
+  main-refused x q k = ap (λ (y : Refusal). readSaid (Refused y)) k ∙ ap (λ (m : Check (ℕ → Bool)). m >> ok (tt {0})) (sym (fault-said (w .fault) (w .free) q)) ∙ main-said

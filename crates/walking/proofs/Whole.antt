@@ -8,7 +8,7 @@ use native.Mathlib.Decide.{ℕ-discrete}
 use native.Mathlib.Nat.{add-zero, zero-add}
 use native.Mathlib.Omega.{arith}
 use Prim.Native.Nat.{ℕ, zero, suc, _+_, _≤_, _<_}
-use lib.Dec.{ltb, ltb→lt, lt→ltb}
+use lib.Dec.{ltb}
 use lib.ListN.{getD, set, length}
 use Rattle.answers.specs.Check.{Check, ok, _>>_}
 use Rattle.rules.specs.Basics.{all}
@@ -19,8 +19,8 @@ use Rattle.rules.specs.Commands.{Commands, ε, alloc, release, connect, either,
 use Rattle.rules.specs.Typing.{Env, Typed, Signature, Context, signature, entry, bodyContext, signatureOf, mainContext}
 use Rattle.rules.specs.Figures.{OpRule, T-Init, T-MInit, T-Free, T-Gate, T-Meas1, T-Meas2, T-MkRef, T-Deref, T-Assign, T-Bool, StatementRule, T-Op, T-If, T-While, T-Call, StatementsRule, T-Unit, T-Seq, BlockRule, T-Close, FunctionsRule, T-NoFun, T-Fundecl}
 use Rattle.theory.specs.Exact.{Derives}
-use Rattle.theory.proofs.Base.{T→eq, eq→T, eqb-same, eqb-other, true-in-range, getD-set-cases, getD-replicate-default}
-use Rattle.theory.proofs.Places.{at-at, all-at, same-qubit, unbound-qubit, entry-qubit}
+use Rattle.theory.proofs.Base.{below, is-below, true-in-range, getD-set-cases, getD-replicate-default}
+use Rattle.theory.proofs.Places.{at-at, at-same, all-at, same-qubit, unbound-qubit, signature-newest, signature-older, entry-qubit}
 use Rattle.theory.proofs.Linear.{block-qubit}
 use Rattle.walking.specs.Walk.{Walker, enteredAt, walkBlock, Callees}
 use Rattle.walking.proofs.Sets.{walkSet, Gives, agree-done, sets-agree}
@@ -83,14 +83,6 @@ module _ {s : Side} (n : ℕ) (σ : Place s → Place device) (C : Context s) (H
     block-gives : (b : Block s) {Γ Δ : Env s} {c : Commands s} → BlockRule C Γ b Δ c → Inside C Γ → Gives n (commandsAt σ c)
     block-gives (block o ts) (T-Close j e) I = statements-give ts j I
 
-at-same : {s : Side} (c : Commands s) → commandsAt (λ l. l) c ≡ c
-at-same ε = refl
-at-same (alloc q l c) = ap (λ d. alloc q l d) (at-same c)
-at-same (release l c) = ap (λ d. release l d) (at-same c)
-at-same (connect o b l e k c) = ap (λ d. connect o b l e k d) (at-same c)
-at-same (either a b c) = λ i. either (at-same a i) (at-same b i) (at-same c i)
-at-same (repeat a c) = λ i. repeat (at-same a i) (at-same c i)
-
 -- the signature of a function among those before it and the newest
 data Which (g : Signature) (gs : List Signature) (f : ℕ) : Type 0 where
   newest : f ≡ length gs → signature (g ∷ gs) f ≡ g → Which g gs f
@@ -100,12 +92,12 @@ which : (g : Signature) (gs : List Signature) (f : ℕ) → f < length (g ∷ gs
 which g gs f h = go (ℕ-discrete f (length gs))
   where
     go : Dec (f ≡ length gs) → Which g gs f
-    go (yes e) = newest e (rw (e, eqb-same (length gs)))
-    go (no d) = older (omega arith) (rw (eqb-other f (length gs) d))
+    go (yes e) = newest e (signature-newest g gs f e)
+    go (no d) = let l : f < length gs = omega arith in older l (signature-older g gs f l)
 
 -- a typed function's slots on entry, and its end
 entry-inside : (gs : List Signature) (g : Function) → g .m ≤ g .k → Inside (bodyContext gs g) (entry g)
-entry-inside gs g h = record { inside = λ x l e. let q = entry-qubit (g .m) x l e in T→eq _ (lt→ltb (l .no) (g .k) (omega (arith, ap (λ (p : Place parameter). p .no) (q .0), q .1))) }
+entry-inside gs g h = record { inside = λ x l e. let q = entry-qubit (g .m) x l e in is-below (l .no) (g .k) (omega (arith, ap (λ (p : Place parameter). p .no) (q .0), q .1)) }
 
 body-keeps : (gs : List Signature) (g : Function) (d : Typed parameter) → BlockRule (bodyContext gs g) (entry g) (g .body) (d .env) (d .commands) → Keeps (signatureOf g d)
 body-keeps gs g d j = record { argument = λ i p h. entry-qubit (g .m) i p (block-qubit (bodyContext gs g) (g .body) j i p h) .0 }
@@ -116,7 +108,7 @@ tidy-more n gs g d h j T = record { gives = λ f r. gives f (which (signatureOf 
     gives : (f : ℕ) → Which (signatureOf g d) gs f → (τ : Place parameter → Place device) → ((p : Place parameter) → p .no < signature (signatureOf g d ∷ gs) f .k → τ p .no < n)
         → Gives n (commandsAt τ (signature (signatureOf g d ∷ gs) f .commands))
     gives f (newest e q) τ a =
-        rw q (block-gives n τ (bodyContext gs g) T (λ p i. a p (rw q (ltb→lt (p .no) (g .k) (eq→T _ i)))) (g .body) j (entry-inside gs g h))
+        rw q (block-gives n τ (bodyContext gs g) T (λ p i. a p (rw q (below (p .no) (g .k) i))) (g .body) j (entry-inside gs g h))
     gives f (older e q) τ a = rw q (T .gives f e τ (λ p i. a p (rw q i)))
 
     keeps : (f : ℕ) → Which (signatureOf g d) gs f → Keeps (signature (signatureOf g d ∷ gs) f)
@@ -137,12 +129,12 @@ signatures-stay : (fs : List Function) {gs hs : List Signature} → FunctionsRul
 signatures-stay [] T-NoFun f h = (refl, h)
 signatures-stay (g ∷ fs) {gs = gs} (T-Fundecl {d = d} j w) f h =
     let r = signatures-stay fs w f (omega arith) in
-    (r .0 ∙ rw (eqb-other f (length gs) (λ e. omega arith)), r .1)
+    (r .0 ∙ signature-older (signatureOf g d) gs f h, r .1)
 
 -- on entry each argument is where the frame says
 entry-agrees : (g : Function) (τ : Place parameter → Place device) (F : ℕ → Bool) → g .m ≤ g .k → Agrees τ (entry g) (enteredAt (g .k) τ F .frame)
 entry-agrees g τ F h = record {
-  sits = λ x l e. let q = entry-qubit (g .m) x l e in let t : ltb x (g .k) ≡ true = T→eq _ (lt→ltb x (g .k) (omega (arith, q .1))) in rw t (ap (λ (p : Place parameter). τ p .no) (sym (q .0)));
+  sits = λ x l e. let q = entry-qubit (g .m) x l e in let t : ltb x (g .k) ≡ true = is-below x (g .k) (omega (arith, q .1)) in rw t (ap (λ (p : Place parameter). τ p .no) (sym (q .0)));
 }
 
 good-before : (R : Region) (W : Walker) (fs : List Function) {gs hs : List Signature} → FunctionsRule fs gs hs → Good R W hs → Good R W gs
@@ -157,7 +149,7 @@ functions-walked : (R : Region) (W : Walker) (fs : List Function) {gs hs : List 
 functions-walked R W [] a w G f h τ F = absurd (omega arith)
 functions-walked R W (g ∷ fs) {gs = gs} a (T-Fundecl {d = d} j w) G zero h τ F =
     let r = signatures-stay fs w (length gs) (omega arith) in
-    let s : signature (signatureOf g d ∷ gs) (length gs) ≡ signatureOf g d = rw (eqb-same (length gs)) in
+    let s : signature (signatureOf g d ∷ gs) (length gs) ≡ signatureOf g d = signature-newest (signatureOf g d) gs (length gs) refl in
     let G′ : Good R W gs = good-before R W (g ∷ fs) (T-Fundecl {d = d} j w) G in
     ap (λ (i : ℕ). W i τ F) (add-zero (length gs)) ∙ G .by-commands (length gs) (r .1) τ F ∙ ap (λ (e : Signature). walkSet R F (commandsAt τ (e .commands))) (r .0 ∙ s)
     ∙ sym (block-follows R W τ (bodyContext gs g) G′ (g .body) j (enteredAt (g .k) τ F) (entry-agrees g τ F (a 0 (omega arith))))
@@ -173,11 +165,6 @@ no-commands (release l c) h = absurd (omega arith)
 no-commands (connect o b l e k c) h = absurd (omega arith)
 no-commands (either a b c) h = absurd (omega arith)
 no-commands (repeat a c) h = absurd (omega arith)
-
--- how many signatures there are
-signatures-count : (fs : List Function) {gs hs : List Signature} → FunctionsRule fs gs hs → length hs ≡ length gs + length fs
-signatures-count [] T-NoFun = omega arith
-signatures-count (g ∷ fs) (T-Fundecl j w) = let r = signatures-count fs w in omega arith
 
 -- the functions walked by their commands
 abbrev pub byCommands : Region → List Signature → Walker

@@ -2,7 +2,7 @@
 use mathlib.Core.Bool.{Bool, false, cond}
 use mathlib.Core.List.{List}
 use mathlib.Core.Path.{_≡_}
-use Prim.Native.Nat.{ℕ, _<_, _≤_}
+use Prim.Native.Nat.{ℕ, zero, suc, _<_, _≤_}
 use lib.Dec.{eqb}
 use lib.ListN.{getD, length, take}
 use Rattle.answers.specs.Check.{Check, ok, refused, refusal, _>>=_}
@@ -17,9 +17,6 @@ use Rattle.device.specs.Reader.{Rows}
 use Rattle.route.specs.Found.{edgesOf}
 use Rattle.program.specs.In.{BlockIn, StatementIn, StatementsIn, ProgramIn, offsetOf}
 use Rattle.walking.specs.declared.names.Names.{Names}
-use Rattle.walking.specs.declared.walk.Fault.{Fault}
-use Rattle.walking.specs.declared.walk.Fault.the-variants.{Nothing, At}
-use Rattle.walking.specs.declared.walk.Walked.{Walked}
 use Rattle.walking.specs.Walk.{Standing, Walker, walkStatement, walkBlock, Callees}
 
 -- the location of element x
@@ -37,10 +34,21 @@ standing f s = record { frame = placed f; free = has s }
 unfoldable pub noPath : Region → (ℕ → Bool) → ℕ → ℕ → Bool
 noPath R F a b = eqb (edgesOf (route R F a b)) 0
 
+-- how a walk ended: the place of the merge that has no path, 0 where each has one, and where it is 0 the free locations
+pub record Walked : Type 0 where
+  pub fault : ℕ
+  pub free : LocationSet
+
+abbrev pub setOf : List ℕ → LocationSet
+setOf ws = record { words = ws }
+
+abbrev pub leaves : ℕ → List ℕ → Walked
+leaves o ws = record { fault = o; free = setOf ws }
+
 -- which locations are free after a walk, or 21 at the merge that has no path
-abbrev pub faultSaid : Fault → LocationSet → Check (ℕ → Bool)
-faultSaid Nothing s = ok (has s)
-faultSaid (At o) s = refused (refusal 21 o)
+abbrev pub faultSaid : ℕ → LocationSet → Check (ℕ → Bool)
+faultSaid zero s = ok (has s)
+faultSaid (suc o) s = refused (refusal 21 (suc o))
 
 abbrev pub walkSaid : Walked → Check (ℕ → Bool)
 walkSaid w = faultSaid (w .fault) (w .free)
@@ -102,3 +110,7 @@ module _ (s bodies counts rows : List ℕ) (g : ℕ) (n : Names) (at : ℕ) (fra
   abbrev pub StatementWalked : Type 0
   StatementWalked = (t : StatementAt s bodies g n at) (R : Region) (W : Walker) (σ : Place (t .side) → Place device) → Over R rows counts (t .program .functions) g (t .scope) n W σ
       → kept frame (walkSaid w) ≡ walkStatement R W σ (t .tree) (standing frame free)
+
+-- the same for a call, whatever the caller's frame is
+abbrev pub CallWalked : (s bodies counts rows : List ℕ) (g : ℕ) (n : Names) (at : ℕ) (free : LocationSet) (w : Walked) → Type 0
+CallWalked s bodies counts rows g n at free w = (frame : List Location) → StatementWalked s bodies counts rows g n at frame free w

@@ -5,7 +5,6 @@ use names::Names;
 use program::functions::FunctionTable;
 use rules::place::Location;
 use sets::LocationSet;
-use walk::Fault;
 use walk::walk_block;
 ghost use mathlib.Core.Path.{_≡_};
 ghost use Prim.Native.Nat.{ℕ, _<_};
@@ -21,6 +20,7 @@ ghost use Rattle.device.specs.Reader.{Owned, Rows};
 ghost use Rattle.program.specs.In.{ProgramIn};
 ghost use Rattle.program.specs.Reader.{Tabled};
 
+mod free;
 mod names;
 mod positions;
 mod walk;
@@ -38,7 +38,8 @@ pub fn walk_program(
     ensures { λ r. ⌜ ((p : Program) (R : Region) (d : Typed device) (e : Derives (R .owned) p d) → ProgramIn (now (s .entry)) p → Tabled p t main → Owned R owned → Rows R (now (rows .entry)) → ((f : ℕ) → f < length (p .functions) → getD counts f 0 ≡ 0 → sizeOf (signature (e .signatures) f .commands) ≡ 0) → readSaid r ≡ (walk R (R .owned) (d .commands) then ok tt)) ⌝ }
 {
     let bodies = t.bodies;
-    let w = walk_block(
+    let mut free = owned.words;
+    let fault = walk_block(
         s,
         &bodies,
         &counts,
@@ -47,11 +48,10 @@ pub fn walk_program(
         Names::main(),
         main,
         [Location(0); 32],
-        owned,
+        &mut free,
     );
-    let v = w.fault;
-    match v {
-        Fault::Nothing => ReadAnswer::Readable,
-        Fault::At(place) => ReadAnswer::Refused(Refusal::new(21, place)),
+    if fault != 0 {
+        return ReadAnswer::Refused(Refusal::new(21, fault));
     }
+    ReadAnswer::Readable
 }

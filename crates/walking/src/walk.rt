@@ -1,32 +1,19 @@
-// The walk over blocks: a loop goes over a block's statements; only nesting and callees recurse.
+// The walk over blocks: a loop goes over a block's statements; only nesting and callees recurse. The free locations are lent, as the words of
+// their set, and each walk leaves there what is free after it.
+use super::free::add;
+use super::free::no_path;
+use super::free::remove;
 use super::names::Names;
 use super::positions::block_end;
 use super::positions::statement_end;
-use route::distance;
 use rules::bytes::wide;
 use rules::place::Location;
-use sets::LocationSet;
 ghost use mathlib.Core.Bool.{true, false};
 ghost use mathlib.Core.Path.{_≡_};
-ghost use Prim.Native.Nat.{_+_, _<_, _≤_};
+ghost use Prim.Native.Nat.{_<_};
 ghost use lib.ListN.{length};
 ghost use Rattle.rules.specs.Basics.{byte};
-ghost use Rattle.rules.specs.Region.{Region};
-ghost use Rattle.sets.specs.Sets.{has};
-ghost use Rattle.device.specs.Reader.{Rows};
-ghost use Rattle.walking.specs.Stands.{placed, noPath, BlockAt, StatementAt, BlockWalked, StatementWalked};
-
-// The place of the merge that has no path, if there is one.
-pub enum Fault {
-    Nothing,
-    At(usize),
-}
-
-// How a walk ended: where there was no fault, with these locations free.
-pub struct Walked {
-    pub fault: Fault,
-    pub free: LocationSet,
-}
+ghost use Rattle.walking.specs.Stands.{setOf, leaves, BlockAt, StatementAt, BlockWalked, StatementWalked, CallWalked};
 
 // Whether a statement has blocks of its own or is a call: an if, a while, a call.
 fn is_inner(op: u8) -> bool
@@ -39,23 +26,8 @@ fn is_inner(op: u8) -> bool
     op < 13
 }
 
-// Whether no path over free locations joins the ends of the merge at `at`.
-fn no_path(
-    s: &[u8],
-    rows: &[u64; 1024],
-    at: usize,
-    frame: [Location; 32],
-    free: LocationSet,
-) -> bool
-    requires { ⌜ (at + 6 ≤ length (now s)) × (byte (now s) (at + 3) < 32) × (byte (now s) (at + 5) < 32) × (length (now s) ≤ 4096) ⌝ }
-    ensures { λ r. ⌜ ((R : Region) → Rows R (now (rows .entry)) → r ≡ noPath R (has free) (placed frame (byte (now (s .entry)) (at + 3))) (placed frame (byte (now (s .entry)) (at + 5)))) ⌝ }
-{
-    let a = frame[wide(s[at + 3])];
-    let b = frame[wide(s[at + 5])];
-    distance(rows, free, wide(a.0), wide(b.0)) == 0
-}
-
-// The block at `at` of function number g, main having the number of functions: its slots are where the frame says, its places where the names say.
+// The block at `at` of function number g, main having the number of functions: its slots are where the frame says, its places where the names
+// say. The place of the first merge that has no path, 0 where each has one.
 pub fn walk_block(
     s: &[u8],
     bodies: &[usize; 16],
@@ -65,10 +37,12 @@ pub fn walk_block(
     names: Names,
     at: usize,
     mut frame: [Location; 32],
-    mut free: LocationSet,
-) -> Walked
+    free: &mut [u64; 4],
+) -> usize
     requires { ⌜ BlockAt (now s) (now bodies) g names at ⌝ }
-    ensures { λ r. ⌜ BlockWalked (now (s .entry)) (now (bodies .entry)) (now (counts .entry)) (now (rows .entry)) g names at frame free r ⌝ }
+    requires { ⌜ length (now free) ≡ 4 ⌝ }
+    ensures long { λ _. ⌜ length (now (free .exit)) ≡ 4 ⌝ }
+    ensures walks { λ r. ⌜ BlockWalked (now (s .entry)) (now (bodies .entry)) (now (counts .entry)) (now (rows .entry)) g names at frame (setOf (now (free .entry))) (leaves r (now (free .exit))) ⌝ }
 {
     let stop = block_end(s, at);
     let mut p = at + 2;
@@ -79,42 +53,31 @@ pub fn walk_block(
         if op < 3 {
             let l = names.location(s[p + 2]);
             frame[wide(s[p + 1])] = l;
-            free = free.remove(wide(l.0));
+            remove(free, l);
         } else if op == 3 {
             let l = frame[wide(s[p + 1])];
-            free = free.add(wide(l.0));
+            add(free, l);
         } else if op == 6 {
-            if no_path(s, rows, p, frame, free) {
-                return Walked {
-                    fault: Fault::At(p),
-                    free: free,
-                };
+            let a = frame[wide(s[p + 3])];
+            let b = frame[wide(s[p + 5])];
+            if no_path(rows, free, a, b) {
+                return p;
             }
         } else if is_inner(op) {
-            let w = if op == 10 {
+            let fault = if op == 10 {
                 walk_if(s, bodies, counts, rows, g, names, p, frame, free)
             } else if op == 11 {
                 walk_while(s, bodies, counts, rows, g, names, p, frame, free)
             } else {
-                walk_call(s, bodies, counts, rows, g, names, p, frame, free)
+                walk_call(s, bodies, counts, rows, g, names, p, free)
             };
-            let v = w.fault;
-            match v {
-                Fault::Nothing => {
-                    let f = w.free;
-                    free = f;
-                }
-                Fault::At(_) => {
-                    return w;
-                }
+            if fault != 0 {
+                return fault;
             }
         }
         p = next;
     }
-    Walked {
-        fault: Fault::Nothing,
-        free: free,
-    }
+    0
 }
 
 // The then-block, then the else-block; on with what the then-block left free.
@@ -127,32 +90,29 @@ fn walk_if(
     names: Names,
     at: usize,
     frame: [Location; 32],
-    free: LocationSet,
-) -> Walked
+    free: &mut [u64; 4],
+) -> usize
     requires { ⌜ StatementAt (now s) (now bodies) g names at × (byte (now s) at ≡ 10) ⌝ }
-    ensures { λ r. ⌜ StatementWalked (now (s .entry)) (now (bodies .entry)) (now (counts .entry)) (now (rows .entry)) g names at frame free r ⌝ }
+    requires { ⌜ length (now free) ≡ 4 ⌝ }
+    ensures long { λ _. ⌜ length (now (free .exit)) ≡ 4 ⌝ }
+    ensures walks { λ r. ⌜ StatementWalked (now (s .entry)) (now (bodies .entry)) (now (counts .entry)) (now (rows .entry)) g names at frame (setOf (now (free .entry))) (leaves r (now (free .exit))) ⌝ }
 {
-    let a = walk_block(s, bodies, counts, rows, g, names, at + 2, frame, free);
-    let v = a.fault;
-    match v {
-        Fault::Nothing => {
-            let b = walk_block(
-                s,
-                bodies,
-                counts,
-                rows,
-                g,
-                names,
-                block_end(s, at + 2),
-                frame,
-                free,
-            );
-            let e = b.fault;
-            let f = a.free;
-            Walked { fault: e, free: f }
-        }
-        Fault::At(_) => a,
+    let mut other = *free;
+    let first = walk_block(s, bodies, counts, rows, g, names, at + 2, frame, free);
+    if first != 0 {
+        return first;
     }
+    walk_block(
+        s,
+        bodies,
+        counts,
+        rows,
+        g,
+        names,
+        block_end(s, at + 2),
+        frame,
+        &mut other,
+    )
 }
 
 // The body once; on with what was free before it.
@@ -165,17 +125,24 @@ fn walk_while(
     names: Names,
     at: usize,
     frame: [Location; 32],
-    free: LocationSet,
-) -> Walked
+    free: &[u64; 4],
+) -> usize
     requires { ⌜ StatementAt (now s) (now bodies) g names at × (byte (now s) at ≡ 11) ⌝ }
-    ensures { λ r. ⌜ StatementWalked (now (s .entry)) (now (bodies .entry)) (now (counts .entry)) (now (rows .entry)) g names at frame free r ⌝ }
+    requires { ⌜ length (now free) ≡ 4 ⌝ }
+    ensures { λ r. ⌜ StatementWalked (now (s .entry)) (now (bodies .entry)) (now (counts .entry)) (now (rows .entry)) g names at frame (setOf (now (free .entry))) (leaves r (now (free .entry))) ⌝ }
 {
-    let a = walk_block(s, bodies, counts, rows, g, names, at + 2, frame, free);
-    let e = a.fault;
-    Walked {
-        fault: e,
-        free: free,
-    }
+    let mut inside = *free;
+    walk_block(
+        s,
+        bodies,
+        counts,
+        rows,
+        g,
+        names,
+        at + 2,
+        frame,
+        &mut inside,
+    )
 }
 
 // The callee's body at the call's locations, unless it has no commands; the caller's frame stays.
@@ -187,18 +154,16 @@ fn walk_call(
     g: usize,
     names: Names,
     at: usize,
-    frame: [Location; 32],
-    free: LocationSet,
-) -> Walked
+    free: &mut [u64; 4],
+) -> usize
     requires { ⌜ StatementAt (now s) (now bodies) g names at × (byte (now s) at ≡ 12) ⌝ }
-    ensures { λ r. ⌜ StatementWalked (now (s .entry)) (now (bodies .entry)) (now (counts .entry)) (now (rows .entry)) g names at frame free r ⌝ }
+    requires { ⌜ length (now free) ≡ 4 ⌝ }
+    ensures long { λ _. ⌜ length (now (free .exit)) ≡ 4 ⌝ }
+    ensures walks { λ r. ⌜ CallWalked (now (s .entry)) (now (bodies .entry)) (now (counts .entry)) (now (rows .entry)) g names at (setOf (now (free .entry))) (leaves r (now (free .exit))) ⌝ }
 {
     let f = wide(s[at + 1]);
     if counts[f] == 0 {
-        return Walked {
-            fault: Fault::Nothing,
-            free: free,
-        };
+        return 0;
     }
     let inner = names.of_call(s, at + 4, wide(s[at + 2]));
     walk_block(

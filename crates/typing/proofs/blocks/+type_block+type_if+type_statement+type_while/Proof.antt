@@ -1,5 +1,5 @@
--- The cycle: a block over its statements, a statement by its byte, an if and a while over their blocks. Every call but a statement's starts at a later
--- byte, and an if or a while stands where its statement does.
+-- The cycle: a block over its statements, a statement by its byte, an if and a while over their blocks. Every call but a statement's starts at a
+-- later byte, and an if or a while stands where its statement does.
 use Prim.Native.Nat.{ℕ, _+_, _-_, _*_, _≤_, _<_}
 use mathlib.Core.Path.{_≡_, refl, sym, ap, _∙_}
 use native.Mathlib.Omega.{arith}

@@ -1,18 +1,18 @@
 -- The walk over blocks, and over the statements that recurse. The measure: the function's number, then the bytes left, then which of the two it is.
-use Prim.Native.Nat.{ℕ, _<_, _≤_, _+_, _-_, _*_}
 use native.Mathlib.Omega.{arith}
 use mathlib.Core.Bool.{true, false}
 use mathlib.Core.Logic.{⊎-elim}
-use mathlib.Core.Path.{_≡_, refl, sym, ap, subst, _∙_}
+use mathlib.Core.Path.{_≡_, refl, sym, _∙_}
+use Prim.Native.Nat.{_≤_, _+_, _-_, _*_}
 use lib.ListN.{length, length-set}
-use borrow.Author.Needs.{needs}
 use Rattle.program.proofs.In.{statement-view}
-use Rattle.walking.specs.Stands.{faultSaid, StatementWalked}
+use Rattle.walking.specs.Stands.{setOf, leaves, StatementWalked}
 use Rattle.walking.proofs.Views.{view-init, view-free, view-merge, view-call}
 use Rattle.walking.proofs.Steps.{Rest, rest-start, rest-on, block-refused, block-ended, turn, block-bounds, statement-bounds, place-room}
-use Rattle.walking.proofs.Arms.{on-init, on-free, on-merge, on-quiet, kept-on, kept-refused}
-use Rattle.walking.proofs.Inner.{thenBlock, elseBlock, loopBlock, if-walked, if-refused, while-walked, callee-known, calleeBlock, call-skipped, call-walked}
+use Rattle.walking.proofs.Arms.{on-init, on-free, on-merge, on-quiet, no-path-of, fault-said, kept-on, kept-refused}
+use Rattle.walking.proofs.Inner.{thenBlock, elseBlock, loopBlock, if-walked, if-refused, while-walked, callee-known, calleeBlock, call-skipped, call-walked, walked-as}
 use Rattle.walking.proofs.Ends.{if-ends}
+use Prim.Native.Nat.{ℕ, _<_}
 use borrow.Fn.Kinds.{In}
 use borrow.Fn.PlainCycle.{Measures, is, falls, and}
 use Rattle.walking.proofs.walk.walk_block.Reads as walk-block
@@ -28,378 +28,428 @@ use Rattle.walking.proofs.walk.walk_while.Reads as walk-while
 use Rattle.walking.proofs.walk.walk_while.Kinds as walk-while-kinds
 use Rattle.walking.proofs.walk.+walk_block+walk_call+walk_if+walk_while.Lts-walk_while as walk-while-lts
 use Rattle.rules.proofs.bytes.wide.Reads as wide-reads
-use Rattle.sets.proofs.LocationSet.add.Reads as add-reads
-use Rattle.sets.proofs.LocationSet.remove.Reads as remove-reads
+use Rattle.walking.proofs.free.add.Reads as add-reads
+use Rattle.walking.proofs.free.no_path.Reads as no-path-reads
+use Rattle.walking.proofs.free.remove.Reads as remove-reads
 use Rattle.walking.proofs.names.Names.frame.Reads as frame-reads
 use Rattle.walking.proofs.names.Names.location.Reads as location-reads
 use Rattle.walking.proofs.names.Names.of_call.Reads as of-call-reads
 use Rattle.walking.proofs.positions.block_end.Reads as block-end-reads
 use Rattle.walking.proofs.positions.statement_end.Reads as statement-end-reads
 use Rattle.walking.proofs.walk.is_inner.Reads as is-inner-reads
-use Rattle.walking.proofs.walk.no_path.Reads as no-path-reads
 use Rattle.walking.proofs.walk.+walk_block+walk_call+walk_if+walk_while.{statement}
 use Rattle.walking.proofs.walk.+walk_block+walk_call+walk_if+walk_while.Tie.{close}
 
-abbrev μ-walk-block : Measures 4 walk-block-kinds.ps ℕ
+abbrev μ-walk-block : Measures 5 walk-block-kinds.ps ℕ
 μ-walk-block κs a = 8200 * a .1 .1 .1 .1 .0 + 2 * (length (a .0 .now) - a .1 .1 .1 .1 .1 .1 .0) + 1
 
-abbrev μ-walk-call : Measures 4 walk-call-kinds.ps ℕ
+abbrev μ-walk-call : Measures 5 walk-call-kinds.ps ℕ
 μ-walk-call κs a = 8200 * a .1 .1 .1 .1 .0 + 2 * (length (a .0 .now) - a .1 .1 .1 .1 .1 .1 .0)
 
-abbrev μ-walk-if : Measures 4 walk-if-kinds.ps ℕ
+abbrev μ-walk-if : Measures 5 walk-if-kinds.ps ℕ
 μ-walk-if κs a = 8200 * a .1 .1 .1 .1 .0 + 2 * (length (a .0 .now) - a .1 .1 .1 .1 .1 .1 .0)
 
-abbrev μ-walk-while : Measures 4 walk-while-kinds.ps ℕ
+abbrev μ-walk-while : Measures 5 walk-while-kinds.ps ℕ
 μ-walk-while κs a = 8200 * a .1 .1 .1 .1 .0 + 2 * (length (a .0 .now) - a .1 .1 .1 .1 .1 .1 .0)
 
-abbrev walk-block-at : ℕ → In 4 walk-block-kinds.ps
+abbrev walk-block-at : ℕ → In 5 walk-block-kinds.ps
 walk-block-at t =
-    and 4 walk-block-kinds.ps (is 4 walk-block-kinds.ps μ-walk-block t) walk-block.Pre
+    and 5 walk-block-kinds.ps (is 5 walk-block-kinds.ps μ-walk-block t) walk-block.Pre
 
-abbrev walk-block-below : ℕ → In 4 walk-block-kinds.ps
+abbrev walk-block-below : ℕ → In 5 walk-block-kinds.ps
 walk-block-below t =
-    and 4 walk-block-kinds.ps (falls 4 walk-block-kinds.ps _<_ μ-walk-block t) walk-block.Pre
+    and 5 walk-block-kinds.ps (falls 5 walk-block-kinds.ps _<_ μ-walk-block t) walk-block.Pre
 
-abbrev walk-call-at : ℕ → In 4 walk-call-kinds.ps
-walk-call-at t = and 4 walk-call-kinds.ps (is 4 walk-call-kinds.ps μ-walk-call t) walk-call.Pre
+abbrev walk-call-at : ℕ → In 5 walk-call-kinds.ps
+walk-call-at t = and 5 walk-call-kinds.ps (is 5 walk-call-kinds.ps μ-walk-call t) walk-call.Pre
 
-abbrev walk-call-below : ℕ → In 4 walk-call-kinds.ps
+abbrev walk-call-below : ℕ → In 5 walk-call-kinds.ps
 walk-call-below t =
-    and 4 walk-call-kinds.ps (falls 4 walk-call-kinds.ps _<_ μ-walk-call t) walk-call.Pre
+    and 5 walk-call-kinds.ps (falls 5 walk-call-kinds.ps _<_ μ-walk-call t) walk-call.Pre
 
-abbrev walk-if-at : ℕ → In 4 walk-if-kinds.ps
-walk-if-at t = and 4 walk-if-kinds.ps (is 4 walk-if-kinds.ps μ-walk-if t) walk-if.Pre
+abbrev walk-if-at : ℕ → In 5 walk-if-kinds.ps
+walk-if-at t = and 5 walk-if-kinds.ps (is 5 walk-if-kinds.ps μ-walk-if t) walk-if.Pre
 
-abbrev walk-if-below : ℕ → In 4 walk-if-kinds.ps
-walk-if-below t = and 4 walk-if-kinds.ps (falls 4 walk-if-kinds.ps _<_ μ-walk-if t) walk-if.Pre
+abbrev walk-if-below : ℕ → In 5 walk-if-kinds.ps
+walk-if-below t = and 5 walk-if-kinds.ps (falls 5 walk-if-kinds.ps _<_ μ-walk-if t) walk-if.Pre
 
-abbrev walk-while-at : ℕ → In 4 walk-while-kinds.ps
+abbrev walk-while-at : ℕ → In 5 walk-while-kinds.ps
 walk-while-at t =
-    and 4 walk-while-kinds.ps (is 4 walk-while-kinds.ps μ-walk-while t) walk-while.Pre
+    and 5 walk-while-kinds.ps (is 5 walk-while-kinds.ps μ-walk-while t) walk-while.Pre
 
-abbrev walk-while-below : ℕ → In 4 walk-while-kinds.ps
+abbrev walk-while-below : ℕ → In 5 walk-while-kinds.ps
 walk-while-below t =
-    and 4 walk-while-kinds.ps (falls 4 walk-while-kinds.ps _<_ μ-walk-while t) walk-while.Pre
+    and 5 walk-while-kinds.ps (falls 5 walk-while-kinds.ps _<_ μ-walk-while t) walk-while.Pre
+
+abbrev walk-block-calls : ℕ → walk-block-lts.Claims
+walk-block-calls t = (block-end-reads.Asked, block-end-reads.Learnt, statement-end-reads.Asked, statement-end-reads.Learnt, location-reads.Asked, location-reads.Learnt, wide-reads.Asked, wide-reads.Learnt, remove-reads.Asked, remove-reads.Learnt, add-reads.Asked, add-reads.Learnt, no-path-reads.Asked, no-path-reads.Learnt, is-inner-reads.Asked, is-inner-reads.Learnt, walk-if-below t, walk-if.Post, walk-while-below t, walk-while.Post, walk-call-below t, walk-call.Post)
+
+abbrev walk-call-calls : ℕ → walk-call-lts.Claims
+walk-call-calls t = (wide-reads.Asked, wide-reads.Learnt, of-call-reads.Asked, of-call-reads.Learnt, frame-reads.Asked, frame-reads.Learnt, walk-block-below t, walk-block.Post)
+
+abbrev walk-if-calls : ℕ → walk-if-lts.Claims
+walk-if-calls t = (walk-block-below t, walk-block.Post, block-end-reads.Asked, block-end-reads.Learnt)
+
+abbrev walk-while-calls : ℕ → walk-while-lts.Claims
+walk-while-calls t = (walk-block-below t, walk-block.Post)
 
 abbrev walk-block-Inv-loop : walk-block-lts.InvT-loop
-walk-block-Inv-loop s bodies counts rows g names at free₀ frame₀ stop p₀ free frame p = (at + 2 ≤ p) × (p ≤ stop) × (length frame ≡ 32) × Rest s bodies counts rows g names (at + 2) stop frame₀ free₀ p frame free
+walk-block-Inv-loop s bodies counts rows g names at free₀ frame₀ stop p₀ free frame p = (at + 2 ≤ p) × (p ≤ stop) × (length frame ≡ 32) × Rest s bodies counts rows g names (at + 2) stop frame₀ (setOf free₀) p frame (setOf free) × (length free ≡ 4)
 
 abbrev walk-block-μ-loop : walk-block-lts.MeasureT-loop
 walk-block-μ-loop s bodies counts rows g names at free₀ frame₀ stop p₀ free frame p = stop - p
 
-walk-block-block-end-requires : (t : ℕ) → walk-block-lts.Need-block-end-requires (block-end-reads.Asked, block-end-reads.Learnt, statement-end-reads.Asked, statement-end-reads.Learnt, location-reads.Asked, location-reads.Learnt, wide-reads.Asked, wide-reads.Learnt, remove-reads.Asked, remove-reads.Learnt, add-reads.Asked, add-reads.Learnt, no-path-reads.Asked, no-path-reads.Learnt, is-inner-reads.Asked, is-inner-reads.Learnt, walk-if-below t, walk-if.Post, walk-while-below t, walk-while.Post, walk-call-below t, walk-call.Post) (walk-block-at t) walk-block.Post walk-block-Inv-loop walk-block-μ-loop
-walk-block-block-end-requires t c κs = let k = block-bounds (c .before .pre .1) in (omega arith, k .1)
+walk-block-block-end-requires : (t : ℕ) → walk-block-lts.Need-block-end-requires (walk-block-calls t) (walk-block-at t) walk-block.Post walk-block-Inv-loop walk-block-μ-loop
+walk-block-block-end-requires t c κs = let k = block-bounds (c .before .pre .1 .0) in (omega arith, k .1)
 
-walk-block-add-p : (t : ℕ) → walk-block-lts.Need-add-p (block-end-reads.Asked, block-end-reads.Learnt, statement-end-reads.Asked, statement-end-reads.Learnt, location-reads.Asked, location-reads.Learnt, wide-reads.Asked, wide-reads.Learnt, remove-reads.Asked, remove-reads.Learnt, add-reads.Asked, add-reads.Learnt, no-path-reads.Asked, no-path-reads.Learnt, is-inner-reads.Asked, is-inner-reads.Learnt, walk-if-below t, walk-if.Post, walk-while-below t, walk-while.Post, walk-call-below t, walk-call.Post) (walk-block-at t) walk-block.Post walk-block-Inv-loop walk-block-μ-loop
-walk-block-add-p t c = let k = block-bounds (c .before .before .pre .1) in omega arith
+walk-block-add-p : (t : ℕ) → walk-block-lts.Need-add-p (walk-block-calls t) (walk-block-at t) walk-block.Post walk-block-Inv-loop walk-block-μ-loop
+walk-block-add-p t c = let k = block-bounds (c .before .before .pre .1 .0) in omega arith
 
-walk-block-loop-holds : (t : ℕ) → walk-block-lts.Need-loop-holds (block-end-reads.Asked, block-end-reads.Learnt, statement-end-reads.Asked, statement-end-reads.Learnt, location-reads.Asked, location-reads.Learnt, wide-reads.Asked, wide-reads.Learnt, remove-reads.Asked, remove-reads.Learnt, add-reads.Asked, add-reads.Learnt, no-path-reads.Asked, no-path-reads.Learnt, is-inner-reads.Asked, is-inner-reads.Learnt, walk-if-below t, walk-if.Post, walk-while-below t, walk-while.Post, walk-call-below t, walk-call.Post) (walk-block-at t) walk-block.Post walk-block-Inv-loop walk-block-μ-loop
-walk-block-loop-holds t c = (omega arith, omega (arith, c .block-end .ensures), c .before .before .good .1 .1 .1 .1 .1 .1 .1 .0 .1 .0 .1, rest-start _ _ _ _ _ _ _ _ _ _)
+walk-block-loop-holds : (t : ℕ) → walk-block-lts.Need-loop-holds (walk-block-calls t) (walk-block-at t) walk-block.Post walk-block-Inv-loop walk-block-μ-loop
+walk-block-loop-holds t c = (omega arith, omega (arith, c .block-end .ensures), c .before .before .good .1 .1 .1 .1 .1 .1 .1 .0 .1 .0 .1, rest-start _ _ _ _ _ _ _ _ _ _, c .before .before .pre .1 .1)
 
-walk-block-shared-slice-read-op : (t : ℕ) → walk-block-lts.Need-shared-slice-read-op (block-end-reads.Asked, block-end-reads.Learnt, statement-end-reads.Asked, statement-end-reads.Learnt, location-reads.Asked, location-reads.Learnt, wide-reads.Asked, wide-reads.Learnt, remove-reads.Asked, remove-reads.Learnt, add-reads.Asked, add-reads.Learnt, no-path-reads.Asked, no-path-reads.Learnt, is-inner-reads.Asked, is-inner-reads.Learnt, walk-if-below t, walk-if.Post, walk-while-below t, walk-while.Post, walk-call-below t, walk-call.Post) (walk-block-at t) walk-block.Post walk-block-Inv-loop walk-block-μ-loop
-walk-block-shared-slice-read-op t c = let T = turn (c .before .before .before .before .before .pre .1) (c .before .before .before .block-end .ensures) (c .before .before .loop .inv .1) (c .before .loop-test .taken) (c .before .before .loop .inv .3) in omega (arith, T .inside, T .within)
+walk-block-shared-slice-read-op : (t : ℕ) → walk-block-lts.Need-shared-slice-read-op (walk-block-calls t) (walk-block-at t) walk-block.Post walk-block-Inv-loop walk-block-μ-loop
+walk-block-shared-slice-read-op t c = let T = turn (c .before .before .before .before .before .pre .1 .0) (c .before .before .before .block-end .ensures) (c .before .before .loop .inv .1) (c .before .loop-test .taken) (c .before .before .loop .inv .3) in omega (arith, T .inside, T .within)
 
-walk-block-statement-end-requires : (t : ℕ) → walk-block-lts.Need-statement-end-requires (block-end-reads.Asked, block-end-reads.Learnt, statement-end-reads.Asked, statement-end-reads.Learnt, location-reads.Asked, location-reads.Learnt, wide-reads.Asked, wide-reads.Learnt, remove-reads.Asked, remove-reads.Learnt, add-reads.Asked, add-reads.Learnt, no-path-reads.Asked, no-path-reads.Learnt, is-inner-reads.Asked, is-inner-reads.Learnt, walk-if-below t, walk-if.Post, walk-while-below t, walk-while.Post, walk-call-below t, walk-call.Post) (walk-block-at t) walk-block.Post walk-block-Inv-loop walk-block-μ-loop
-walk-block-statement-end-requires t c κs = let T = turn (c .before .before .before .before .before .pre .1) (c .before .before .before .block-end .ensures) (c .before .before .loop .inv .1) (c .before .loop-test .taken) (c .before .before .loop .inv .3) in (T .size, (_, _, _, _, _, T .here .stands))
+walk-block-statement-end-requires : (t : ℕ) → walk-block-lts.Need-statement-end-requires (walk-block-calls t) (walk-block-at t) walk-block.Post walk-block-Inv-loop walk-block-μ-loop
+walk-block-statement-end-requires t c κs = let T = turn (c .before .before .before .before .before .pre .1 .0) (c .before .before .before .block-end .ensures) (c .before .before .loop .inv .1) (c .before .loop-test .taken) (c .before .before .loop .inv .3) in (T .size, (_, _, _, _, _, T .here .stands))
 
-walk-block-add-location : (t : ℕ) → walk-block-lts.Need-add-location (block-end-reads.Asked, block-end-reads.Learnt, statement-end-reads.Asked, statement-end-reads.Learnt, location-reads.Asked, location-reads.Learnt, wide-reads.Asked, wide-reads.Learnt, remove-reads.Asked, remove-reads.Learnt, add-reads.Asked, add-reads.Learnt, no-path-reads.Asked, no-path-reads.Learnt, is-inner-reads.Asked, is-inner-reads.Learnt, walk-if-below t, walk-if.Post, walk-while-below t, walk-while.Post, walk-call-below t, walk-call.Post) (walk-block-at t) walk-block.Post walk-block-Inv-loop walk-block-μ-loop
-walk-block-add-location t c = let T = turn (c .before .before .before .before .before .before .before .pre .1) (c .before .before .before .before .before .block-end .ensures) (c .before .before .before .before .loop .inv .1) (c .before .before .before .loop-test .taken) (c .before .before .before .before .loop .inv .3) in omega (arith, T .inside, T .within, T .size)
+walk-block-add-location : (t : ℕ) → walk-block-lts.Need-add-location (walk-block-calls t) (walk-block-at t) walk-block.Post walk-block-Inv-loop walk-block-μ-loop
+walk-block-add-location t c = let T = turn (c .before .before .before .before .before .before .before .pre .1 .0) (c .before .before .before .before .before .block-end .ensures) (c .before .before .before .before .loop .inv .1) (c .before .before .before .loop-test .taken) (c .before .before .before .before .loop .inv .3) in omega (arith, T .inside, T .within, T .size)
 
-walk-block-shared-slice-read-location : (t : ℕ) → walk-block-lts.Need-shared-slice-read-location (block-end-reads.Asked, block-end-reads.Learnt, statement-end-reads.Asked, statement-end-reads.Learnt, location-reads.Asked, location-reads.Learnt, wide-reads.Asked, wide-reads.Learnt, remove-reads.Asked, remove-reads.Learnt, add-reads.Asked, add-reads.Learnt, no-path-reads.Asked, no-path-reads.Learnt, is-inner-reads.Asked, is-inner-reads.Learnt, walk-if-below t, walk-if.Post, walk-while-below t, walk-while.Post, walk-call-below t, walk-call.Post) (walk-block-at t) walk-block.Post walk-block-Inv-loop walk-block-μ-loop
+walk-block-shared-slice-read-location : (t : ℕ) → walk-block-lts.Need-shared-slice-read-location (walk-block-calls t) (walk-block-at t) walk-block.Post walk-block-Inv-loop walk-block-μ-loop
 walk-block-shared-slice-read-location t c =
-    let T = turn (c .before .before .before .before .before .before .before .before .pre .1) (c .before .before .before .before .before .before .block-end .ensures) (c .before .before .before .before .before .loop .inv .1) (c .before .before .before .before .loop-test .taken) (c .before .before .before .before .before .loop .inv .3) in
+    let T = turn (c .before .before .before .before .before .before .before .before .pre .1 .0) (c .before .before .before .before .before .before .block-end .ensures) (c .before .before .before .before .before .loop .inv .1) (c .before .before .before .before .loop-test .taken) (c .before .before .before .before .before .loop .inv .3) in
     let v = view-init (statement-view (T .here .stands)) (c .before .if1 .taken) in
     omega (arith, v .fits)
 
-walk-block-location-requires : (t : ℕ) → walk-block-lts.Need-location-requires (block-end-reads.Asked, block-end-reads.Learnt, statement-end-reads.Asked, statement-end-reads.Learnt, location-reads.Asked, location-reads.Learnt, wide-reads.Asked, wide-reads.Learnt, remove-reads.Asked, remove-reads.Learnt, add-reads.Asked, add-reads.Learnt, no-path-reads.Asked, no-path-reads.Learnt, is-inner-reads.Asked, is-inner-reads.Learnt, walk-if-below t, walk-if.Post, walk-while-below t, walk-while.Post, walk-call-below t, walk-call.Post) (walk-block-at t) walk-block.Post walk-block-Inv-loop walk-block-μ-loop
+walk-block-location-requires : (t : ℕ) → walk-block-lts.Need-location-requires (walk-block-calls t) (walk-block-at t) walk-block.Post walk-block-Inv-loop walk-block-μ-loop
 walk-block-location-requires t c κs =
-    let T = turn (c .before .before .before .before .before .before .before .before .pre .1) (c .before .before .before .before .before .before .block-end .ensures) (c .before .before .before .before .before .loop .inv .1) (c .before .before .before .before .loop-test .taken) (c .before .before .before .before .before .loop .inv .3) in
+    let T = turn (c .before .before .before .before .before .before .before .before .pre .1 .0) (c .before .before .before .before .before .before .block-end .ensures) (c .before .before .before .before .before .loop .inv .1) (c .before .before .before .before .loop-test .taken) (c .before .before .before .before .before .loop .inv .3) in
     let v = view-init (statement-view (T .here .stands)) (c .before .if1 .taken) in
     place-room (T .here) (v .place)
 
-walk-block-add-wide : (t : ℕ) → walk-block-lts.Need-add-wide (block-end-reads.Asked, block-end-reads.Learnt, statement-end-reads.Asked, statement-end-reads.Learnt, location-reads.Asked, location-reads.Learnt, wide-reads.Asked, wide-reads.Learnt, remove-reads.Asked, remove-reads.Learnt, add-reads.Asked, add-reads.Learnt, no-path-reads.Asked, no-path-reads.Learnt, is-inner-reads.Asked, is-inner-reads.Learnt, walk-if-below t, walk-if.Post, walk-while-below t, walk-while.Post, walk-call-below t, walk-call.Post) (walk-block-at t) walk-block.Post walk-block-Inv-loop walk-block-μ-loop
-walk-block-add-wide t c = let T = turn (c .before .before .before .before .before .before .before .before .before .pre .1) (c .before .before .before .before .before .before .before .block-end .ensures) (c .before .before .before .before .before .before .loop .inv .1) (c .before .before .before .before .before .loop-test .taken) (c .before .before .before .before .before .before .loop .inv .3) in omega (arith, T .inside, T .within, T .size)
+walk-block-add-wide : (t : ℕ) → walk-block-lts.Need-add-wide (walk-block-calls t) (walk-block-at t) walk-block.Post walk-block-Inv-loop walk-block-μ-loop
+walk-block-add-wide t c = let T = turn (c .before .before .before .before .before .before .before .before .before .pre .1 .0) (c .before .before .before .before .before .before .before .block-end .ensures) (c .before .before .before .before .before .before .loop .inv .1) (c .before .before .before .before .before .loop-test .taken) (c .before .before .before .before .before .before .loop .inv .3) in omega (arith, T .inside, T .within, T .size)
 
-walk-block-shared-slice-read-wide : (t : ℕ) → walk-block-lts.Need-shared-slice-read-wide (block-end-reads.Asked, block-end-reads.Learnt, statement-end-reads.Asked, statement-end-reads.Learnt, location-reads.Asked, location-reads.Learnt, wide-reads.Asked, wide-reads.Learnt, remove-reads.Asked, remove-reads.Learnt, add-reads.Asked, add-reads.Learnt, no-path-reads.Asked, no-path-reads.Learnt, is-inner-reads.Asked, is-inner-reads.Learnt, walk-if-below t, walk-if.Post, walk-while-below t, walk-while.Post, walk-call-below t, walk-call.Post) (walk-block-at t) walk-block.Post walk-block-Inv-loop walk-block-μ-loop
+walk-block-shared-slice-read-wide : (t : ℕ) → walk-block-lts.Need-shared-slice-read-wide (walk-block-calls t) (walk-block-at t) walk-block.Post walk-block-Inv-loop walk-block-μ-loop
 walk-block-shared-slice-read-wide t c =
-    let T = turn (c .before .before .before .before .before .before .before .before .before .before .pre .1) (c .before .before .before .before .before .before .before .before .block-end .ensures) (c .before .before .before .before .before .before .before .loop .inv .1) (c .before .before .before .before .before .before .loop-test .taken) (c .before .before .before .before .before .before .before .loop .inv .3) in
+    let T = turn (c .before .before .before .before .before .before .before .before .before .before .pre .1 .0) (c .before .before .before .before .before .before .before .before .block-end .ensures) (c .before .before .before .before .before .before .before .loop .inv .1) (c .before .before .before .before .before .before .loop-test .taken) (c .before .before .before .before .before .before .before .loop .inv .3) in
     let v = view-init (statement-view (T .here .stands)) (c .before .before .before .if1 .taken) in
     omega (arith, v .fits)
 
-walk-block-wide-requires : (t : ℕ) → walk-block-lts.Need-wide-requires (block-end-reads.Asked, block-end-reads.Learnt, statement-end-reads.Asked, statement-end-reads.Learnt, location-reads.Asked, location-reads.Learnt, wide-reads.Asked, wide-reads.Learnt, remove-reads.Asked, remove-reads.Learnt, add-reads.Asked, add-reads.Learnt, no-path-reads.Asked, no-path-reads.Learnt, is-inner-reads.Asked, is-inner-reads.Learnt, walk-if-below t, walk-if.Post, walk-while-below t, walk-while.Post, walk-call-below t, walk-call.Post) (walk-block-at t) walk-block.Post walk-block-Inv-loop walk-block-μ-loop
+walk-block-wide-requires : (t : ℕ) → walk-block-lts.Need-wide-requires (walk-block-calls t) (walk-block-at t) walk-block.Post walk-block-Inv-loop walk-block-μ-loop
 walk-block-wide-requires t c κs = tt
 
-walk-block-array-set-from-frame : (t : ℕ) → walk-block-lts.Need-array-set-from-frame (block-end-reads.Asked, block-end-reads.Learnt, statement-end-reads.Asked, statement-end-reads.Learnt, location-reads.Asked, location-reads.Learnt, wide-reads.Asked, wide-reads.Learnt, remove-reads.Asked, remove-reads.Learnt, add-reads.Asked, add-reads.Learnt, no-path-reads.Asked, no-path-reads.Learnt, is-inner-reads.Asked, is-inner-reads.Learnt, walk-if-below t, walk-if.Post, walk-while-below t, walk-while.Post, walk-call-below t, walk-call.Post) (walk-block-at t) walk-block.Post walk-block-Inv-loop walk-block-μ-loop
+walk-block-array-set-from-frame : (t : ℕ) → walk-block-lts.Need-array-set-from-frame (walk-block-calls t) (walk-block-at t) walk-block.Post walk-block-Inv-loop walk-block-μ-loop
 walk-block-array-set-from-frame t c =
-    let T = turn (c .before .before .before .before .before .before .before .before .before .before .before .pre .1) (c .before .before .before .before .before .before .before .before .before .block-end .ensures) (c .before .before .before .before .before .before .before .before .loop .inv .1) (c .before .before .before .before .before .before .before .loop-test .taken) (c .before .before .before .before .before .before .before .before .loop .inv .3) in
+    let T = turn (c .before .before .before .before .before .before .before .before .before .before .before .pre .1 .0) (c .before .before .before .before .before .before .before .before .before .block-end .ensures) (c .before .before .before .before .before .before .before .before .loop .inv .1) (c .before .before .before .before .before .before .before .loop-test .taken) (c .before .before .before .before .before .before .before .before .loop .inv .3) in
     let v = view-init (statement-view (T .here .stands)) (c .before .before .before .before .if1 .taken) in
     omega (arith, c .wide .ensures .0, v .slot)
 
-walk-block-wide-requires-2 : (t : ℕ) → walk-block-lts.Need-wide-requires-2 (block-end-reads.Asked, block-end-reads.Learnt, statement-end-reads.Asked, statement-end-reads.Learnt, location-reads.Asked, location-reads.Learnt, wide-reads.Asked, wide-reads.Learnt, remove-reads.Asked, remove-reads.Learnt, add-reads.Asked, add-reads.Learnt, no-path-reads.Asked, no-path-reads.Learnt, is-inner-reads.Asked, is-inner-reads.Learnt, walk-if-below t, walk-if.Post, walk-while-below t, walk-while.Post, walk-call-below t, walk-call.Post) (walk-block-at t) walk-block.Post walk-block-Inv-loop walk-block-μ-loop
-walk-block-wide-requires-2 t c κs = tt
+walk-block-remove-requires : (t : ℕ) → walk-block-lts.Need-remove-requires (walk-block-calls t) (walk-block-at t) walk-block.Post walk-block-Inv-loop walk-block-μ-loop
+walk-block-remove-requires t c κs = c .before .before .before .before .before .before .before .before .before .loop .inv .4
 
-walk-block-remove-requires : (t : ℕ) → walk-block-lts.Need-remove-requires (block-end-reads.Asked, block-end-reads.Learnt, statement-end-reads.Asked, statement-end-reads.Learnt, location-reads.Asked, location-reads.Learnt, wide-reads.Asked, wide-reads.Learnt, remove-reads.Asked, remove-reads.Learnt, add-reads.Asked, add-reads.Learnt, no-path-reads.Asked, no-path-reads.Learnt, is-inner-reads.Asked, is-inner-reads.Learnt, walk-if-below t, walk-if.Post, walk-while-below t, walk-while.Post, walk-call-below t, walk-call.Post) (walk-block-at t) walk-block.Post walk-block-Inv-loop walk-block-μ-loop
-walk-block-remove-requires t c κs = c .wide2 .ensures .1
+walk-block-add-wide-2 : (t : ℕ) → walk-block-lts.Need-add-wide-2 (walk-block-calls t) (walk-block-at t) walk-block.Post walk-block-Inv-loop walk-block-μ-loop
+walk-block-add-wide-2 t c = let T = turn (c .before .before .before .before .before .before .before .before .pre .1 .0) (c .before .before .before .before .before .before .block-end .ensures) (c .before .before .before .before .before .loop .inv .1) (c .before .before .before .before .loop-test .taken) (c .before .before .before .before .before .loop .inv .3) in omega (arith, T .inside, T .within, T .size)
 
-walk-block-add-wide-2 : (t : ℕ) → walk-block-lts.Need-add-wide-2 (block-end-reads.Asked, block-end-reads.Learnt, statement-end-reads.Asked, statement-end-reads.Learnt, location-reads.Asked, location-reads.Learnt, wide-reads.Asked, wide-reads.Learnt, remove-reads.Asked, remove-reads.Learnt, add-reads.Asked, add-reads.Learnt, no-path-reads.Asked, no-path-reads.Learnt, is-inner-reads.Asked, is-inner-reads.Learnt, walk-if-below t, walk-if.Post, walk-while-below t, walk-while.Post, walk-call-below t, walk-call.Post) (walk-block-at t) walk-block.Post walk-block-Inv-loop walk-block-μ-loop
-walk-block-add-wide-2 t c = let T = turn (c .before .before .before .before .before .before .before .before .pre .1) (c .before .before .before .before .before .before .block-end .ensures) (c .before .before .before .before .before .loop .inv .1) (c .before .before .before .before .loop-test .taken) (c .before .before .before .before .before .loop .inv .3) in omega (arith, T .inside, T .within, T .size)
-
-walk-block-shared-slice-read-wide-2 : (t : ℕ) → walk-block-lts.Need-shared-slice-read-wide-2 (block-end-reads.Asked, block-end-reads.Learnt, statement-end-reads.Asked, statement-end-reads.Learnt, location-reads.Asked, location-reads.Learnt, wide-reads.Asked, wide-reads.Learnt, remove-reads.Asked, remove-reads.Learnt, add-reads.Asked, add-reads.Learnt, no-path-reads.Asked, no-path-reads.Learnt, is-inner-reads.Asked, is-inner-reads.Learnt, walk-if-below t, walk-if.Post, walk-while-below t, walk-while.Post, walk-call-below t, walk-call.Post) (walk-block-at t) walk-block.Post walk-block-Inv-loop walk-block-μ-loop
+walk-block-shared-slice-read-wide-2 : (t : ℕ) → walk-block-lts.Need-shared-slice-read-wide-2 (walk-block-calls t) (walk-block-at t) walk-block.Post walk-block-Inv-loop walk-block-μ-loop
 walk-block-shared-slice-read-wide-2 t c =
-    let T = turn (c .before .before .before .before .before .before .before .before .before .pre .1) (c .before .before .before .before .before .before .before .block-end .ensures) (c .before .before .before .before .before .before .loop .inv .1) (c .before .before .before .before .before .loop-test .taken) (c .before .before .before .before .before .before .loop .inv .3) in
+    let T = turn (c .before .before .before .before .before .before .before .before .before .pre .1 .0) (c .before .before .before .before .before .before .before .block-end .ensures) (c .before .before .before .before .before .before .loop .inv .1) (c .before .before .before .before .before .loop-test .taken) (c .before .before .before .before .before .before .loop .inv .3) in
     let v = view-free (statement-view (T .here .stands)) (c .before .if2 .taken) in
     omega (arith, v .fits)
 
-walk-block-wide-requires-3 : (t : ℕ) → walk-block-lts.Need-wide-requires-3 (block-end-reads.Asked, block-end-reads.Learnt, statement-end-reads.Asked, statement-end-reads.Learnt, location-reads.Asked, location-reads.Learnt, wide-reads.Asked, wide-reads.Learnt, remove-reads.Asked, remove-reads.Learnt, add-reads.Asked, add-reads.Learnt, no-path-reads.Asked, no-path-reads.Learnt, is-inner-reads.Asked, is-inner-reads.Learnt, walk-if-below t, walk-if.Post, walk-while-below t, walk-while.Post, walk-call-below t, walk-call.Post) (walk-block-at t) walk-block.Post walk-block-Inv-loop walk-block-μ-loop
+walk-block-wide-requires-2 : (t : ℕ) → walk-block-lts.Need-wide-requires-2 (walk-block-calls t) (walk-block-at t) walk-block.Post walk-block-Inv-loop walk-block-μ-loop
+walk-block-wide-requires-2 t c κs = tt
+
+walk-block-array-copy-out-l : (t : ℕ) → walk-block-lts.Need-array-copy-out-l (walk-block-calls t) (walk-block-at t) walk-block.Post walk-block-Inv-loop walk-block-μ-loop
+walk-block-array-copy-out-l t c =
+    let T = turn (c .before .before .before .before .before .before .before .before .before .before .pre .1 .0) (c .before .before .before .before .before .before .before .before .block-end .ensures) (c .before .before .before .before .before .before .before .loop .inv .1) (c .before .before .before .before .before .before .loop-test .taken) (c .before .before .before .before .before .before .before .loop .inv .3) in
+    let v = view-free (statement-view (T .here .stands)) (c .before .before .if2 .taken) in
+    omega (arith, c .wide2 .ensures .0, v .slot)
+
+walk-block-add-requires : (t : ℕ) → walk-block-lts.Need-add-requires (walk-block-calls t) (walk-block-at t) walk-block.Post walk-block-Inv-loop walk-block-μ-loop
+walk-block-add-requires t c κs = c .before .before .before .before .before .before .before .before .before .loop .inv .4
+
+walk-block-add-wide-3 : (t : ℕ) → walk-block-lts.Need-add-wide-3 (walk-block-calls t) (walk-block-at t) walk-block.Post walk-block-Inv-loop walk-block-μ-loop
+walk-block-add-wide-3 t c = let T = turn (c .before .before .before .before .before .before .before .before .before .pre .1 .0) (c .before .before .before .before .before .before .before .block-end .ensures) (c .before .before .before .before .before .before .loop .inv .1) (c .before .before .before .before .before .loop-test .taken) (c .before .before .before .before .before .before .loop .inv .3) in omega (arith, T .inside, T .within, T .size)
+
+walk-block-shared-slice-read-wide-3 : (t : ℕ) → walk-block-lts.Need-shared-slice-read-wide-3 (walk-block-calls t) (walk-block-at t) walk-block.Post walk-block-Inv-loop walk-block-μ-loop
+walk-block-shared-slice-read-wide-3 t c =
+    let T = turn (c .before .before .before .before .before .before .before .before .before .before .pre .1 .0) (c .before .before .before .before .before .before .before .before .block-end .ensures) (c .before .before .before .before .before .before .before .loop .inv .1) (c .before .before .before .before .before .before .loop-test .taken) (c .before .before .before .before .before .before .before .loop .inv .3) in
+    let v = view-merge (statement-view (T .here .stands)) (c .before .if3 .taken) in
+    omega (arith, v .fits)
+
+walk-block-wide-requires-3 : (t : ℕ) → walk-block-lts.Need-wide-requires-3 (walk-block-calls t) (walk-block-at t) walk-block.Post walk-block-Inv-loop walk-block-μ-loop
 walk-block-wide-requires-3 t c κs = tt
 
-walk-block-array-copy-out-l : (t : ℕ) → walk-block-lts.Need-array-copy-out-l (block-end-reads.Asked, block-end-reads.Learnt, statement-end-reads.Asked, statement-end-reads.Learnt, location-reads.Asked, location-reads.Learnt, wide-reads.Asked, wide-reads.Learnt, remove-reads.Asked, remove-reads.Learnt, add-reads.Asked, add-reads.Learnt, no-path-reads.Asked, no-path-reads.Learnt, is-inner-reads.Asked, is-inner-reads.Learnt, walk-if-below t, walk-if.Post, walk-while-below t, walk-while.Post, walk-call-below t, walk-call.Post) (walk-block-at t) walk-block.Post walk-block-Inv-loop walk-block-μ-loop
-walk-block-array-copy-out-l t c =
-    let T = turn (c .before .before .before .before .before .before .before .before .before .before .pre .1) (c .before .before .before .before .before .before .before .before .block-end .ensures) (c .before .before .before .before .before .before .before .loop .inv .1) (c .before .before .before .before .before .before .loop-test .taken) (c .before .before .before .before .before .before .before .loop .inv .3) in
-    let v = view-free (statement-view (T .here .stands)) (c .before .before .if2 .taken) in
-    omega (arith, c .wide3 .ensures .0, v .slot)
+walk-block-array-copy-out-a : (t : ℕ) → walk-block-lts.Need-array-copy-out-a (walk-block-calls t) (walk-block-at t) walk-block.Post walk-block-Inv-loop walk-block-μ-loop
+walk-block-array-copy-out-a t c =
+    let T = turn (c .before .before .before .before .before .before .before .before .before .before .before .pre .1 .0) (c .before .before .before .before .before .before .before .before .before .block-end .ensures) (c .before .before .before .before .before .before .before .before .loop .inv .1) (c .before .before .before .before .before .before .before .loop-test .taken) (c .before .before .before .before .before .before .before .before .loop .inv .3) in
+    let v = view-merge (statement-view (T .here .stands)) (c .before .before .if3 .taken) in
+    omega (arith, c .wide3 .ensures .0, v .first)
 
-walk-block-wide-requires-4 : (t : ℕ) → walk-block-lts.Need-wide-requires-4 (block-end-reads.Asked, block-end-reads.Learnt, statement-end-reads.Asked, statement-end-reads.Learnt, location-reads.Asked, location-reads.Learnt, wide-reads.Asked, wide-reads.Learnt, remove-reads.Asked, remove-reads.Learnt, add-reads.Asked, add-reads.Learnt, no-path-reads.Asked, no-path-reads.Learnt, is-inner-reads.Asked, is-inner-reads.Learnt, walk-if-below t, walk-if.Post, walk-while-below t, walk-while.Post, walk-call-below t, walk-call.Post) (walk-block-at t) walk-block.Post walk-block-Inv-loop walk-block-μ-loop
+walk-block-add-wide-4 : (t : ℕ) → walk-block-lts.Need-add-wide-4 (walk-block-calls t) (walk-block-at t) walk-block.Post walk-block-Inv-loop walk-block-μ-loop
+walk-block-add-wide-4 t c = let T = turn (c .before .before .before .before .before .before .before .before .before .before .before .before .pre .1 .0) (c .before .before .before .before .before .before .before .before .before .before .block-end .ensures) (c .before .before .before .before .before .before .before .before .before .loop .inv .1) (c .before .before .before .before .before .before .before .before .loop-test .taken) (c .before .before .before .before .before .before .before .before .before .loop .inv .3) in omega (arith, T .inside, T .within, T .size)
+
+walk-block-shared-slice-read-wide-4 : (t : ℕ) → walk-block-lts.Need-shared-slice-read-wide-4 (walk-block-calls t) (walk-block-at t) walk-block.Post walk-block-Inv-loop walk-block-μ-loop
+walk-block-shared-slice-read-wide-4 t c =
+    let T = turn (c .before .before .before .before .before .before .before .before .before .before .before .before .before .pre .1 .0) (c .before .before .before .before .before .before .before .before .before .before .before .block-end .ensures) (c .before .before .before .before .before .before .before .before .before .before .loop .inv .1) (c .before .before .before .before .before .before .before .before .before .loop-test .taken) (c .before .before .before .before .before .before .before .before .before .before .loop .inv .3) in
+    let v = view-merge (statement-view (T .here .stands)) (c .before .before .before .before .if3 .taken) in
+    omega (arith, v .fits)
+
+walk-block-wide-requires-4 : (t : ℕ) → walk-block-lts.Need-wide-requires-4 (walk-block-calls t) (walk-block-at t) walk-block.Post walk-block-Inv-loop walk-block-μ-loop
 walk-block-wide-requires-4 t c κs = tt
 
-walk-block-add-requires : (t : ℕ) → walk-block-lts.Need-add-requires (block-end-reads.Asked, block-end-reads.Learnt, statement-end-reads.Asked, statement-end-reads.Learnt, location-reads.Asked, location-reads.Learnt, wide-reads.Asked, wide-reads.Learnt, remove-reads.Asked, remove-reads.Learnt, add-reads.Asked, add-reads.Learnt, no-path-reads.Asked, no-path-reads.Learnt, is-inner-reads.Asked, is-inner-reads.Learnt, walk-if-below t, walk-if.Post, walk-while-below t, walk-while.Post, walk-call-below t, walk-call.Post) (walk-block-at t) walk-block.Post walk-block-Inv-loop walk-block-μ-loop
-walk-block-add-requires t c κs = c .wide4 .ensures .1
+walk-block-array-copy-out-b : (t : ℕ) → walk-block-lts.Need-array-copy-out-b (walk-block-calls t) (walk-block-at t) walk-block.Post walk-block-Inv-loop walk-block-μ-loop
+walk-block-array-copy-out-b t c =
+    let T = turn (c .before .before .before .before .before .before .before .before .before .before .before .before .before .before .pre .1 .0) (c .before .before .before .before .before .before .before .before .before .before .before .before .block-end .ensures) (c .before .before .before .before .before .before .before .before .before .before .before .loop .inv .1) (c .before .before .before .before .before .before .before .before .before .before .loop-test .taken) (c .before .before .before .before .before .before .before .before .before .before .before .loop .inv .3) in
+    let v = view-merge (statement-view (T .here .stands)) (c .before .before .before .before .before .if3 .taken) in
+    omega (arith, c .wide4 .ensures .0, v .second)
 
-walk-block-no-path-requires : (t : ℕ) → walk-block-lts.Need-no-path-requires (block-end-reads.Asked, block-end-reads.Learnt, statement-end-reads.Asked, statement-end-reads.Learnt, location-reads.Asked, location-reads.Learnt, wide-reads.Asked, wide-reads.Learnt, remove-reads.Asked, remove-reads.Learnt, add-reads.Asked, add-reads.Learnt, no-path-reads.Asked, no-path-reads.Learnt, is-inner-reads.Asked, is-inner-reads.Learnt, walk-if-below t, walk-if.Post, walk-while-below t, walk-while.Post, walk-call-below t, walk-call.Post) (walk-block-at t) walk-block.Post walk-block-Inv-loop walk-block-μ-loop
-walk-block-no-path-requires t c κs =
-    let T = turn (c .before .before .before .before .before .before .before .before .before .pre .1) (c .before .before .before .before .before .before .before .block-end .ensures) (c .before .before .before .before .before .before .loop .inv .1) (c .before .before .before .before .before .loop-test .taken) (c .before .before .before .before .before .before .loop .inv .3) in
-    let v = view-merge (statement-view (T .here .stands)) (c .if3 .taken) in
-    (v .fits, v .first, v .second, T .size)
+walk-block-no-path-requires : (t : ℕ) → walk-block-lts.Need-no-path-requires (walk-block-calls t) (walk-block-at t) walk-block.Post walk-block-Inv-loop walk-block-μ-loop
+walk-block-no-path-requires t c κs = c .before .before .before .before .before .before .before .before .before .before .before .before .before .loop .inv .4
 
-walk-block-returns : (t : ℕ) → walk-block-lts.Need-returns (block-end-reads.Asked, block-end-reads.Learnt, statement-end-reads.Asked, statement-end-reads.Learnt, location-reads.Asked, location-reads.Learnt, wide-reads.Asked, wide-reads.Learnt, remove-reads.Asked, remove-reads.Learnt, add-reads.Asked, add-reads.Learnt, no-path-reads.Asked, no-path-reads.Learnt, is-inner-reads.Asked, is-inner-reads.Learnt, walk-if-below t, walk-if.Post, walk-while-below t, walk-while.Post, walk-call-below t, walk-call.Post) (walk-block-at t) walk-block.Post walk-block-Inv-loop walk-block-μ-loop
+walk-block-returns : (t : ℕ) → walk-block-lts.Need-returns (walk-block-calls t) (walk-block-at t) walk-block.Post walk-block-Inv-loop walk-block-μ-loop
 walk-block-returns t c =
-    let T = turn (c .before .before .before .before .before .before .before .before .before .before .before .pre .1) (c .before .before .before .before .before .before .before .before .before .block-end .ensures) (c .before .before .before .before .before .before .before .before .loop .inv .1) (c .before .before .before .before .before .before .before .loop-test .taken) (c .before .before .before .before .before .before .before .before .loop .inv .3) in
-    λ b R W σ o. block-refused (c .before .before .before .before .before .before .before .before .loop .inv .3) (c .before .before .before .before .before .before .before .before .before .block-end .ensures) b R W σ o _ (T .inside) λ t R W σ o.
-    on-merge (c .before .before .before .before .before .before .before .before .loop .frame) (c .before .before .before .before .before .before .before .before .loop .free) t R W σ o (c .before .before .if3 .taken) true (sym (c .before .no-path .ensures R (o .region)) ∙ c .if4 .taken)
+    let T = turn (c .before .before .before .before .before .before .before .before .before .before .before .before .before .before .before .before .before .before .pre .1 .0) (c .before .before .before .before .before .before .before .before .before .before .before .before .before .before .before .before .block-end .ensures) (c .before .before .before .before .before .before .before .before .before .before .before .before .before .before .before .loop .inv .1) (c .before .before .before .before .before .before .before .before .before .before .before .before .before .before .loop-test .taken) (c .before .before .before .before .before .before .before .before .before .before .before .before .before .before .before .loop .inv .3) in (
+      c .before .before .before .before .before .before .before .before .before .before .before .before .before .before .before .loop .inv .4,
+      λ b R W σ o. fault-said _ _ (λ z. omega (arith, z, c .before .before .before .before .before .before .before .before .before .before .before .before .before .before .before .loop .inv .0)) ∙ block-refused (c .before .before .before .before .before .before .before .before .before .before .before .before .before .before .before .loop .inv .3) (c .before .before .before .before .before .before .before .before .before .before .before .before .before .before .before .before .block-end .ensures) b R W σ o _ (T .inside) λ t R W σ o.
+          on-merge (c .before .before .before .before .before .before .before .before .before .before .before .before .before .before .before .loop .frame) (setOf (c .before .before .before .before .before .before .before .before .before .before .before .before .before .before .before .loop .free)) t R W σ o (c .before .before .before .before .before .before .before .before .before .if3 .taken) true
+          (no-path-of R _ (c .before .before .before .before .before .before .before .before .before .before .before .before .before .before .before .loop .frame) _ _ _ _ _ (c .before .before .before .before .before .before .before .wide3 .ensures .0) (c .before .before .before .before .wide4 .ensures .0) (sym (c .before .no-path .ensures R (o .region)) ∙ c .if4 .taken)),
+    )
 
-walk-block-is-inner-requires : (t : ℕ) → walk-block-lts.Need-is-inner-requires (block-end-reads.Asked, block-end-reads.Learnt, statement-end-reads.Asked, statement-end-reads.Learnt, location-reads.Asked, location-reads.Learnt, wide-reads.Asked, wide-reads.Learnt, remove-reads.Asked, remove-reads.Learnt, add-reads.Asked, add-reads.Learnt, no-path-reads.Asked, no-path-reads.Learnt, is-inner-reads.Asked, is-inner-reads.Learnt, walk-if-below t, walk-if.Post, walk-while-below t, walk-while.Post, walk-call-below t, walk-call.Post) (walk-block-at t) walk-block.Post walk-block-Inv-loop walk-block-μ-loop
+walk-block-is-inner-requires : (t : ℕ) → walk-block-lts.Need-is-inner-requires (walk-block-calls t) (walk-block-at t) walk-block.Post walk-block-Inv-loop walk-block-μ-loop
 walk-block-is-inner-requires t c κs = tt
 
-walk-block-walk-if-requires : (t : ℕ) → walk-block-lts.Need-walk-if-requires (block-end-reads.Asked, block-end-reads.Learnt, statement-end-reads.Asked, statement-end-reads.Learnt, location-reads.Asked, location-reads.Learnt, wide-reads.Asked, wide-reads.Learnt, remove-reads.Asked, remove-reads.Learnt, add-reads.Asked, add-reads.Learnt, no-path-reads.Asked, no-path-reads.Learnt, is-inner-reads.Asked, is-inner-reads.Learnt, walk-if-below t, walk-if.Post, walk-while-below t, walk-while.Post, walk-call-below t, walk-call.Post) (walk-block-at t) walk-block.Post walk-block-Inv-loop walk-block-μ-loop
-walk-block-walk-if-requires t c κs =
-    let T = turn (c .before .before .before .before .before .before .before .before .before .before .before .before .pre .1) (c .before .before .before .before .before .before .before .before .before .before .block-end .ensures) (c .before .before .before .before .before .before .before .before .before .loop .inv .1) (c .before .before .before .before .before .before .before .before .loop-test .taken) (c .before .before .before .before .before .before .before .before .before .loop .inv .3) in
-    (omega (arith, T .inside, T .within, c .before .before .before .before .before .before .before .before .before .loop .inv .0, c .before .before .before .before .before .before .before .before .before .before .before .before .pre .0), (T .here, c .if6 .taken))
+walk-block-walk-if-requires : (t : ℕ) → walk-block-lts.Need-walk-if-requires (walk-block-calls t) (walk-block-at t) walk-block.Post walk-block-Inv-loop walk-block-μ-loop
+walk-block-walk-if-requires t c κs = let T = turn (c .before .before .before .before .before .before .before .before .before .before .before .before .before .pre .1 .0) (c .before .before .before .before .before .before .before .before .before .before .before .block-end .ensures) (c .before .before .before .before .before .before .before .before .before .before .loop .inv .1) (c .before .before .before .before .before .before .before .before .before .loop-test .taken) (c .before .before .before .before .before .before .before .before .before .before .loop .inv .3) in (omega (arith, T .inside, T .within, c .before .before .before .before .before .before .before .before .before .before .loop .inv .0, c .before .before .before .before .before .before .before .before .before .before .before .before .before .pre .0), ((T .here, c .before .if6 .taken), c .before .before .before .before .before .before .before .before .before .before .loop .inv .4))
 
-walk-block-walk-while-requires : (t : ℕ) → walk-block-lts.Need-walk-while-requires (block-end-reads.Asked, block-end-reads.Learnt, statement-end-reads.Asked, statement-end-reads.Learnt, location-reads.Asked, location-reads.Learnt, wide-reads.Asked, wide-reads.Learnt, remove-reads.Asked, remove-reads.Learnt, add-reads.Asked, add-reads.Learnt, no-path-reads.Asked, no-path-reads.Learnt, is-inner-reads.Asked, is-inner-reads.Learnt, walk-if-below t, walk-if.Post, walk-while-below t, walk-while.Post, walk-call-below t, walk-call.Post) (walk-block-at t) walk-block.Post walk-block-Inv-loop walk-block-μ-loop
-walk-block-walk-while-requires t c κs =
-    let T = turn (c .before .before .before .before .before .before .before .before .before .before .before .before .before .pre .1) (c .before .before .before .before .before .before .before .before .before .before .before .block-end .ensures) (c .before .before .before .before .before .before .before .before .before .before .loop .inv .1) (c .before .before .before .before .before .before .before .before .before .loop-test .taken) (c .before .before .before .before .before .before .before .before .before .before .loop .inv .3) in
-    (omega (arith, T .inside, T .within, c .before .before .before .before .before .before .before .before .before .before .loop .inv .0, c .before .before .before .before .before .before .before .before .before .before .before .before .before .pre .0), (T .here, c .if7 .taken))
+walk-block-walk-while-requires : (t : ℕ) → walk-block-lts.Need-walk-while-requires (walk-block-calls t) (walk-block-at t) walk-block.Post walk-block-Inv-loop walk-block-μ-loop
+walk-block-walk-while-requires t c κs = let T = turn (c .before .before .before .before .before .before .before .before .before .before .before .before .before .before .pre .1 .0) (c .before .before .before .before .before .before .before .before .before .before .before .before .block-end .ensures) (c .before .before .before .before .before .before .before .before .before .before .before .loop .inv .1) (c .before .before .before .before .before .before .before .before .before .before .loop-test .taken) (c .before .before .before .before .before .before .before .before .before .before .before .loop .inv .3) in (omega (arith, T .inside, T .within, c .before .before .before .before .before .before .before .before .before .before .before .loop .inv .0, c .before .before .before .before .before .before .before .before .before .before .before .before .before .before .pre .0), ((T .here, c .before .if7 .taken), c .before .before .before .before .before .before .before .before .before .before .before .loop .inv .4))
 
-walk-block-walk-call-requires : (t : ℕ) → walk-block-lts.Need-walk-call-requires (block-end-reads.Asked, block-end-reads.Learnt, statement-end-reads.Asked, statement-end-reads.Learnt, location-reads.Asked, location-reads.Learnt, wide-reads.Asked, wide-reads.Learnt, remove-reads.Asked, remove-reads.Learnt, add-reads.Asked, add-reads.Learnt, no-path-reads.Asked, no-path-reads.Learnt, is-inner-reads.Asked, is-inner-reads.Learnt, walk-if-below t, walk-if.Post, walk-while-below t, walk-while.Post, walk-call-below t, walk-call.Post) (walk-block-at t) walk-block.Post walk-block-Inv-loop walk-block-μ-loop
+walk-block-walk-call-requires : (t : ℕ) → walk-block-lts.Need-walk-call-requires (walk-block-calls t) (walk-block-at t) walk-block.Post walk-block-Inv-loop walk-block-μ-loop
 walk-block-walk-call-requires t c κs =
-    let T = turn (c .before .before .before .before .before .before .before .before .before .before .before .before .before .pre .1) (c .before .before .before .before .before .before .before .before .before .before .before .block-end .ensures) (c .before .before .before .before .before .before .before .before .before .before .loop .inv .1) (c .before .before .before .before .before .before .before .before .before .loop-test .taken) (c .before .before .before .before .before .before .before .before .before .before .loop .inv .3) in
-    let k = c .before .before .before .is-inner .ensures .0 (c .before .before .if5 .taken) in
-    (omega (arith, T .inside, T .within, c .before .before .before .before .before .before .before .before .before .before .loop .inv .0, c .before .before .before .before .before .before .before .before .before .before .before .before .before .pre .0), (T .here, omega (arith, k .0, k .1, c .before .if6 .left, c .if7 .left)))
+    let T = turn (c .before .before .before .before .before .before .before .before .before .before .before .before .before .before .pre .1 .0) (c .before .before .before .before .before .before .before .before .before .before .before .before .block-end .ensures) (c .before .before .before .before .before .before .before .before .before .before .before .loop .inv .1) (c .before .before .before .before .before .before .before .before .before .before .loop-test .taken) (c .before .before .before .before .before .before .before .before .before .before .before .loop .inv .3) in
+    let k = c .before .before .before .before .is-inner .ensures .0 (c .before .before .before .if5 .taken) in
+    (omega (arith, T .inside, T .within, c .before .before .before .before .before .before .before .before .before .before .before .loop .inv .0, c .before .before .before .before .before .before .before .before .before .before .before .before .before .before .pre .0), ((T .here, omega (arith, k .0, k .1, c .before .before .if6 .left, c .before .if7 .left)), c .before .before .before .before .before .before .before .before .before .before .before .loop .inv .4))
 
 -- however it came about, the inner statement is walked
-walk-block-joined : (t : ℕ) (c : walk-block-lts.Joined6 (block-end-reads.Asked, block-end-reads.Learnt, statement-end-reads.Asked, statement-end-reads.Learnt, location-reads.Asked, location-reads.Learnt, wide-reads.Asked, wide-reads.Learnt, remove-reads.Asked, remove-reads.Learnt, add-reads.Asked, add-reads.Learnt, no-path-reads.Asked, no-path-reads.Learnt, is-inner-reads.Asked, is-inner-reads.Learnt, walk-if-below t, walk-if.Post, walk-while-below t, walk-while.Post, walk-call-below t, walk-call.Post) (walk-block-at t) walk-block.Post walk-block-Inv-loop walk-block-μ-loop) → StatementWalked (c .before .before .before .before .before .before .before .before .before .before .before .before .args .s .now) (c .before .before .before .before .before .before .before .before .before .before .before .before .args .bodies .now) (c .before .before .before .before .before .before .before .before .before .before .before .before .args .counts .now) (c .before .before .before .before .before .before .before .before .before .before .before .before .args .rows .now) (c .before .before .before .before .before .before .before .before .before .before .before .before .args .g) (c .before .before .before .before .before .before .before .before .before .before .before .before .args .names) (c .before .before .before .before .before .before .before .before .before .loop .p) (c .before .before .before .before .before .before .before .before .before .loop .frame) (c .before .before .before .before .before .before .before .before .before .loop .free) (c .if6 .w)
-walk-block-joined t c = ⊎-elim (λ w. subst (λ v. StatementWalked (c .before .before .before .before .before .before .before .before .before .before .before .before .args .s .now) (c .before .before .before .before .before .before .before .before .before .before .before .before .args .bodies .now) (c .before .before .before .before .before .before .before .before .before .before .before .before .args .counts .now) (c .before .before .before .before .before .before .before .before .before .before .before .before .args .rows .now) (c .before .before .before .before .before .before .before .before .before .before .before .before .args .g) (c .before .before .before .before .before .before .before .before .before .before .before .before .args .names) (c .before .before .before .before .before .before .before .before .before .loop .p) (c .before .before .before .before .before .before .before .before .before .loop .frame) (c .before .before .before .before .before .before .before .before .before .loop .free) v) (sym (w .2)) (w .1 .ensures)) (⊎-elim (λ w. subst (λ v. StatementWalked (c .before .before .before .before .before .before .before .before .before .before .before .before .args .s .now) (c .before .before .before .before .before .before .before .before .before .before .before .before .args .bodies .now) (c .before .before .before .before .before .before .before .before .before .before .before .before .args .counts .now) (c .before .before .before .before .before .before .before .before .before .before .before .before .args .rows .now) (c .before .before .before .before .before .before .before .before .before .before .before .before .args .g) (c .before .before .before .before .before .before .before .before .before .before .before .before .args .names) (c .before .before .before .before .before .before .before .before .before .loop .p) (c .before .before .before .before .before .before .before .before .before .loop .frame) (c .before .before .before .before .before .before .before .before .before .loop .free) v) (sym (w .3)) (w .2 .ensures)) (λ w. subst (λ v. StatementWalked (c .before .before .before .before .before .before .before .before .before .before .before .before .args .s .now) (c .before .before .before .before .before .before .before .before .before .before .before .before .args .bodies .now) (c .before .before .before .before .before .before .before .before .before .before .before .before .args .counts .now) (c .before .before .before .before .before .before .before .before .before .before .before .before .args .rows .now) (c .before .before .before .before .before .before .before .before .before .before .before .before .args .g) (c .before .before .before .before .before .before .before .before .before .before .before .before .args .names) (c .before .before .before .before .before .before .before .before .before .loop .p) (c .before .before .before .before .before .before .before .before .before .loop .frame) (c .before .before .before .before .before .before .before .before .before .loop .free) v) (sym (w .3)) (w .2 .ensures))) (c .if6 .came)
+walk-block-joined : (t : ℕ) (c : walk-block-lts.Joined6 (walk-block-calls t) (walk-block-at t) walk-block.Post walk-block-Inv-loop walk-block-μ-loop) → StatementWalked (c .before .before .before .before .before .before .before .before .before .before .before .before .args .s .now) (c .before .before .before .before .before .before .before .before .before .before .before .before .args .bodies .now) (c .before .before .before .before .before .before .before .before .before .before .before .before .args .counts .now) (c .before .before .before .before .before .before .before .before .before .before .before .before .args .rows .now) (c .before .before .before .before .before .before .before .before .before .before .before .before .args .g) (c .before .before .before .before .before .before .before .before .before .before .before .before .args .names) (c .before .before .before .before .before .before .before .before .before .loop .p) (c .before .before .before .before .before .before .before .before .before .loop .frame) (setOf (c .before .before .before .before .before .before .before .before .before .loop .free)) (leaves (c .if6 .fault) (c .if6 .free)) × (length (c .if6 .free) ≡ 4)
+walk-block-joined t c =
+    let same = walked-as (c .before .before .before .before .before .before .before .before .before .before .before .before .args .s .now) (c .before .before .before .before .before .before .before .before .before .before .before .before .args .bodies .now) (c .before .before .before .before .before .before .before .before .before .before .before .before .args .counts .now) (c .before .before .before .before .before .before .before .before .before .before .before .before .args .rows .now) (c .before .before .before .before .before .before .before .before .before .before .before .before .args .g) (c .before .before .before .before .before .before .before .before .before .before .before .before .args .names) (c .before .before .before .before .before .before .before .before .before .loop .p) (c .before .before .before .before .before .before .before .before .before .loop .frame) (setOf (c .before .before .before .before .before .before .before .before .before .loop .free)) (c .if6 .fault) (c .if6 .free) in
+    ⊎-elim
+    (λ w. same _ _ (w .3) (w .4) (w .2 .ensures .0) (w .2 .ensures .1))
+    (⊎-elim (λ w. same _ _ (w .4) (w .5) (c .before .before .before .before .before .before .before .before .before .loop .inv .4) (w .3 .ensures)) (λ w. same _ _ (w .4) (w .5) (w .3 .ensures .0) (w .3 .ensures .1 (c .before .before .before .before .before .before .before .before .before .loop .frame))))
+    (c .if6 .came)
 
-walk-block-enum-told : (t : ℕ) → walk-block-lts.Need-enum-told (block-end-reads.Asked, block-end-reads.Learnt, statement-end-reads.Asked, statement-end-reads.Learnt, location-reads.Asked, location-reads.Learnt, wide-reads.Asked, wide-reads.Learnt, remove-reads.Asked, remove-reads.Learnt, add-reads.Asked, add-reads.Learnt, no-path-reads.Asked, no-path-reads.Learnt, is-inner-reads.Asked, is-inner-reads.Learnt, walk-if-below t, walk-if.Post, walk-while-below t, walk-while.Post, walk-call-below t, walk-call.Post) (walk-block-at t) walk-block.Post walk-block-Inv-loop walk-block-μ-loop
-walk-block-enum-told t c = search needs
-
-walk-block-enum-told-2 : (t : ℕ) → walk-block-lts.Need-enum-told-2 (block-end-reads.Asked, block-end-reads.Learnt, statement-end-reads.Asked, statement-end-reads.Learnt, location-reads.Asked, location-reads.Learnt, wide-reads.Asked, wide-reads.Learnt, remove-reads.Asked, remove-reads.Learnt, add-reads.Asked, add-reads.Learnt, no-path-reads.Asked, no-path-reads.Learnt, is-inner-reads.Asked, is-inner-reads.Learnt, walk-if-below t, walk-if.Post, walk-while-below t, walk-while.Post, walk-call-below t, walk-call.Post) (walk-block-at t) walk-block.Post walk-block-Inv-loop walk-block-μ-loop
-walk-block-enum-told-2 t c = search needs
-
-walk-block-returns-2 : (t : ℕ) → walk-block-lts.Need-returns-2 (block-end-reads.Asked, block-end-reads.Learnt, statement-end-reads.Asked, statement-end-reads.Learnt, location-reads.Asked, location-reads.Learnt, wide-reads.Asked, wide-reads.Learnt, remove-reads.Asked, remove-reads.Learnt, add-reads.Asked, add-reads.Learnt, no-path-reads.Asked, no-path-reads.Learnt, is-inner-reads.Asked, is-inner-reads.Learnt, walk-if-below t, walk-if.Post, walk-while-below t, walk-while.Post, walk-call-below t, walk-call.Post) (walk-block-at t) walk-block.Post walk-block-Inv-loop walk-block-μ-loop
+walk-block-returns-2 : (t : ℕ) → walk-block-lts.Need-returns-2 (walk-block-calls t) (walk-block-at t) walk-block.Post walk-block-Inv-loop walk-block-μ-loop
 walk-block-returns-2 t c =
-    let T = turn (c .before .before .before .before .before .before .before .before .before .before .before .before .before .before .pre .1) (c .before .before .before .before .before .before .before .before .before .before .before .before .block-end .ensures) (c .before .before .before .before .before .before .before .before .before .before .before .loop .inv .1) (c .before .before .before .before .before .before .before .before .before .before .loop-test .taken) (c .before .before .before .before .before .before .before .before .before .before .before .loop .inv .3) in
-    λ b R W σ o. ap (λ v. faultSaid v (c .before .before .if6 .w .free)) (c .enum-told2 .given .1) ∙ block-refused (c .before .before .before .before .before .before .before .before .before .before .before .loop .inv .3) (c .before .before .before .before .before .before .before .before .before .before .before .before .block-end .ensures) b R W σ o _ (T .inside) λ t R W σ o.
-    kept-refused (c .before .before .before .before .before .before .before .before .before .before .before .loop .frame) (c .before .before .if6 .w) _ (walk-block-joined _ (c .before .before) t R W σ o) (c .enum-told2 .given .1)
+    let T = turn (c .before .before .before .before .before .before .before .before .before .before .before .before .before .pre .1 .0) (c .before .before .before .before .before .before .before .before .before .before .before .block-end .ensures) (c .before .before .before .before .before .before .before .before .before .before .loop .inv .1) (c .before .before .before .before .before .before .before .before .before .loop-test .taken) (c .before .before .before .before .before .before .before .before .before .before .loop .inv .3) in
+    let j = walk-block-joined _ (c .before) in (
+      j .1,
+      λ b R W σ o. fault-said _ _ (c .if8 .taken) ∙ block-refused (c .before .before .before .before .before .before .before .before .before .before .loop .inv .3) (c .before .before .before .before .before .before .before .before .before .before .before .block-end .ensures) b R W σ o _ (T .inside) λ t R W σ o.
+          kept-refused (c .before .before .before .before .before .before .before .before .before .before .loop .frame) (leaves (c .before .if6 .fault) (c .before .if6 .free)) (j .0 t R W σ o) (c .if8 .taken),
+    )
 
-walk-block-loop-less : (t : ℕ) → walk-block-lts.Need-loop-less (block-end-reads.Asked, block-end-reads.Learnt, statement-end-reads.Asked, statement-end-reads.Learnt, location-reads.Asked, location-reads.Learnt, wide-reads.Asked, wide-reads.Learnt, remove-reads.Asked, remove-reads.Learnt, add-reads.Asked, add-reads.Learnt, no-path-reads.Asked, no-path-reads.Learnt, is-inner-reads.Asked, is-inner-reads.Learnt, walk-if-below t, walk-if.Post, walk-while-below t, walk-while.Post, walk-call-below t, walk-call.Post) (walk-block-at t) walk-block.Post walk-block-Inv-loop walk-block-μ-loop
+walk-block-loop-less : (t : ℕ) → walk-block-lts.Need-loop-less (walk-block-calls t) (walk-block-at t) walk-block.Post walk-block-Inv-loop walk-block-μ-loop
 walk-block-loop-less t c =
-    let T = turn (c .before .before .before .before .before .before .before .before .before .before .before .before .before .pre .1) (c .before .before .before .before .before .before .before .before .before .before .before .block-end .ensures) (c .before .before .before .before .before .before .before .before .before .before .loop .inv .1) (c .before .before .before .before .before .before .before .before .before .loop-test .taken) (c .before .before .before .before .before .before .before .before .before .before .loop .inv .3) in
+    let T = turn (c .before .before .before .before .before .before .before .before .before .before .before .before .before .pre .1 .0) (c .before .before .before .before .before .before .before .before .before .before .before .block-end .ensures) (c .before .before .before .before .before .before .before .before .before .before .loop .inv .1) (c .before .before .before .before .before .before .before .before .before .loop-test .taken) (c .before .before .before .before .before .before .before .before .before .before .loop .inv .3) in
     let e = c .before .before .before .before .before .before .before .statement-end .ensures _ _ _ _ _ (T .here .stands) in
     omega (arith, e, T .further, T .fits, T .inside)
 
-walk-block-loop-again : (t : ℕ) → walk-block-lts.Need-loop-again (block-end-reads.Asked, block-end-reads.Learnt, statement-end-reads.Asked, statement-end-reads.Learnt, location-reads.Asked, location-reads.Learnt, wide-reads.Asked, wide-reads.Learnt, remove-reads.Asked, remove-reads.Learnt, add-reads.Asked, add-reads.Learnt, no-path-reads.Asked, no-path-reads.Learnt, is-inner-reads.Asked, is-inner-reads.Learnt, walk-if-below t, walk-if.Post, walk-while-below t, walk-while.Post, walk-call-below t, walk-call.Post) (walk-block-at t) walk-block.Post walk-block-Inv-loop walk-block-μ-loop
+walk-block-loop-again : (t : ℕ) → walk-block-lts.Need-loop-again (walk-block-calls t) (walk-block-at t) walk-block.Post walk-block-Inv-loop walk-block-μ-loop
 walk-block-loop-again t c =
-    let T = turn (c .before .before .before .before .before .before .before .before .before .before .before .before .before .pre .1) (c .before .before .before .before .before .before .before .before .before .before .before .block-end .ensures) (c .before .before .before .before .before .before .before .before .before .before .loop .inv .1) (c .before .before .before .before .before .before .before .before .before .loop-test .taken) (c .before .before .before .before .before .before .before .before .before .before .loop .inv .3) in
+    let T = turn (c .before .before .before .before .before .before .before .before .before .before .before .before .before .pre .1 .0) (c .before .before .before .before .before .before .before .before .before .before .before .block-end .ensures) (c .before .before .before .before .before .before .before .before .before .before .loop .inv .1) (c .before .before .before .before .before .before .before .before .before .loop-test .taken) (c .before .before .before .before .before .before .before .before .before .before .loop .inv .3) in
     let e = c .before .before .before .before .before .before .before .statement-end .ensures _ _ _ _ _ (T .here .stands) in (
       omega (arith, e, T .further, c .before .before .before .before .before .before .before .before .before .before .loop .inv .0),
       omega (arith, e, T .fits),
       length-set (c .before .before .before .before .before .before .before .before .before .before .loop .frame) (c .before .before .wide .result) (c .before .before .before .before .location .result) ∙ c .before .before .before .before .before .before .before .before .before .before .loop .inv .2,
       rest-on _ _ _ _ _ _ _ _ _ _ (c .before .before .before .before .before .before .before .before .before .before .loop .inv .3) _ _ _ (T .inside) (λ t. c .before .before .before .before .before .before .before .statement-end .ensures _ _ _ _ _ (t .stands)) λ t R W σ o.
-          on-init (c .before .before .before .before .before .before .before .before .before .before .loop .frame) (c .before .before .before .before .before .before .before .before .before .before .loop .free) t R W σ o (c .before .before .before .before .before .before .if1 .taken) _ _ _ _ (c .before .before .wide .ensures .0) (c .before .before .before .before .before .before .before .before .before .before .loop .inv .2) (c .before .before .before .before .location .ensures) (c .before .wide2 .ensures .0) (c .remove .ensures),
+          on-init (c .before .before .before .before .before .before .before .before .before .before .loop .frame) (setOf (c .before .before .before .before .before .before .before .before .before .before .loop .free)) t R W σ o (c .before .before .before .before .before .before .if1 .taken) _ _ _ _ (c .before .before .wide .ensures .0) (c .before .before .before .before .before .before .before .before .before .before .loop .inv .2) (c .before .before .before .before .location .ensures) refl (c .remove .ensures .1),
+      c .remove .ensures .0,
     )
 
-walk-block-loop-less-2 : (t : ℕ) → walk-block-lts.Need-loop-less-2 (block-end-reads.Asked, block-end-reads.Learnt, statement-end-reads.Asked, statement-end-reads.Learnt, location-reads.Asked, location-reads.Learnt, wide-reads.Asked, wide-reads.Learnt, remove-reads.Asked, remove-reads.Learnt, add-reads.Asked, add-reads.Learnt, no-path-reads.Asked, no-path-reads.Learnt, is-inner-reads.Asked, is-inner-reads.Learnt, walk-if-below t, walk-if.Post, walk-while-below t, walk-while.Post, walk-call-below t, walk-call.Post) (walk-block-at t) walk-block.Post walk-block-Inv-loop walk-block-μ-loop
+walk-block-loop-less-2 : (t : ℕ) → walk-block-lts.Need-loop-less-2 (walk-block-calls t) (walk-block-at t) walk-block.Post walk-block-Inv-loop walk-block-μ-loop
 walk-block-loop-less-2 t c =
-    let T = turn (c .before .before .before .before .before .before .before .before .before .before .before .before .before .pre .1) (c .before .before .before .before .before .before .before .before .before .before .before .block-end .ensures) (c .before .before .before .before .before .before .before .before .before .before .loop .inv .1) (c .before .before .before .before .before .before .before .before .before .loop-test .taken) (c .before .before .before .before .before .before .before .before .before .before .loop .inv .3) in
+    let T = turn (c .before .before .before .before .before .before .before .before .before .before .before .before .before .pre .1 .0) (c .before .before .before .before .before .before .before .before .before .before .before .block-end .ensures) (c .before .before .before .before .before .before .before .before .before .before .loop .inv .1) (c .before .before .before .before .before .before .before .before .before .loop-test .taken) (c .before .before .before .before .before .before .before .before .before .before .loop .inv .3) in
     let e = c .before .before .before .before .before .before .before .statement-end .ensures _ _ _ _ _ (T .here .stands) in
     omega (arith, e, T .further, T .fits, T .inside)
 
-walk-block-loop-again-2 : (t : ℕ) → walk-block-lts.Need-loop-again-2 (block-end-reads.Asked, block-end-reads.Learnt, statement-end-reads.Asked, statement-end-reads.Learnt, location-reads.Asked, location-reads.Learnt, wide-reads.Asked, wide-reads.Learnt, remove-reads.Asked, remove-reads.Learnt, add-reads.Asked, add-reads.Learnt, no-path-reads.Asked, no-path-reads.Learnt, is-inner-reads.Asked, is-inner-reads.Learnt, walk-if-below t, walk-if.Post, walk-while-below t, walk-while.Post, walk-call-below t, walk-call.Post) (walk-block-at t) walk-block.Post walk-block-Inv-loop walk-block-μ-loop
+walk-block-loop-again-2 : (t : ℕ) → walk-block-lts.Need-loop-again-2 (walk-block-calls t) (walk-block-at t) walk-block.Post walk-block-Inv-loop walk-block-μ-loop
 walk-block-loop-again-2 t c =
-    let T = turn (c .before .before .before .before .before .before .before .before .before .before .before .before .before .pre .1) (c .before .before .before .before .before .before .before .before .before .before .before .block-end .ensures) (c .before .before .before .before .before .before .before .before .before .before .loop .inv .1) (c .before .before .before .before .before .before .before .before .before .loop-test .taken) (c .before .before .before .before .before .before .before .before .before .before .loop .inv .3) in
+    let T = turn (c .before .before .before .before .before .before .before .before .before .before .before .before .before .pre .1 .0) (c .before .before .before .before .before .before .before .before .before .before .before .block-end .ensures) (c .before .before .before .before .before .before .before .before .before .before .loop .inv .1) (c .before .before .before .before .before .before .before .before .before .loop-test .taken) (c .before .before .before .before .before .before .before .before .before .before .loop .inv .3) in
     let e = c .before .before .before .before .before .before .before .statement-end .ensures _ _ _ _ _ (T .here .stands) in (
       omega (arith, e, T .further, c .before .before .before .before .before .before .before .before .before .before .loop .inv .0),
       omega (arith, e, T .fits),
       c .before .before .before .before .before .before .before .before .before .before .loop .inv .2,
       rest-on _ _ _ _ _ _ _ _ _ _ (c .before .before .before .before .before .before .before .before .before .before .loop .inv .3) _ _ _ (T .inside) (λ t. c .before .before .before .before .before .before .before .statement-end .ensures _ _ _ _ _ (t .stands)) λ t R W σ o.
-          on-free (c .before .before .before .before .before .before .before .before .before .before .loop .frame) (c .before .before .before .before .before .before .before .before .before .before .loop .free) t R W σ o (c .before .before .before .before .before .if2 .taken) _ _ _ (c .before .before .before .wide3 .ensures .0) (c .before .wide4 .ensures .0) (c .add .ensures),
+          on-free (c .before .before .before .before .before .before .before .before .before .before .loop .frame) (setOf (c .before .before .before .before .before .before .before .before .before .before .loop .free)) t R W σ o (c .before .before .before .before .before .if2 .taken) _ _ _ (c .before .before .before .wide2 .ensures .0) refl (c .add .ensures .1),
+      c .add .ensures .0,
     )
 
-walk-block-loop-less-3 : (t : ℕ) → walk-block-lts.Need-loop-less-3 (block-end-reads.Asked, block-end-reads.Learnt, statement-end-reads.Asked, statement-end-reads.Learnt, location-reads.Asked, location-reads.Learnt, wide-reads.Asked, wide-reads.Learnt, remove-reads.Asked, remove-reads.Learnt, add-reads.Asked, add-reads.Learnt, no-path-reads.Asked, no-path-reads.Learnt, is-inner-reads.Asked, is-inner-reads.Learnt, walk-if-below t, walk-if.Post, walk-while-below t, walk-while.Post, walk-call-below t, walk-call.Post) (walk-block-at t) walk-block.Post walk-block-Inv-loop walk-block-μ-loop
+walk-block-loop-less-3 : (t : ℕ) → walk-block-lts.Need-loop-less-3 (walk-block-calls t) (walk-block-at t) walk-block.Post walk-block-Inv-loop walk-block-μ-loop
 walk-block-loop-less-3 t c =
-    let T = turn (c .before .before .before .before .before .before .before .before .before .before .before .pre .1) (c .before .before .before .before .before .before .before .before .before .block-end .ensures) (c .before .before .before .before .before .before .before .before .loop .inv .1) (c .before .before .before .before .before .before .before .loop-test .taken) (c .before .before .before .before .before .before .before .before .loop .inv .3) in
-    let e = c .before .before .before .before .before .statement-end .ensures _ _ _ _ _ (T .here .stands) in
+    let T = turn (c .before .before .before .before .before .before .before .before .before .before .before .before .before .before .before .before .before .before .pre .1 .0) (c .before .before .before .before .before .before .before .before .before .before .before .before .before .before .before .before .block-end .ensures) (c .before .before .before .before .before .before .before .before .before .before .before .before .before .before .before .loop .inv .1) (c .before .before .before .before .before .before .before .before .before .before .before .before .before .before .loop-test .taken) (c .before .before .before .before .before .before .before .before .before .before .before .before .before .before .before .loop .inv .3) in
+    let e = c .before .before .before .before .before .before .before .before .before .before .before .before .statement-end .ensures _ _ _ _ _ (T .here .stands) in
     omega (arith, e, T .further, T .fits, T .inside)
 
-walk-block-loop-again-3 : (t : ℕ) → walk-block-lts.Need-loop-again-3 (block-end-reads.Asked, block-end-reads.Learnt, statement-end-reads.Asked, statement-end-reads.Learnt, location-reads.Asked, location-reads.Learnt, wide-reads.Asked, wide-reads.Learnt, remove-reads.Asked, remove-reads.Learnt, add-reads.Asked, add-reads.Learnt, no-path-reads.Asked, no-path-reads.Learnt, is-inner-reads.Asked, is-inner-reads.Learnt, walk-if-below t, walk-if.Post, walk-while-below t, walk-while.Post, walk-call-below t, walk-call.Post) (walk-block-at t) walk-block.Post walk-block-Inv-loop walk-block-μ-loop
+walk-block-loop-again-3 : (t : ℕ) → walk-block-lts.Need-loop-again-3 (walk-block-calls t) (walk-block-at t) walk-block.Post walk-block-Inv-loop walk-block-μ-loop
 walk-block-loop-again-3 t c =
-    let T = turn (c .before .before .before .before .before .before .before .before .before .before .before .pre .1) (c .before .before .before .before .before .before .before .before .before .block-end .ensures) (c .before .before .before .before .before .before .before .before .loop .inv .1) (c .before .before .before .before .before .before .before .loop-test .taken) (c .before .before .before .before .before .before .before .before .loop .inv .3) in
-    let e = c .before .before .before .before .before .statement-end .ensures _ _ _ _ _ (T .here .stands) in (
-      omega (arith, e, T .further, c .before .before .before .before .before .before .before .before .loop .inv .0),
+    let T = turn (c .before .before .before .before .before .before .before .before .before .before .before .before .before .before .before .before .before .before .pre .1 .0) (c .before .before .before .before .before .before .before .before .before .before .before .before .before .before .before .before .block-end .ensures) (c .before .before .before .before .before .before .before .before .before .before .before .before .before .before .before .loop .inv .1) (c .before .before .before .before .before .before .before .before .before .before .before .before .before .before .loop-test .taken) (c .before .before .before .before .before .before .before .before .before .before .before .before .before .before .before .loop .inv .3) in
+    let e = c .before .before .before .before .before .before .before .before .before .before .before .before .statement-end .ensures _ _ _ _ _ (T .here .stands) in (
+      omega (arith, e, T .further, c .before .before .before .before .before .before .before .before .before .before .before .before .before .before .before .loop .inv .0),
       omega (arith, e, T .fits),
-      c .before .before .before .before .before .before .before .before .loop .inv .2,
-      rest-on _ _ _ _ _ _ _ _ _ _ (c .before .before .before .before .before .before .before .before .loop .inv .3) _ _ _ (T .inside) (λ t. c .before .before .before .before .before .statement-end .ensures _ _ _ _ _ (t .stands)) λ t R W σ o.
-          on-merge (c .before .before .before .before .before .before .before .before .loop .frame) (c .before .before .before .before .before .before .before .before .loop .free) t R W σ o (c .before .before .if3 .taken) false (sym (c .before .no-path .ensures R (o .region)) ∙ c .if4 .left),
+      c .before .before .before .before .before .before .before .before .before .before .before .before .before .before .before .loop .inv .2,
+      rest-on _ _ _ _ _ _ _ _ _ _ (c .before .before .before .before .before .before .before .before .before .before .before .before .before .before .before .loop .inv .3) _ _ _ (T .inside) (λ t. c .before .before .before .before .before .before .before .before .before .before .before .before .statement-end .ensures _ _ _ _ _ (t .stands)) λ t R W σ o.
+          on-merge (c .before .before .before .before .before .before .before .before .before .before .before .before .before .before .before .loop .frame) (setOf (c .before .before .before .before .before .before .before .before .before .before .before .before .before .before .before .loop .free)) t R W σ o (c .before .before .before .before .before .before .before .before .before .if3 .taken) false
+          (no-path-of R _ (c .before .before .before .before .before .before .before .before .before .before .before .before .before .before .before .loop .frame) _ _ _ _ _ (c .before .before .before .before .before .before .before .wide3 .ensures .0) (c .before .before .before .before .wide4 .ensures .0) (sym (c .before .no-path .ensures R (o .region)) ∙ c .if4 .left)),
+      c .before .before .before .before .before .before .before .before .before .before .before .before .before .before .before .loop .inv .4,
     )
 
-walk-block-loop-less-4 : (t : ℕ) → walk-block-lts.Need-loop-less-4 (block-end-reads.Asked, block-end-reads.Learnt, statement-end-reads.Asked, statement-end-reads.Learnt, location-reads.Asked, location-reads.Learnt, wide-reads.Asked, wide-reads.Learnt, remove-reads.Asked, remove-reads.Learnt, add-reads.Asked, add-reads.Learnt, no-path-reads.Asked, no-path-reads.Learnt, is-inner-reads.Asked, is-inner-reads.Learnt, walk-if-below t, walk-if.Post, walk-while-below t, walk-while.Post, walk-call-below t, walk-call.Post) (walk-block-at t) walk-block.Post walk-block-Inv-loop walk-block-μ-loop
+walk-block-loop-less-4 : (t : ℕ) → walk-block-lts.Need-loop-less-4 (walk-block-calls t) (walk-block-at t) walk-block.Post walk-block-Inv-loop walk-block-μ-loop
 walk-block-loop-less-4 t c =
-    let T = turn (c .before .before .before .before .before .before .before .before .before .before .before .before .before .before .before .pre .1) (c .before .before .before .before .before .before .before .before .before .before .before .before .before .block-end .ensures) (c .before .before .before .before .before .before .before .before .before .before .before .before .loop .inv .1) (c .before .before .before .before .before .before .before .before .before .before .before .loop-test .taken) (c .before .before .before .before .before .before .before .before .before .before .before .before .loop .inv .3) in
-    let e = c .before .before .before .before .before .before .before .before .before .statement-end .ensures _ _ _ _ _ (T .here .stands) in
+    let T = turn (c .before .before .before .before .before .before .before .before .before .before .before .before .before .pre .1 .0) (c .before .before .before .before .before .before .before .before .before .before .before .block-end .ensures) (c .before .before .before .before .before .before .before .before .before .before .loop .inv .1) (c .before .before .before .before .before .before .before .before .before .loop-test .taken) (c .before .before .before .before .before .before .before .before .before .before .loop .inv .3) in
+    let e = c .before .before .before .before .before .before .before .statement-end .ensures _ _ _ _ _ (T .here .stands) in
     omega (arith, e, T .further, T .fits, T .inside)
 
-walk-block-loop-again-4 : (t : ℕ) → walk-block-lts.Need-loop-again-4 (block-end-reads.Asked, block-end-reads.Learnt, statement-end-reads.Asked, statement-end-reads.Learnt, location-reads.Asked, location-reads.Learnt, wide-reads.Asked, wide-reads.Learnt, remove-reads.Asked, remove-reads.Learnt, add-reads.Asked, add-reads.Learnt, no-path-reads.Asked, no-path-reads.Learnt, is-inner-reads.Asked, is-inner-reads.Learnt, walk-if-below t, walk-if.Post, walk-while-below t, walk-while.Post, walk-call-below t, walk-call.Post) (walk-block-at t) walk-block.Post walk-block-Inv-loop walk-block-μ-loop
+walk-block-loop-again-4 : (t : ℕ) → walk-block-lts.Need-loop-again-4 (walk-block-calls t) (walk-block-at t) walk-block.Post walk-block-Inv-loop walk-block-μ-loop
 walk-block-loop-again-4 t c =
-    let T = turn (c .before .before .before .before .before .before .before .before .before .before .before .before .before .before .before .pre .1) (c .before .before .before .before .before .before .before .before .before .before .before .before .before .block-end .ensures) (c .before .before .before .before .before .before .before .before .before .before .before .before .loop .inv .1) (c .before .before .before .before .before .before .before .before .before .before .before .loop-test .taken) (c .before .before .before .before .before .before .before .before .before .before .before .before .loop .inv .3) in
-    let e = c .before .before .before .before .before .before .before .before .before .statement-end .ensures _ _ _ _ _ (T .here .stands) in (
-      omega (arith, e, T .further, c .before .before .before .before .before .before .before .before .before .before .before .before .loop .inv .0),
+    let T = turn (c .before .before .before .before .before .before .before .before .before .before .before .before .before .pre .1 .0) (c .before .before .before .before .before .before .before .before .before .before .before .block-end .ensures) (c .before .before .before .before .before .before .before .before .before .before .loop .inv .1) (c .before .before .before .before .before .before .before .before .before .loop-test .taken) (c .before .before .before .before .before .before .before .before .before .before .loop .inv .3) in
+    let j = walk-block-joined _ (c .before) in
+    let e = c .before .before .before .before .before .before .before .statement-end .ensures _ _ _ _ _ (T .here .stands) in (
+      omega (arith, e, T .further, c .before .before .before .before .before .before .before .before .before .before .loop .inv .0),
       omega (arith, e, T .fits),
-      c .before .before .before .before .before .before .before .before .before .before .before .before .loop .inv .2,
-      rest-on _ _ _ _ _ _ _ _ _ _ (c .before .before .before .before .before .before .before .before .before .before .before .before .loop .inv .3) _ _ _ (T .inside) (λ t. c .before .before .before .before .before .before .before .before .before .statement-end .ensures _ _ _ _ _ (t .stands)) λ t R W σ o.
-          kept-on (c .before .before .before .before .before .before .before .before .before .before .before .before .loop .frame) (c .before .before .before .if6 .w) (walk-block-joined _ (c .before .before .before) t R W σ o) (c .before .enum-told .given .1),
+      c .before .before .before .before .before .before .before .before .before .before .loop .inv .2,
+      rest-on _ _ _ _ _ _ _ _ _ _ (c .before .before .before .before .before .before .before .before .before .before .loop .inv .3) _ _ _ (T .inside) (λ t. c .before .before .before .before .before .before .before .statement-end .ensures _ _ _ _ _ (t .stands)) λ t R W σ o.
+          kept-on (c .before .before .before .before .before .before .before .before .before .before .loop .frame) (leaves (c .before .if6 .fault) (c .before .if6 .free)) (j .0 t R W σ o) (c .if8 .left),
+      j .1,
     )
 
-walk-block-loop-less-5 : (t : ℕ) → walk-block-lts.Need-loop-less-5 (block-end-reads.Asked, block-end-reads.Learnt, statement-end-reads.Asked, statement-end-reads.Learnt, location-reads.Asked, location-reads.Learnt, wide-reads.Asked, wide-reads.Learnt, remove-reads.Asked, remove-reads.Learnt, add-reads.Asked, add-reads.Learnt, no-path-reads.Asked, no-path-reads.Learnt, is-inner-reads.Asked, is-inner-reads.Learnt, walk-if-below t, walk-if.Post, walk-while-below t, walk-while.Post, walk-call-below t, walk-call.Post) (walk-block-at t) walk-block.Post walk-block-Inv-loop walk-block-μ-loop
+walk-block-loop-less-5 : (t : ℕ) → walk-block-lts.Need-loop-less-5 (walk-block-calls t) (walk-block-at t) walk-block.Post walk-block-Inv-loop walk-block-μ-loop
 walk-block-loop-less-5 t c =
-    let T = turn (c .before .before .before .before .before .before .before .before .before .before .before .pre .1) (c .before .before .before .before .before .before .before .before .before .block-end .ensures) (c .before .before .before .before .before .before .before .before .loop .inv .1) (c .before .before .before .before .before .before .before .loop-test .taken) (c .before .before .before .before .before .before .before .before .loop .inv .3) in
+    let T = turn (c .before .before .before .before .before .before .before .before .before .before .before .pre .1 .0) (c .before .before .before .before .before .before .before .before .before .block-end .ensures) (c .before .before .before .before .before .before .before .before .loop .inv .1) (c .before .before .before .before .before .before .before .loop-test .taken) (c .before .before .before .before .before .before .before .before .loop .inv .3) in
     let e = c .before .before .before .before .before .statement-end .ensures _ _ _ _ _ (T .here .stands) in
     omega (arith, e, T .further, T .fits, T .inside)
 
-walk-block-loop-again-5 : (t : ℕ) → walk-block-lts.Need-loop-again-5 (block-end-reads.Asked, block-end-reads.Learnt, statement-end-reads.Asked, statement-end-reads.Learnt, location-reads.Asked, location-reads.Learnt, wide-reads.Asked, wide-reads.Learnt, remove-reads.Asked, remove-reads.Learnt, add-reads.Asked, add-reads.Learnt, no-path-reads.Asked, no-path-reads.Learnt, is-inner-reads.Asked, is-inner-reads.Learnt, walk-if-below t, walk-if.Post, walk-while-below t, walk-while.Post, walk-call-below t, walk-call.Post) (walk-block-at t) walk-block.Post walk-block-Inv-loop walk-block-μ-loop
+walk-block-loop-again-5 : (t : ℕ) → walk-block-lts.Need-loop-again-5 (walk-block-calls t) (walk-block-at t) walk-block.Post walk-block-Inv-loop walk-block-μ-loop
 walk-block-loop-again-5 t c =
-    let T = turn (c .before .before .before .before .before .before .before .before .before .before .before .pre .1) (c .before .before .before .before .before .before .before .before .before .block-end .ensures) (c .before .before .before .before .before .before .before .before .loop .inv .1) (c .before .before .before .before .before .before .before .loop-test .taken) (c .before .before .before .before .before .before .before .before .loop .inv .3) in
+    let T = turn (c .before .before .before .before .before .before .before .before .before .before .before .pre .1 .0) (c .before .before .before .before .before .before .before .before .before .block-end .ensures) (c .before .before .before .before .before .before .before .before .loop .inv .1) (c .before .before .before .before .before .before .before .loop-test .taken) (c .before .before .before .before .before .before .before .before .loop .inv .3) in
     let e = c .before .before .before .before .before .statement-end .ensures _ _ _ _ _ (T .here .stands) in (
       omega (arith, e, T .further, c .before .before .before .before .before .before .before .before .loop .inv .0),
       omega (arith, e, T .fits),
       c .before .before .before .before .before .before .before .before .loop .inv .2,
       rest-on _ _ _ _ _ _ _ _ _ _ (c .before .before .before .before .before .before .before .before .loop .inv .3) _ _ _ (T .inside) (λ t. c .before .before .before .before .before .statement-end .ensures _ _ _ _ _ (t .stands)) λ t R W σ o.
-          on-quiet (c .before .before .before .before .before .before .before .before .loop .frame) (c .before .before .before .before .before .before .before .before .loop .free) t R W σ o (c .before .before .before .before .if1 .left) (c .before .before .before .if2 .left) (c .before .before .if3 .left) (c .before .is-inner .ensures .1 (c .if5 .left)),
+          on-quiet (c .before .before .before .before .before .before .before .before .loop .frame) (setOf (c .before .before .before .before .before .before .before .before .loop .free)) t R W σ o (c .before .before .before .before .if1 .left) (c .before .before .before .if2 .left) (c .before .before .if3 .left) (c .before .is-inner .ensures .1 (c .if5 .left)),
+      c .before .before .before .before .before .before .before .before .loop .inv .4,
     )
 
-walk-block-returns-3 : (t : ℕ) → walk-block-lts.Need-returns-3 (block-end-reads.Asked, block-end-reads.Learnt, statement-end-reads.Asked, statement-end-reads.Learnt, location-reads.Asked, location-reads.Learnt, wide-reads.Asked, wide-reads.Learnt, remove-reads.Asked, remove-reads.Learnt, add-reads.Asked, add-reads.Learnt, no-path-reads.Asked, no-path-reads.Learnt, is-inner-reads.Asked, is-inner-reads.Learnt, walk-if-below t, walk-if.Post, walk-while-below t, walk-while.Post, walk-call-below t, walk-call.Post) (walk-block-at t) walk-block.Post walk-block-Inv-loop walk-block-μ-loop
-walk-block-returns-3 t c = λ b R W σ o. block-ended (c .before .loop .inv .3) (c .before .before .block-end .ensures) b R W σ o (c .loop-test .left)
+walk-block-returns-3 : (t : ℕ) → walk-block-lts.Need-returns-3 (walk-block-calls t) (walk-block-at t) walk-block.Post walk-block-Inv-loop walk-block-μ-loop
+walk-block-returns-3 t c = (c .before .loop .inv .4, λ b R W σ o. block-ended (c .before .loop .inv .3) (c .before .before .block-end .ensures) b R W σ o (c .loop-test .left))
 
-walk-call-add-wide : (t : ℕ) → walk-call-lts.Need-add-wide (wide-reads.Asked, wide-reads.Learnt, of-call-reads.Asked, of-call-reads.Learnt, frame-reads.Asked, frame-reads.Learnt, walk-block-below t, walk-block.Post) (walk-call-at t) walk-call.Post
-walk-call-add-wide t c = let k = statement-bounds (c .before .pre .1 .0) in omega arith
+walk-call-add-wide : (t : ℕ) → walk-call-lts.Need-add-wide (walk-call-calls t) (walk-call-at t) walk-call.Post
+walk-call-add-wide t c = let k = statement-bounds (c .before .pre .1 .0 .0) in omega arith
 
-walk-call-shared-slice-read-wide : (t : ℕ) → walk-call-lts.Need-shared-slice-read-wide (wide-reads.Asked, wide-reads.Learnt, of-call-reads.Asked, of-call-reads.Learnt, frame-reads.Asked, frame-reads.Learnt, walk-block-below t, walk-block.Post) (walk-call-at t) walk-call.Post
-walk-call-shared-slice-read-wide t c = let v = view-call (statement-view (c .before .before .pre .1 .0 .stands)) (c .before .before .pre .1 .1) in omega (arith, v .fits)
+walk-call-shared-slice-read-wide : (t : ℕ) → walk-call-lts.Need-shared-slice-read-wide (walk-call-calls t) (walk-call-at t) walk-call.Post
+walk-call-shared-slice-read-wide t c = let v = view-call (statement-view (c .before .before .pre .1 .0 .0 .stands)) (c .before .before .pre .1 .0 .1) in omega (arith, v .fits)
 
-walk-call-wide-requires : (t : ℕ) → walk-call-lts.Need-wide-requires (wide-reads.Asked, wide-reads.Learnt, of-call-reads.Asked, of-call-reads.Learnt, frame-reads.Asked, frame-reads.Learnt, walk-block-below t, walk-block.Post) (walk-call-at t) walk-call.Post
+walk-call-wide-requires : (t : ℕ) → walk-call-lts.Need-wide-requires (walk-call-calls t) (walk-call-at t) walk-call.Post
 walk-call-wide-requires t c κs = tt
 
-walk-call-mul-if1 : (t : ℕ) → walk-call-lts.Need-mul-if1 (wide-reads.Asked, wide-reads.Learnt, of-call-reads.Asked, of-call-reads.Learnt, frame-reads.Asked, frame-reads.Learnt, walk-block-below t, walk-block.Post) (walk-call-at t) walk-call.Post
-walk-call-mul-if1 t c = let k = callee-known (c .before .before .before .pre .1 .1) _ (c .wide .ensures .0) (c .before .before .before .pre .1 .0) in omega (arith, k .2)
+walk-call-mul-if1 : (t : ℕ) → walk-call-lts.Need-mul-if1 (walk-call-calls t) (walk-call-at t) walk-call.Post
+walk-call-mul-if1 t c = let k = callee-known (c .before .before .before .pre .1 .0 .1) _ (c .wide .ensures .0) (c .before .before .before .pre .1 .0 .0) in omega (arith, k .2)
 
-walk-call-element-copy-out-if1 : (t : ℕ) → walk-call-lts.Need-element-copy-out-if1 (wide-reads.Asked, wide-reads.Learnt, of-call-reads.Asked, of-call-reads.Learnt, frame-reads.Asked, frame-reads.Learnt, walk-block-below t, walk-block.Post) (walk-call-at t) walk-call.Post
-walk-call-element-copy-out-if1 t c = callee-known (c .before .before .before .pre .1 .1) _ (c .wide .ensures .0) (c .before .before .before .pre .1 .0) .2
+walk-call-element-copy-out-if1 : (t : ℕ) → walk-call-lts.Need-element-copy-out-if1 (walk-call-calls t) (walk-call-at t) walk-call.Post
+walk-call-element-copy-out-if1 t c = callee-known (c .before .before .before .pre .1 .0 .1) _ (c .wide .ensures .0) (c .before .before .before .pre .1 .0 .0) .2
 
-walk-call-returns : (t : ℕ) → walk-call-lts.Need-returns (wide-reads.Asked, wide-reads.Learnt, of-call-reads.Asked, of-call-reads.Learnt, frame-reads.Asked, frame-reads.Learnt, walk-block-below t, walk-block.Post) (walk-call-at t) walk-call.Post
-walk-call-returns t c = call-skipped (c .before .before .before .before .before .args .frame) (c .before .before .before .before .before .args .free) (c .before .before .before .before .before .pre .1 .1) _ (c .before .before .wide .ensures .0) (c .if1 .taken)
+walk-call-returns : (t : ℕ) → walk-call-lts.Need-returns (walk-call-calls t) (walk-call-at t) walk-call.Post
+walk-call-returns t c = (c .before .before .before .before .before .pre .1 .1, λ fr. call-skipped fr (setOf (c .before .before .before .before .before .args .free .now)) (c .before .before .before .before .before .pre .1 .0 .1) _ (c .before .before .wide .ensures .0) (c .if1 .taken))
 
-walk-call-add-of-call : (t : ℕ) → walk-call-lts.Need-add-of-call (wide-reads.Asked, wide-reads.Learnt, of-call-reads.Asked, of-call-reads.Learnt, frame-reads.Asked, frame-reads.Learnt, walk-block-below t, walk-block.Post) (walk-call-at t) walk-call.Post
-walk-call-add-of-call t c = let k = statement-bounds (c .before .before .before .before .before .pre .1 .0) in omega arith
+walk-call-add-of-call : (t : ℕ) → walk-call-lts.Need-add-of-call (walk-call-calls t) (walk-call-at t) walk-call.Post
+walk-call-add-of-call t c = let k = statement-bounds (c .before .before .before .before .before .pre .1 .0 .0) in omega arith
 
-walk-call-add-wide-2 : (t : ℕ) → walk-call-lts.Need-add-wide-2 (wide-reads.Asked, wide-reads.Learnt, of-call-reads.Asked, of-call-reads.Learnt, frame-reads.Asked, frame-reads.Learnt, walk-block-below t, walk-block.Post) (walk-call-at t) walk-call.Post
-walk-call-add-wide-2 t c = let k = statement-bounds (c .before .before .before .before .before .pre .1 .0) in omega arith
+walk-call-add-wide-2 : (t : ℕ) → walk-call-lts.Need-add-wide-2 (walk-call-calls t) (walk-call-at t) walk-call.Post
+walk-call-add-wide-2 t c = let k = statement-bounds (c .before .before .before .before .before .pre .1 .0 .0) in omega arith
 
-walk-call-shared-slice-read-wide-2 : (t : ℕ) → walk-call-lts.Need-shared-slice-read-wide-2 (wide-reads.Asked, wide-reads.Learnt, of-call-reads.Asked, of-call-reads.Learnt, frame-reads.Asked, frame-reads.Learnt, walk-block-below t, walk-block.Post) (walk-call-at t) walk-call.Post
-walk-call-shared-slice-read-wide-2 t c = let v = view-call (statement-view (c .before .before .before .before .before .before .pre .1 .0 .stands)) (c .before .before .before .before .before .before .pre .1 .1) in omega (arith, v .fits)
+walk-call-shared-slice-read-wide-2 : (t : ℕ) → walk-call-lts.Need-shared-slice-read-wide-2 (walk-call-calls t) (walk-call-at t) walk-call.Post
+walk-call-shared-slice-read-wide-2 t c = let v = view-call (statement-view (c .before .before .before .before .before .before .pre .1 .0 .0 .stands)) (c .before .before .before .before .before .before .pre .1 .0 .1) in omega (arith, v .fits)
 
-walk-call-wide-requires-2 : (t : ℕ) → walk-call-lts.Need-wide-requires-2 (wide-reads.Asked, wide-reads.Learnt, of-call-reads.Asked, of-call-reads.Learnt, frame-reads.Asked, frame-reads.Learnt, walk-block-below t, walk-block.Post) (walk-call-at t) walk-call.Post
+walk-call-wide-requires-2 : (t : ℕ) → walk-call-lts.Need-wide-requires-2 (walk-call-calls t) (walk-call-at t) walk-call.Post
 walk-call-wide-requires-2 t c κs = tt
 
-walk-call-of-call-requires : (t : ℕ) → walk-call-lts.Need-of-call-requires (wide-reads.Asked, wide-reads.Learnt, of-call-reads.Asked, of-call-reads.Learnt, frame-reads.Asked, frame-reads.Learnt, walk-block-below t, walk-block.Post) (walk-call-at t) walk-call.Post
+walk-call-of-call-requires : (t : ℕ) → walk-call-lts.Need-of-call-requires (walk-call-calls t) (walk-call-at t) walk-call.Post
 walk-call-of-call-requires t c κs =
-    let v = view-call (statement-view (c .before .before .before .before .before .before .before .pre .1 .0 .stands)) (c .before .before .before .before .before .before .before .pre .1 .1) in
-    let k = callee-known (c .before .before .before .before .before .before .before .pre .1 .1) _ (c .before .before .before .before .wide .ensures .0) (c .before .before .before .before .before .before .before .pre .1 .0) in
+    let v = view-call (statement-view (c .before .before .before .before .before .before .before .pre .1 .0 .0 .stands)) (c .before .before .before .before .before .before .before .pre .1 .0 .1) in
+    let k = callee-known (c .before .before .before .before .before .before .before .pre .1 .0 .1) _ (c .before .before .before .before .wide .ensures .0) (c .before .before .before .before .before .before .before .pre .1 .0 .0) in
     let e = c .wide2 .ensures .0 in
-    (omega (arith, k .4, e), omega (arith, v .fits, e), λ i l h. place-room (c .before .before .before .before .before .before .before .pre .1 .0) (v .places i (omega (arith, l, e))) h)
+    (omega (arith, k .4, e), omega (arith, v .fits, e), λ i l h. place-room (c .before .before .before .before .before .before .before .pre .1 .0 .0) (v .places i (omega (arith, l, e))) h)
 
-walk-call-mul-walk-block : (t : ℕ) → walk-call-lts.Need-mul-walk-block (wide-reads.Asked, wide-reads.Learnt, of-call-reads.Asked, of-call-reads.Learnt, frame-reads.Asked, frame-reads.Learnt, walk-block-below t, walk-block.Post) (walk-call-at t) walk-call.Post
-walk-call-mul-walk-block t c = let k = callee-known (c .before .before .before .before .before .before .before .before .pre .1 .1) _ (c .before .before .before .before .before .wide .ensures .0) (c .before .before .before .before .before .before .before .before .pre .1 .0) in omega (arith, k .2)
+walk-call-mul-walk-block : (t : ℕ) → walk-call-lts.Need-mul-walk-block (walk-call-calls t) (walk-call-at t) walk-call.Post
+walk-call-mul-walk-block t c = let k = callee-known (c .before .before .before .before .before .before .before .before .pre .1 .0 .1) _ (c .before .before .before .before .before .wide .ensures .0) (c .before .before .before .before .before .before .before .before .pre .1 .0 .0) in omega (arith, k .2)
 
-walk-call-element-copy-out-walk-block : (t : ℕ) → walk-call-lts.Need-element-copy-out-walk-block (wide-reads.Asked, wide-reads.Learnt, of-call-reads.Asked, of-call-reads.Learnt, frame-reads.Asked, frame-reads.Learnt, walk-block-below t, walk-block.Post) (walk-call-at t) walk-call.Post
-walk-call-element-copy-out-walk-block t c = callee-known (c .before .before .before .before .before .before .before .before .pre .1 .1) _ (c .before .before .before .before .before .wide .ensures .0) (c .before .before .before .before .before .before .before .before .pre .1 .0) .2
+walk-call-element-copy-out-walk-block : (t : ℕ) → walk-call-lts.Need-element-copy-out-walk-block (walk-call-calls t) (walk-call-at t) walk-call.Post
+walk-call-element-copy-out-walk-block t c = callee-known (c .before .before .before .before .before .before .before .before .pre .1 .0 .1) _ (c .before .before .before .before .before .wide .ensures .0) (c .before .before .before .before .before .before .before .before .pre .1 .0 .0) .2
 
-walk-call-frame-requires : (t : ℕ) → walk-call-lts.Need-frame-requires (wide-reads.Asked, wide-reads.Learnt, of-call-reads.Asked, of-call-reads.Learnt, frame-reads.Asked, frame-reads.Learnt, walk-block-below t, walk-block.Post) (walk-call-at t) walk-call.Post
+walk-call-frame-requires : (t : ℕ) → walk-call-lts.Need-frame-requires (walk-call-calls t) (walk-call-at t) walk-call.Post
 walk-call-frame-requires t c κs = tt
 
-walk-call-walk-block-requires : (t : ℕ) → walk-call-lts.Need-walk-block-requires (wide-reads.Asked, wide-reads.Learnt, of-call-reads.Asked, of-call-reads.Learnt, frame-reads.Asked, frame-reads.Learnt, walk-block-below t, walk-block.Post) (walk-call-at t) walk-call.Post
+walk-call-walk-block-requires : (t : ℕ) → walk-call-lts.Need-walk-block-requires (walk-call-calls t) (walk-call-at t) walk-call.Post
 walk-call-walk-block-requires t c κs =
-    let k = callee-known (c .before .before .before .before .before .before .before .before .before .before .pre .1 .1) _ (c .before .before .before .before .before .before .before .wide .ensures .0) (c .before .before .before .before .before .before .before .before .before .before .pre .1 .0) in
-    let z = statement-bounds (c .before .before .before .before .before .before .before .before .before .before .pre .1 .0) in
-    (omega (arith, c .before .before .before .before .before .before .before .before .before .before .pre .0, k .0, z .1), calleeBlock (c .before .before .before .before .before .before .before .before .before .before .pre .1 .1) _ (c .before .before .before .before .before .before .before .wide .ensures .0) (c .before .before .before .before .before .before .before .before .before .before .pre .1 .0) (c .before .before .of-call .result))
+    let k = callee-known (c .before .before .before .before .before .before .before .before .before .before .before .pre .1 .0 .1) _ (c .before .before .before .before .before .before .before .before .wide .ensures .0) (c .before .before .before .before .before .before .before .before .before .before .before .pre .1 .0 .0) in
+    let z = statement-bounds (c .before .before .before .before .before .before .before .before .before .before .before .pre .1 .0 .0) in
+    (omega (arith, c .before .before .before .before .before .before .before .before .before .before .before .pre .0, k .0, z .1), (calleeBlock (c .before .before .before .before .before .before .before .before .before .before .before .pre .1 .0 .1) _ (c .before .before .before .before .before .before .before .before .wide .ensures .0) (c .before .before .before .before .before .before .before .before .before .before .before .pre .1 .0 .0) (c .before .before .before .of-call .result), c .before .before .before .before .before .before .before .before .before .before .before .pre .1 .1))
 
-walk-call-returns-2 : (t : ℕ) → walk-call-lts.Need-returns-2 (wide-reads.Asked, wide-reads.Learnt, of-call-reads.Asked, of-call-reads.Learnt, frame-reads.Asked, frame-reads.Learnt, walk-block-below t, walk-block.Post) (walk-call-at t) walk-call.Post
-walk-call-returns-2 t c =
-    call-walked (c .before .before .before .before .before .before .before .before .before .before .before .args .frame) (c .before .before .before .before .before .before .before .before .before .before .before .args .free) (c .before .before .before .before .before .before .before .before .before .before .before .pre .1 .1) _ _ (c .before .before .before .before .before .before .before .before .wide .ensures .0) (c .before .before .before .before .wide2 .ensures .0) (c .before .before .before .of-call .result) (c .before .frame .result) (c .walk-block .result)
-    (c .before .before .before .of-call .ensures .0) (c .before .before .before .of-call .ensures .1) (c .before .before .before .of-call .ensures .2) (c .before .frame .ensures .0) (c .before .frame .ensures .1) (c .walk-block .ensures)
+walk-call-returns-2 : (t : ℕ) → walk-call-lts.Need-returns-2 (walk-call-calls t) (walk-call-at t) walk-call.Post
+walk-call-returns-2 t c = (
+  c .walk-block .ensures .0,
+  λ fr. call-walked fr (setOf (c .before .before .before .before .before .before .before .before .before .before .before .before .args .free .now)) (c .before .before .before .before .before .before .before .before .before .before .before .before .pre .1 .0 .1) _ _ (c .before .before .before .before .before .before .before .before .before .wide .ensures .0) (c .before .before .before .before .before .wide2 .ensures .0) (c .before .before .before .before .of-call .result) (c .before .before .frame .result) (leaves (c .walk-block .result) _)
+      (c .before .before .before .before .of-call .ensures .0) (c .before .before .before .before .of-call .ensures .1) (c .before .before .before .before .of-call .ensures .2) (c .before .before .frame .ensures .0) (c .before .before .frame .ensures .1) (c .walk-block .ensures .1),
+)
 
-walk-if-add-walk-block : (t : ℕ) → walk-if-lts.Need-add-walk-block (walk-block-below t, walk-block.Post, block-end-reads.Asked, block-end-reads.Learnt) (walk-if-at t) walk-if.Post
-walk-if-add-walk-block t c = let k = statement-bounds (c .before .pre .1 .0) in omega arith
+walk-if-add-walk-block : (t : ℕ) → walk-if-lts.Need-add-walk-block (walk-if-calls t) (walk-if-at t) walk-if.Post
+walk-if-add-walk-block t c = let k = statement-bounds (c .before .before .pre .1 .0 .0) in omega arith
 
-walk-if-walk-block-requires : (t : ℕ) → walk-if-lts.Need-walk-block-requires (walk-block-below t, walk-block.Post, block-end-reads.Asked, block-end-reads.Learnt) (walk-if-at t) walk-if.Post
-walk-if-walk-block-requires t c κs = let k = statement-bounds (c .before .pre .1 .0) in (omega (arith, c .before .pre .0), thenBlock (c .before .pre .1 .1) (c .before .pre .1 .0))
+walk-if-walk-block-requires : (t : ℕ) → walk-if-lts.Need-walk-block-requires (walk-if-calls t) (walk-if-at t) walk-if.Post
+walk-if-walk-block-requires t c κs = let k = statement-bounds (c .before .before .before .pre .1 .0 .0) in (omega (arith, c .before .before .before .pre .0), (thenBlock (c .before .before .before .pre .1 .0 .1) (c .before .before .before .pre .1 .0 .0), c .before .before .before .pre .1 .1))
 
-walk-if-enum-told : (t : ℕ) → walk-if-lts.Need-enum-told (walk-block-below t, walk-block.Post, block-end-reads.Asked, block-end-reads.Learnt) (walk-if-at t) walk-if.Post
-walk-if-enum-told t c = search needs
+walk-if-returns : (t : ℕ) → walk-if-lts.Need-returns (walk-if-calls t) (walk-if-at t) walk-if.Post
+walk-if-returns t c = (c .before .walk-block .ensures .0, if-refused (c .before .before .before .before .before .args .frame) (setOf (c .before .before .before .before .before .args .free .now)) (c .before .before .before .before .before .pre .1 .0 .1) (leaves (c .before .walk-block .result) _) (c .before .walk-block .ensures .1) (c .if1 .taken))
 
-walk-if-add-block-end : (t : ℕ) → walk-if-lts.Need-add-block-end (walk-block-below t, walk-block.Post, block-end-reads.Asked, block-end-reads.Learnt) (walk-if-at t) walk-if.Post
-walk-if-add-block-end t c = let k = statement-bounds (c .before .before .before .before .pre .1 .0) in omega arith
+walk-if-add-block-end : (t : ℕ) → walk-if-lts.Need-add-block-end (walk-if-calls t) (walk-if-at t) walk-if.Post
+walk-if-add-block-end t c = let k = statement-bounds (c .before .before .before .before .before .pre .1 .0 .0) in omega arith
 
-walk-if-block-end-requires : (t : ℕ) → walk-if-lts.Need-block-end-requires (walk-block-below t, walk-block.Post, block-end-reads.Asked, block-end-reads.Learnt) (walk-if-at t) walk-if.Post
-walk-if-block-end-requires t c κs = let k = statement-bounds (c .before .before .before .before .pre .1 .0) in let e = if-ends _ (c .before .before .before .before .pre .1 .0 .stands) (c .before .before .before .before .pre .1 .1) refl in (omega (arith, e .0, e .1), k .1)
+walk-if-block-end-requires : (t : ℕ) → walk-if-lts.Need-block-end-requires (walk-if-calls t) (walk-if-at t) walk-if.Post
+walk-if-block-end-requires t c κs = let k = statement-bounds (c .before .before .before .before .before .pre .1 .0 .0) in let e = if-ends _ (c .before .before .before .before .before .pre .1 .0 .0 .stands) (c .before .before .before .before .before .pre .1 .0 .1) refl in (omega (arith, e .0, e .1), k .1)
 
-walk-if-walk-block-requires-2 : (t : ℕ) → walk-if-lts.Need-walk-block-requires-2 (walk-block-below t, walk-block.Post, block-end-reads.Asked, block-end-reads.Learnt) (walk-if-at t) walk-if.Post
+walk-if-walk-block-requires-2 : (t : ℕ) → walk-if-lts.Need-walk-block-requires-2 (walk-if-calls t) (walk-if-at t) walk-if.Post
 walk-if-walk-block-requires-2 t c κs =
-    let k = statement-bounds (c .before .before .before .before .before .pre .1 .0) in
-    let e = if-ends _ (c .before .before .before .before .before .pre .1 .0 .stands) (c .before .before .before .before .before .pre .1 .1) (c .block-end .ensures) in
-    (omega (arith, c .before .before .before .before .before .pre .0, e .0, e .1), elseBlock _ (c .before .before .before .before .before .pre .1 .1) (c .block-end .ensures) (c .before .before .before .before .before .pre .1 .0))
+    let k = statement-bounds (c .before .before .before .before .before .before .before .pre .1 .0 .0) in
+    let e = if-ends _ (c .before .before .before .before .before .before .before .pre .1 .0 .0 .stands) (c .before .before .before .before .before .before .before .pre .1 .0 .1) (c .before .block-end .ensures) in
+    (omega (arith, c .before .before .before .before .before .before .before .pre .0, e .0, e .1), (elseBlock _ (c .before .before .before .before .before .before .before .pre .1 .0 .1) (c .before .block-end .ensures) (c .before .before .before .before .before .before .before .pre .1 .0 .0), c .before .before .before .before .before .before .before .pre .1 .1))
 
-walk-if-enum-told-2 : (t : ℕ) → walk-if-lts.Need-enum-told-2 (walk-block-below t, walk-block.Post, block-end-reads.Asked, block-end-reads.Learnt) (walk-if-at t) walk-if.Post
-walk-if-enum-told-2 t c = search needs
+walk-if-returns-2 : (t : ℕ) → walk-if-lts.Need-returns-2 (walk-if-calls t) (walk-if-at t) walk-if.Post
+walk-if-returns-2 t c = (
+  c .before .before .before .before .walk-block .ensures .0,
+  if-walked (c .before .before .before .before .before .before .before .before .args .frame) (setOf (c .before .before .before .before .before .before .before .before .args .free .now)) (c .before .before .before .before .before .before .before .before .pre .1 .0 .1) _ (c .before .before .block-end .ensures) (leaves (c .before .before .before .before .walk-block .result) _) (leaves (c .walk-block2 .result) _) (c .before .before .before .before .walk-block .ensures .1) (c .before .before .before .if1 .left) (c .walk-block2 .ensures .1),
+)
 
-walk-if-returns : (t : ℕ) → walk-if-lts.Need-returns (walk-block-below t, walk-block.Post, block-end-reads.Asked, block-end-reads.Learnt) (walk-if-at t) walk-if.Post
-walk-if-returns t c = if-walked (c .before .before .before .before .before .before .before .args .frame) (c .before .before .before .before .before .before .before .args .free) (c .before .before .before .before .before .before .before .pre .1 .1) _ (c .before .before .block-end .ensures) (c .before .before .before .before .before .walk-block .result) (c .before .walk-block2 .result) (c .before .before .before .before .before .walk-block .ensures) (c .before .before .before .enum-told .given .1) (c .before .walk-block2 .ensures)
+walk-while-add-walk-block : (t : ℕ) → walk-while-lts.Need-add-walk-block (walk-while-calls t) (walk-while-at t) walk-while.Post
+walk-while-add-walk-block t c = let k = statement-bounds (c .before .before .pre .1 .0 .0) in omega arith
 
-walk-if-returns-2 : (t : ℕ) → walk-if-lts.Need-returns-2 (walk-block-below t, walk-block.Post, block-end-reads.Asked, block-end-reads.Learnt) (walk-if-at t) walk-if.Post
-walk-if-returns-2 t c = if-refused (c .before .before .before .before .args .frame) (c .before .before .before .before .args .free) (c .before .before .before .before .pre .1 .1) (c .before .before .walk-block .result) _ (c .before .before .walk-block .ensures) (c .enum-told2 .given .1)
+walk-while-walk-block-requires : (t : ℕ) → walk-while-lts.Need-walk-block-requires (walk-while-calls t) (walk-while-at t) walk-while.Post
+walk-while-walk-block-requires t c κs = let k = statement-bounds (c .before .before .before .pre .1 .0 .0) in (omega (arith, c .before .before .before .pre .0), (loopBlock (c .before .before .before .pre .1 .0 .1) (c .before .before .before .pre .1 .0 .0), c .before .before .before .pre .1 .1))
 
-walk-while-add-walk-block : (t : ℕ) → walk-while-lts.Need-add-walk-block (walk-block-below t, walk-block.Post) (walk-while-at t) walk-while.Post
-walk-while-add-walk-block t c = let k = statement-bounds (c .before .pre .1 .0) in omega arith
-
-walk-while-walk-block-requires : (t : ℕ) → walk-while-lts.Need-walk-block-requires (walk-block-below t, walk-block.Post) (walk-while-at t) walk-while.Post
-walk-while-walk-block-requires t c κs = let k = statement-bounds (c .before .pre .1 .0) in (omega (arith, c .before .pre .0), loopBlock (c .before .pre .1 .1) (c .before .pre .1 .0))
-
-walk-while-returns : (t : ℕ) → walk-while-lts.Need-returns (walk-block-below t, walk-block.Post) (walk-while-at t) walk-while.Post
-walk-while-returns t c = while-walked (c .before .before .args .frame) (c .before .before .args .free) (c .before .before .pre .1 .1) (c .walk-block .result) (c .walk-block .ensures)
+walk-while-returns :
+    (t : ℕ) →
+    walk-while-lts.Need-returns
+    (walk-block-below t, walk-block.Post)
+    (walk-while-at t)
+    walk-while.Post
+walk-while-returns t c = while-walked (c .before .before .before .before .args .frame) (setOf (c .before .before .before .before .args .free .now)) (c .before .before .before .before .pre .1 .0 .1) (leaves (c .walk-block .result) _) (c .walk-block .ensures .1)
 
 pub +walk-block+walk-call+walk-if+walk-while-spec : {M : Type 1} → statement M
 +walk-block+walk-call+walk-if+walk-while-spec =
-    close μ-walk-block μ-walk-call μ-walk-if μ-walk-while (λ t. walk-block-lts.spec (block-end-reads.Asked, block-end-reads.Learnt, statement-end-reads.Asked, statement-end-reads.Learnt, location-reads.Asked, location-reads.Learnt, wide-reads.Asked, wide-reads.Learnt, remove-reads.Asked, remove-reads.Learnt, add-reads.Asked, add-reads.Learnt, no-path-reads.Asked, no-path-reads.Learnt, is-inner-reads.Asked, is-inner-reads.Learnt, walk-if-below t, walk-if.Post, walk-while-below t, walk-while.Post, walk-call-below t, walk-call.Post)
-    (walk-block-at t)
+    close μ-walk-block μ-walk-call μ-walk-if μ-walk-while (λ t. walk-block-lts.spec (walk-block-calls t) (walk-block-at t)
     walk-block.Post
     walk-block-Inv-loop
     walk-block-μ-loop
@@ -415,22 +465,26 @@ pub +walk-block+walk-call+walk-if+walk-while-spec : {M : Type 1} → statement M
     (walk-block-shared-slice-read-wide t)
     (walk-block-wide-requires t)
     (walk-block-array-set-from-frame t)
-    (walk-block-wide-requires-2 t)
     (walk-block-remove-requires t)
     (walk-block-add-wide-2 t)
     (walk-block-shared-slice-read-wide-2 t)
-    (walk-block-wide-requires-3 t)
+    (walk-block-wide-requires-2 t)
     (walk-block-array-copy-out-l t)
-    (walk-block-wide-requires-4 t)
     (walk-block-add-requires t)
+    (walk-block-add-wide-3 t)
+    (walk-block-shared-slice-read-wide-3 t)
+    (walk-block-wide-requires-3 t)
+    (walk-block-array-copy-out-a t)
+    (walk-block-add-wide-4 t)
+    (walk-block-shared-slice-read-wide-4 t)
+    (walk-block-wide-requires-4 t)
+    (walk-block-array-copy-out-b t)
     (walk-block-no-path-requires t)
     (walk-block-returns t)
     (walk-block-is-inner-requires t)
     (walk-block-walk-if-requires t)
     (walk-block-walk-while-requires t)
     (walk-block-walk-call-requires t)
-    (walk-block-enum-told t)
-    (walk-block-enum-told-2 t)
     (walk-block-returns-2 t)
     (walk-block-loop-less t)
     (walk-block-loop-again t)
@@ -443,8 +497,7 @@ pub +walk-block+walk-call+walk-if+walk-while-spec : {M : Type 1} → statement M
     (walk-block-loop-less-5 t)
     (walk-block-loop-again-5 t)
     (walk-block-returns-3 t))
-    (λ t. walk-call-lts.spec (wide-reads.Asked, wide-reads.Learnt, of-call-reads.Asked, of-call-reads.Learnt, frame-reads.Asked, frame-reads.Learnt, walk-block-below t, walk-block.Post)
-    (walk-call-at t)
+    (λ t. walk-call-lts.spec (walk-call-calls t) (walk-call-at t)
     walk-call.Post
     (walk-call-add-wide t)
     (walk-call-shared-slice-read-wide t)
@@ -462,17 +515,14 @@ pub +walk-block+walk-call+walk-if+walk-while-spec : {M : Type 1} → statement M
     (walk-call-frame-requires t)
     (walk-call-walk-block-requires t)
     (walk-call-returns-2 t))
-    (λ t. walk-if-lts.spec (walk-block-below t, walk-block.Post, block-end-reads.Asked, block-end-reads.Learnt)
-    (walk-if-at t)
+    (λ t. walk-if-lts.spec (walk-if-calls t) (walk-if-at t)
     walk-if.Post
     (walk-if-add-walk-block t)
     (walk-if-walk-block-requires t)
-    (walk-if-enum-told t)
+    (walk-if-returns t)
     (walk-if-add-block-end t)
     (walk-if-block-end-requires t)
     (walk-if-walk-block-requires-2 t)
-    (walk-if-enum-told-2 t)
-    (walk-if-returns t)
     (walk-if-returns-2 t))
     λ t. walk-while-lts.spec
     (walk-block-below t, walk-block.Post)

@@ -1,3 +1,4 @@
 mod CheckLaws
 mod ReadLaws
 mod RouteLaws
+mod RunLaws

@@ -1,3 +1,4 @@
 pub mod Checking
 pub mod Packed
 pub mod Routing
+pub mod Runs

@@ -4,3 +4,4 @@ mod jobs;
 pub mod packed;
 pub mod reads;
 pub mod routes;
+pub mod runs;

@@ -1,5 +1,5 @@
 mod Dealing
 mod Finishing
-mod Scheduling
+pub mod Scheduling
 mod Turning
 mod Writing

@@ -1,0 +1,83 @@
+//! The five exports answered by the reference itself, so that the comparison, the cases and
+//! their coverage can be tried without the library.
+
+use crate::{pack, reference};
+
+/// A length of 0 goes with any pointer, so the pointer is not looked at then.
+unsafe fn slice<'a>(pointer: *const u8, length: usize) -> &'a [u8] {
+    if length == 0 { &[] } else { std::slice::from_raw_parts(pointer, length) }
+}
+
+unsafe fn slice_mut<'a>(pointer: *mut u8, length: usize) -> &'a mut [u8] {
+    if length == 0 { &mut [] } else { std::slice::from_raw_parts_mut(pointer, length) }
+}
+
+#[no_mangle]
+unsafe extern "C" fn abwakiris_read_device(device: *const u8, device_len: usize) -> u64 {
+    pack(reference::read_device(slice(device, device_len)).map(|_| 0))
+}
+
+#[no_mangle]
+unsafe extern "C" fn abwakiris_read_program(program: *const u8, program_len: usize) -> u64 {
+    pack(reference::read_program(slice(program, program_len)).map(|_| 0))
+}
+
+#[no_mangle]
+unsafe extern "C" fn abwakiris_check(
+    device: *const u8,
+    device_len: usize,
+    program: *const u8,
+    program_len: usize,
+    job: u64,
+) -> u64 {
+    pack(reference::check(slice(device, device_len), slice(program, program_len), job))
+}
+
+#[no_mangle]
+unsafe extern "C" fn abwakiris_route(
+    device: *const u8,
+    device_len: usize,
+    job: u64,
+    occupancy: *const u8,
+    occupancy_len: usize,
+    first: u64,
+    second: u64,
+    buffer: *mut u8,
+    buffer_len: usize,
+) -> u64 {
+    let answer = reference::route(
+        slice(device, device_len),
+        job,
+        slice(occupancy, occupancy_len),
+        first,
+        second,
+        slice_mut(buffer, buffer_len),
+    );
+    pack(answer.map(|locations| locations as u64))
+}
+
+#[no_mangle]
+unsafe extern "C" fn abwakiris_run(
+    device: *const u8,
+    device_len: usize,
+    first_program: *const u8,
+    first_program_len: usize,
+    second_program: *const u8,
+    second_program_len: usize,
+    schedule: *const u8,
+    schedule_len: usize,
+    records: *mut u8,
+    records_len: usize,
+    map: *mut u8,
+    map_len: usize,
+) -> u64 {
+    let answer = reference::run(
+        slice(device, device_len),
+        slice(first_program, first_program_len),
+        slice(second_program, second_program_len),
+        slice(schedule, schedule_len),
+        slice_mut(records, records_len),
+        slice_mut(map, map_len),
+    );
+    pack(answer.map(|(one, two)| u64::from(one) + 65_536 * u64::from(two)))
+}

@@ -24,7 +24,7 @@ use Rattle.rules.specs.Promises.{runWritten, runOf}
 use Rattle.device.specs.Reader.{Reads}
 use Rattle.program.specs.declared.functions.FunctionTable.{FunctionTable}
 use Rattle.machine.specs.Scheduled.{scheduled}
-use Rattle.machine.specs.Running.{turnOf}
+use Rattle.theory.specs.TheRun.{turnOf}
 use Rattle.machine.specs.Runs.{Loaded, Runs}
 use Rattle.machine.proofs.Scheduling.{Scheduled}
 use Rattle.abwakiris.specs.Runs.{ended}

@@ -15,10 +15,11 @@ use Rattle.rules.specs.Run as run
 use Rattle.rules.specs.Run.{Turn, Told, stepOf, after, final, records, recordBytes, movedBy}
 use Rattle.steps.specs.declared.Record.{Record}
 use Rattle.steps.specs.Told.{recordOf}
+use Rattle.theory.specs.TheRun.{turnOf}
 use Rattle.machine.specs.declared.turn.Seat.{Seat}
 use Rattle.machine.specs.declared.turn.Machine.{Machine}
 use Rattle.machine.specs.declared.turn.Turned.{Turned}
-use Rattle.machine.specs.Running.{bytesOf, turnOf, programs, Both, Holds, Turns, Dealt, Deals}
+use Rattle.machine.specs.Running.{bytesOf, programs, Both, Holds, Turns, Dealt, Deals}
 use Rattle.machine.proofs.Writing.{four-more}
 
 -- what a record counts for job j

@@ -23,9 +23,10 @@ use Rattle.program.proofs.In.{program-in}
 use Rattle.steps.specs.declared.job.Job.{Job}
 use Rattle.steps.specs.Stepping.{Begins, Starts}
 use Rattle.steps.proofs.Applying.{maps-empty, maps-first}
+use Rattle.theory.specs.TheRun.{turnOf}
 use Rattle.machine.specs.declared.run.Ended.{Ended}
 use Rattle.machine.specs.declared.turn.Seat.{Seat}
-use Rattle.machine.specs.Running.{turnOf, programs, Seated, Both, Holds, Dealt}
+use Rattle.machine.specs.Running.{programs, Seated, Both, Holds, Dealt}
 use Rattle.machine.specs.Runs.{Loaded, finished}
 use Rattle.machine.proofs.Writing.{sets-over}
 

@@ -5,7 +5,7 @@ use mathlib.Core.Path.{_≡_, refl, sym, ap, _∙_, subst}
 use native.Mathlib.Decide.{decLe}
 use native.Mathlib.Omega.{arith}
 use Prim.Native.Nat.{ℕ, zero, suc, _+_, _/_, _%_, _≤_, _<_}
-use borrow.Author.Tests.{le-leb, lt-leb, leb-true}
+use borrow.Author.Tests.{le-leb, lt-leb}
 use lib.Dec.{leb, eqb}
 use lib.ListN.{length, getD, drop, drop-of-length-le}
 use lib.Seq.{drop-cons}
@@ -13,11 +13,12 @@ use Rattle.answers.specs.Check.{Check, ok, refused, refusal, inFile, _>>=_, _>>
 use Rattle.answers.specs.declared.File.the-variants.{Schedule}
 use Rattle.answers.specs.declared.Refusal.{Refusal}
 use Rattle.answers.proofs.Laws.{ok-not-refused}
-use Rattle.rules.specs.Basics.{byte}
+use Rattle.rules.specs.Basics.{all, byte}
 use Rattle.rules.specs.Run.{Turn, turns}
 use Rattle.theory.proofs.Base.{and-left, and-right}
-use Rattle.machine.specs.Scheduled.{isTurn, scheduled}
-use Rattle.machine.specs.Running.{turnOf}
+use Rattle.theory.proofs.TheRun.{turns-sound}
+use Rattle.theory.specs.TheRun.{isTurn, turnOf}
+use Rattle.machine.specs.Scheduled.{scheduled}
 
 -- ---- a byte
 pub no-job : (b : ℕ) → b / 16 < 1 → false ≡ isTurn b
@@ -28,12 +29,6 @@ no-second b h k = rw (le-leb 1 (b / 16) h, lt-leb (b / 16) 2 k) refl
 
 pub an-outcome : (b : ℕ) → 1 ≤ b / 16 → b / 16 ≤ 2 → leb (b % 16) 1 ≡ isTurn b
 an-outcome b h k = rw (le-leb 1 (b / 16) h, le-leb (b / 16) 2 k) refl
-
--- a turn's byte names job 1 below 32 and job 2 from there
-pub turn-bounds : (b : ℕ) → isTurn b ≡ true → (1 ≤ b / 16) × (b / 16 ≤ 2)
-turn-bounds b e =
-    let j : (leb 1 (b / 16) && leb (b / 16) 2) ≡ true = and-left _ (leb (b % 16) 1) e in
-    (leb-true 1 (b / 16) (and-left (leb 1 (b / 16)) _ j), leb-true (b / 16) 2 (and-right (leb 1 (b / 16)) _ j))
 
 -- ---- the rest of a schedule
 unfoldable pub from : List ℕ → ℕ → Check (Unit {0})
@@ -75,30 +70,10 @@ unfolding from _>>_
 from-end s i h = rw (drop-of-length-le s h) refl
 
 -- ---- a schedule that may be run: its turns are those of its bytes
-turns-are : (s : List ℕ) (i : ℕ) (ts : List Turn) → turns 2 i s ≡ ok ts → (ts ≡ map turnOf s) × ((k : ℕ) → k < length s → isTurn (byte s k) ≡ true)
-unfolding _>>_ _>>=_
-turns-are [] i ts e = (ap from-ok (sym e), λ k h. absurd (omega (arith, h)))
-  where
-    from-ok : Check (List Turn) → List Turn
-    from-ok (ok us) = us
-    from-ok (refused x) = []
-turns-are (b ∷ s) i ts e = go (isTurn b) (turns 2 (suc i) s) refl (turns-are s (suc i)) refl e
-  where
-    from-ok : Check (List Turn) → List Turn
-    from-ok (ok us) = us
-    from-ok (refused x) = []
-    go : (t : Bool) (m : Check (List Turn)) → isTurn b ≡ t → ((us : List Turn) → turns 2 (suc i) s ≡ ok us → (us ≡ map turnOf s) × ((k : ℕ) → k < length s → isTurn (byte s k) ≡ true))
-        → turns 2 (suc i) s ≡ m → (need t 23 i >> (m >>= λ us. ok (turnOf b ∷ us))) ≡ ok ts
-        → (ts ≡ map turnOf (b ∷ s)) × ((k : ℕ) → k < length (b ∷ s) → isTurn (byte (b ∷ s) k) ≡ true)
-    go false m p f q e = ok-not-refused (sym e)
-    go true (refused x) p f q e = ok-not-refused (sym e)
-    go true (ok us) p f q e =
-        let r = f us q in
-        (ap from-ok (sym e) ∙ ap (λ (vs : List Turn). turnOf b ∷ vs) (r .0), each (r .1))
-      where
-        each : ((k : ℕ) → k < length s → isTurn (byte s k) ≡ true) → (k : ℕ) → k < length (b ∷ s) → isTurn (byte (b ∷ s) k) ≡ true
-        each f zero h = p
-        each f (suc k) h = f k (omega (arith, h))
+each-turn : (s : List ℕ) → all isTurn s ≡ true → (k : ℕ) → k < length s → isTurn (byte s k) ≡ true
+each-turn [] h k l = absurd (omega (arith, l))
+each-turn (b ∷ s) h zero l = and-left (isTurn b) (all isTurn s) h
+each-turn (b ∷ s) h (suc k) l = each-turn s (and-right (isTurn b) (all isTurn s) h) k (omega (arith, l))
 
 pub record Scheduled (s : List ℕ) : Type 0 where
   pub short : length s ≤ 4096
@@ -110,7 +85,7 @@ unfolding scheduled _>>_ from
 may-run s e = long (decLe (length s) 4096)
   where
     go : (h : length s ≤ 4096) (m : Check (List Turn)) → turns 2 0 s ≡ m → _≡_ {A = Check (Unit {0})} (ok tt) (within Schedule m >> ok tt) → Scheduled s
-    go h (ok ts) q e = let r = turns-are s 0 ts q in record { short = h; turns-so = q ∙ ap ok (r .0); all-turns = r .1 }
+    go h (ok ts) q e = let r = turns-sound s 0 ts q in record { short = h; turns-so = q ∙ ap ok (r .0); all-turns = each-turn s (r .1) }
     go h (refused x) q e = ok-not-refused e
     long : Dec (length s ≤ 4096) → Scheduled s
     long (yes h) = go h (turns 2 0 s) refl (e ∙ from-start s h)

@@ -22,9 +22,9 @@ use Rattle.machine.specs.declared.turn.Seat.{Seat}
 use Rattle.machine.specs.declared.turn.Machine.{Machine}
 use Rattle.machine.specs.declared.turn.Taken.{Taken}
 use Rattle.machine.specs.declared.turn.Turned.{Turned}
-use Rattle.machine.specs.Scheduled.{isTurn}
-use Rattle.machine.specs.Running.{programs, turnOf, Takes, Both, Holds, Turns}
-use Rattle.machine.proofs.Scheduling.{turn-bounds}
+use Rattle.theory.specs.TheRun.{isTurn, turnOf}
+use Rattle.machine.specs.Running.{programs, Takes, Both, Holds, Turns}
+use Rattle.theory.proofs.TheRun.{turn-bounds}
 
 pub taken : (s : List ℕ) (c : Seat) (rows before : List ℕ) (j : Job) (number : ℕ) (v : Bool) (r : Stepped) (now : List ℕ) → Steps s (c .functions) rows (c .owned) before v j r
     → Applies (r .act) number before now → Takes s c rows before j number v (record { job = r .job; «record» = r .record }) now

@@ -16,6 +16,7 @@ use Rattle.rules.specs.Machine as rules
 use Rattle.rules.specs.Machine.{step}
 use Rattle.rules.specs.Run as run
 use Rattle.rules.specs.Run.{Turn, turns, written, started, stepOf, after, final, records, recordBytes, movedBy}
+use Rattle.theory.specs.TheRun.{isTurn, turnOf}
 use Rattle.device.specs.Reader.{Owned, Rows}
 use Rattle.program.specs.In.{ProgramIn, offsetOf}
 use Rattle.program.specs.Reader.{Heads}
@@ -30,15 +31,10 @@ use Rattle.machine.specs.declared.turn.Seat.{Seat}
 use Rattle.machine.specs.declared.turn.Machine.{Machine}
 use Rattle.machine.specs.declared.turn.Taken.{Taken}
 use Rattle.machine.specs.declared.turn.Turned.{Turned}
-use Rattle.machine.specs.Scheduled.{isTurn}
 
 -- the four bytes of a record
 abbrev pub bytesOf : Record → List ℕ
 bytesOf r = r .code ∷ r .edges ∷ r .offset / 256 ∷ r .offset % 256 ∷ []
-
--- the turn that a byte stands for
-abbrev pub turnOf : ℕ → Turn
-turnOf b = record { job = b / 16; outcome = eqb (b % 16) 1 }
 
 -- job 1 has the program p, job 2 the program q
 abbrev pub programs : Program → Program → ℕ → Program

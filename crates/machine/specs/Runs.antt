@@ -16,8 +16,8 @@ use Rattle.rules.specs.Promises.{Finished, Ran, runWritten}
 use Rattle.device.specs.Reader.{Reads}
 use Rattle.program.specs.declared.functions.FunctionTable.{FunctionTable}
 use Rattle.program.specs.Reader.{Tabled}
-use Rattle.machine.specs.Scheduled.{isTurn}
-use Rattle.machine.specs.Running.{turnOf, programs}
+use Rattle.theory.specs.TheRun.{isTurn, turnOf}
+use Rattle.machine.specs.Running.{programs}
 
 -- a program's file reads as p, and the table and main's place are its
 pub record Loaded (s : List ℕ) (t : FunctionTable) (main : ℕ) (p : Program) : Type 0 where

@@ -5,7 +5,8 @@ use answers::Refusal;
 ghost use mathlib.Core.Path.{_≡_};
 ghost use lib.ListN.{length};
 ghost use Rattle.answers.specs.Said.{readSaid};
-ghost use Rattle.machine.specs.Scheduled.{isTurn, scheduled};
+ghost use Rattle.theory.specs.TheRun.{isTurn};
+ghost use Rattle.machine.specs.Scheduled.{scheduled};
 
 // A schedule may have so many bytes and no more.
 const MOST_STEPS: usize = 4096;

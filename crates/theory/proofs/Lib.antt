@@ -17,3 +17,4 @@ pub mod Accepted
 pub mod Neat
 pub mod Tidy
 pub mod Counts
+pub mod TheRun

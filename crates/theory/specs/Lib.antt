@@ -6,3 +6,4 @@ pub mod NeverStuck
 pub mod Counts
 pub mod Tidy
 pub mod FirstRefusal
+pub mod TheRun

@@ -73,8 +73,8 @@ pub no-path-of : (R : Region) (F : ℕ → Bool) (f : List Location) (x x′ z z
 no-path-of R F f x x′ z z′ t e g h = (λ i. noPath R F (placed f (sym e i)) (placed f (sym g i))) ∙ h
 
 -- The statement t at p, in a block that the walk is over. The frame f and the set F are where the walk stands.
-module _ {s bodies counts rows : List ℕ} {g : ℕ} {n : Names} {p : ℕ} (f : List Location) (F : LocationSet) (t : StatementAt s bodies g n p) (R : Region) (W : Walker) (σ : Place (t .side) → Place device)
-    (O : Over R rows counts (t .program .functions) g (t .scope) n W σ) where
+module _ {s bodies quiet rows : List ℕ} {g : ℕ} {n : Names} {p : ℕ} (f : List Location) (F : LocationSet) (t : StatementAt s bodies quiet g n p) (R : Region) (W : Walker) (σ : Place (t .side) → Place device)
+    (O : Over R rows (t .counts) (t .program .functions) g (t .scope) n W σ) where
   as-op : (a : Op (t .side)) → t .tree ≡ op p a → walkStatement R W σ (t .tree) (standing f F) ≡ walkOp R W σ p a (standing f F)
   unfolding walkStatement
   as-op a e = ap (λ (x : Statement (t .side)). walkStatement R W σ x (standing f F)) e

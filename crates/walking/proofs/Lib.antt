@@ -2,9 +2,11 @@ mod Sets
 mod Follow
 mod Whole
 mod NameLaws
+mod QuietLaws
 mod Views
 mod Ends
 mod Steps
 mod Arms
 mod Inner
+mod QuietRuns
 mod Main

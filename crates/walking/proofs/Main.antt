@@ -25,15 +25,18 @@ use Rattle.program.specs.declared.functions.FunctionTable.{FunctionTable}
 use Rattle.program.specs.In.{BlockIn, ProgramIn, mainScope}
 use Rattle.program.specs.Reader.{Tabled}
 use Rattle.walking.specs.declared.names.Names.{Names}
+use Rattle.walking.specs.Quiet.{Skips}
 use Rattle.walking.specs.Stands.{Walked, placed, faultSaid, walkSaid, BlockAt, Over, BlockWalked}
 use Rattle.walking.proofs.Arms.{fault-said}
 use Rattle.walking.proofs.Whole.{byCommands, callees, main-follows}
 
 -- main's block
-abbrev pub mainBlock : {s : List ℕ} {p : Program} {t : FunctionTable} {main : ℕ} (n : Names) → n .in_main ≡ true → ProgramIn s p → Tabled p t main → BlockAt s (t .bodies) (t .count) n main
-mainBlock {s = s} {p = p} {t = t} n h P T = record {
+abbrev pub mainBlock : {s counts quiet : List ℕ} {p : Program} {t : FunctionTable} {main : ℕ} (n : Names) → n .in_main ≡ true → Skips s counts quiet → ProgramIn s p → Tabled p t main
+    → BlockAt s (t .bodies) quiet (t .count) n main
+mainBlock {s = s} {counts = counts} {p = p} {t = t} n h K P T = record {
   side = device;
   program = p;
+  counts = counts;
   scope = mainScope (p .functions);
   depths = 8;
   tree = p .main;
@@ -44,17 +47,18 @@ mainBlock {s = s} {p = p} {t = t} n h P T = record {
     reach = omega (arith, T .heads .count);
     earlier = sym (take-all (t .count) (p .functions) (omega (arith, T .heads .count)));
     room = λ q. absurd (false≢true (sym q ∙ h));
+    table = K;
   };
   stands = subst (λ (i : ℕ). BlockIn s (mainScope (p .functions)) 8 i (p .main) (length s)) (sym (T .main-at)) (P .main);
 }
 
 -- What the walk over it says, for every region and typing of the program.
-module _ {s : List ℕ} {t : FunctionTable} {counts rows : List ℕ} {main : ℕ} (n : Names) (h : n .in_main ≡ true) (f : List Location) (owned : LocationSet) (w : Walked)
-    (B : BlockWalked s (t .bodies) counts rows (t .count) n main f owned w)
+module _ {s : List ℕ} {t : FunctionTable} {counts quiet rows : List ℕ} {main : ℕ} (n : Names) (h : n .in_main ≡ true) (K : Skips s counts quiet) (f : List Location) (owned : LocationSet) (w : Walked)
+    (B : BlockWalked s (t .bodies) quiet rows (t .count) n main f owned w)
     (p : Program) (R : Region) (d : Typed device) (e : Derives (R .owned) p d) (P : ProgramIn s p) (T : Tabled p t main) (O : Owned R owned) (r : Rows R rows)
     (z : (g : ℕ) → g < length (p .functions) → getD counts g 0 ≡ 0 → sizeOf (signature (e .signatures) g .commands) ≡ 0) where
   main-said : (walkSaid w >> ok (tt {0})) ≡ (walk R (R .owned) (d .commands) >> ok tt)
-  main-said = ap (λ (m : Check (ℕ → Bool)). m >> ok (tt {0})) (B (mainBlock n h P T) R (byCommands R (e .signatures)) (λ l. l) over)
+  main-said = ap (λ (m : Check (ℕ → Bool)). m >> ok (tt {0})) (B (mainBlock n h K P T) R (byCommands R (e .signatures)) (λ l. l) over)
       ∙ main-follows R p d e arities (placed f) (has owned) (λ i y. O .owned y i)
     where
       arities : (g : ℕ) → g < length (p .functions) → function (p .functions) g .m ≤ function (p .functions) g .k

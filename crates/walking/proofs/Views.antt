@@ -3,7 +3,7 @@
 use mathlib.Core.Bool.{false}
 use mathlib.Core.List.{List}
 use mathlib.Core.Logic.{_≢_}
-use mathlib.Core.Path.{_≡_, refl, sym, _∙_}
+use mathlib.Core.Path.{_≡_, refl, sym, ap, _∙_}
 use native.Mathlib.Omega.{arith}
 use borrow.Author.Tests.{eqb-false}
 use Prim.Native.Nat.{ℕ, _+_, _<_, _≤_}
@@ -14,7 +14,9 @@ use Rattle.rules.specs.Basics.{upTo, byte}
 use Rattle.rules.specs.Region.{Region}
 use Rattle.rules.specs.Syntax.{Side, device, Place, Preparation, plain, magic, Op, init, free, merge, Statement, op, if, while, call, Block, function}
 use Rattle.rules.specs.Program.{Scope}
+use Rattle.rules.specs.Table.{sizeOf}
 use Rattle.program.specs.In.{BlockIn, View, is-init, is-magic, is-free, is-gate, is-measure, is-merge, is-new, is-get, is-set, is-if, is-while, is-call, is-bool}
+use Rattle.walking.specs.Quiet.{Silent}
 use Rattle.walking.specs.Walk.{Standing, Walker, walkOp}
 
 module _ {d : Side} (s : List ℕ) (S : Scope) (at : ℕ) (t : Statement d) (q : ℕ) where
@@ -225,3 +227,19 @@ view-quiet (is-if e l a b k) m n3 n6 n = absurd (n (omega arith))
 view-quiet (is-while e l a b) m n3 n6 n = absurd (n (omega arith))
 view-quiet (is-call e l a b k f g) m n3 n6 n = absurd (n (omega arith))
 view-quiet (is-bool e l a b) m n3 n6 n = record { act = _; is = refl; still = λ R W σ st. refl }
+
+-- and its size, by the table
+pub view-size : {d : Side} {s : List ℕ} {S : Scope} {depths at q : ℕ} {t : Statement d} → View s S depths at t q → Silent (byte s at) → q ≡ at + sizeOf (byte s at)
+view-size (is-init e l a b) z = absurd (omega (arith, e, z .above))
+view-size (is-magic e l a b) z = absurd (omega (arith, e, z .above))
+view-size (is-free e l a) z = absurd (omega (arith, e, z .above))
+view-size {at = at} (is-gate e l a b) z = ap (λ (o : ℕ). at + sizeOf o) (sym e)
+view-size {at = at} (is-measure e l a b k) z = ap (λ (o : ℕ). at + sizeOf o) (sym e)
+view-size (is-merge e l a b k f g) z = absurd (z .no-merge e)
+view-size {at = at} (is-new e l a b) z = ap (λ (o : ℕ). at + sizeOf o) (sym e)
+view-size {at = at} (is-get e l a b) z = ap (λ (o : ℕ). at + sizeOf o) (sym e)
+view-size {at = at} (is-set e l a b) z = ap (λ (o : ℕ). at + sizeOf o) (sym e)
+view-size (is-if e l a b k) z = absurd (z .no-inner (omega arith))
+view-size (is-while e l a b) z = absurd (z .no-inner (omega arith))
+view-size (is-call e l a b k f g) z = absurd (z .no-inner (omega arith))
+view-size {at = at} (is-bool e l a b) z = ap (λ (o : ℕ). at + sizeOf o) (sym e)

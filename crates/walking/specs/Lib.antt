@@ -1,2 +1,3 @@
+pub mod Quiet
 pub mod Walk
 pub mod Stands

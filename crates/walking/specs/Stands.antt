@@ -17,6 +17,7 @@ use Rattle.device.specs.Reader.{Rows}
 use Rattle.route.specs.Found.{edgesOf}
 use Rattle.program.specs.In.{BlockIn, StatementIn, StatementsIn, ProgramIn, offsetOf}
 use Rattle.walking.specs.declared.names.Names.{Names}
+use Rattle.walking.specs.Quiet.{Skips}
 use Rattle.walking.specs.Walk.{Standing, Walker, walkStatement, walkBlock, Callees}
 
 -- the location of element x
@@ -57,42 +58,47 @@ walkSaid w = faultSaid (w .fault) (w .free)
 abbrev pub kept : List Location → Check (ℕ → Bool) → Check Standing
 kept f m = m >>= λ F. ok (record { frame = placed f; free = F })
 
--- the body of function number g, or main's, where g is the number of functions: it may call those before g, and its places have names
-pub record Body (s bodies : List ℕ) (p : Program) (g : ℕ) (S : Scope) (n : Names) : Type 0 where
+-- the body of function number g, or main's, where g is the number of functions: it may call those before g, and its places have names; the table
+-- `quiet` is by the counts
+pub record Body (s bodies quiet : List ℕ) (p : Program) (counts : List ℕ) (g : ℕ) (S : Scope) (n : Names) : Type 0 where
   pub program : ProgramIn s p
   pub offsets : (f : ℕ) → f < length (p .functions) → getD bodies f 0 ≡ offsetOf (function (p .functions) f .body)
   pub reach : g ≤ length (p .functions)
   pub earlier : S .earlier ≡ take g (p .functions)
   pub room : n .in_main ≡ false → S .places ≤ 16
+  pub table : Skips s counts quiet
 
 -- a block of it, a statement, and the statements up to a block's end
-pub record BlockAt (s bodies : List ℕ) (g : ℕ) (n : Names) (at : ℕ) : Type 0 where
+pub record BlockAt (s bodies quiet : List ℕ) (g : ℕ) (n : Names) (at : ℕ) : Type 0 where
   pub side : Side
   pub program : Program
+  pub counts : List ℕ
   pub scope : Scope
   pub depths : ℕ
   pub tree : Block side
   pub next : ℕ
-  pub body : Body s bodies program g scope n
+  pub body : Body s bodies quiet program counts g scope n
   pub stands : BlockIn s scope depths at tree next
 
-pub record StatementAt (s bodies : List ℕ) (g : ℕ) (n : Names) (at : ℕ) : Type 0 where
+pub record StatementAt (s bodies quiet : List ℕ) (g : ℕ) (n : Names) (at : ℕ) : Type 0 where
   pub side : Side
   pub program : Program
+  pub counts : List ℕ
   pub scope : Scope
   pub depths : ℕ
   pub tree : Statement side
   pub next : ℕ
-  pub body : Body s bodies program g scope n
+  pub body : Body s bodies quiet program counts g scope n
   pub stands : StatementIn s scope depths at tree next
 
-pub record StatementsAt (s bodies : List ℕ) (g : ℕ) (n : Names) (at end : ℕ) : Type 0 where
+pub record StatementsAt (s bodies quiet : List ℕ) (g : ℕ) (n : Names) (at end : ℕ) : Type 0 where
   pub side : Side
   pub program : Program
+  pub counts : List ℕ
   pub scope : Scope
   pub depths : ℕ
   pub tree : Statements side
-  pub body : Body s bodies program g scope n
+  pub body : Body s bodies quiet program counts g scope n
   pub stands : StatementsIn s scope depths at end tree
 
 -- over which region, with which callees and at which places it is walked
@@ -102,15 +108,15 @@ pub record Over {d : Side} (R : Region) (rows counts : List ℕ) (fs : List Func
   pub places : (l : Place d) → l .no < S .places → σ l .no ≡ named n (l .no)
 
 -- w is how the walk over the block ends, and over the statement, which leaves the frame as it is
-module _ (s bodies counts rows : List ℕ) (g : ℕ) (n : Names) (at : ℕ) (frame : List Location) (free : LocationSet) (w : Walked) where
+module _ (s bodies quiet rows : List ℕ) (g : ℕ) (n : Names) (at : ℕ) (frame : List Location) (free : LocationSet) (w : Walked) where
   abbrev pub BlockWalked : Type 0
-  BlockWalked = (b : BlockAt s bodies g n at) (R : Region) (W : Walker) (σ : Place (b .side) → Place device) → Over R rows counts (b .program .functions) g (b .scope) n W σ
+  BlockWalked = (b : BlockAt s bodies quiet g n at) (R : Region) (W : Walker) (σ : Place (b .side) → Place device) → Over R rows (b .counts) (b .program .functions) g (b .scope) n W σ
       → walkSaid w ≡ walkBlock R W σ (b .tree) (standing frame free)
 
   abbrev pub StatementWalked : Type 0
-  StatementWalked = (t : StatementAt s bodies g n at) (R : Region) (W : Walker) (σ : Place (t .side) → Place device) → Over R rows counts (t .program .functions) g (t .scope) n W σ
+  StatementWalked = (t : StatementAt s bodies quiet g n at) (R : Region) (W : Walker) (σ : Place (t .side) → Place device) → Over R rows (t .counts) (t .program .functions) g (t .scope) n W σ
       → kept frame (walkSaid w) ≡ walkStatement R W σ (t .tree) (standing frame free)
 
 -- the same for a call, whatever the caller's frame is
-abbrev pub CallWalked : (s bodies counts rows : List ℕ) (g : ℕ) (n : Names) (at : ℕ) (free : LocationSet) (w : Walked) → Type 0
-CallWalked s bodies counts rows g n at free w = (frame : List Location) → StatementWalked s bodies counts rows g n at frame free w
+abbrev pub CallWalked : (s bodies quiet rows : List ℕ) (g : ℕ) (n : Names) (at : ℕ) (free : LocationSet) (w : Walked) → Type 0
+CallWalked s bodies quiet rows g n at free w = (frame : List Location) → StatementWalked s bodies quiet rows g n at frame free w

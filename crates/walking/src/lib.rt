@@ -3,6 +3,7 @@ use answers::ReadAnswer;
 use answers::Refusal;
 use names::Names;
 use program::functions::FunctionTable;
+use quiet::mark_quiet;
 use rules::place::Location;
 use sets::LocationSet;
 use walk::walk_block;
@@ -23,6 +24,7 @@ ghost use Rattle.program.specs.Reader.{Tabled};
 mod free;
 mod names;
 mod positions;
+mod quiet;
 mod walk;
 
 // Walks a program that reads, with its table, the command counts of its functions and the place of main: all of the region's locations are free.
@@ -37,12 +39,14 @@ pub fn walk_program(
     requires { ⌜ ((p : Program) × ProgramIn (now s) p × Tabled p t main) ⌝ }
     ensures { λ r. ⌜ ((p : Program) (R : Region) (d : Typed device) (e : Derives (R .owned) p d) → ProgramIn (now (s .entry)) p → Tabled p t main → Owned R owned → Rows R (now (rows .entry)) → ((f : ℕ) → f < length (p .functions) → getD counts f 0 ≡ 0 → sizeOf (signature (e .signatures) f .commands) ≡ 0) → readSaid r ≡ (walk R (R .owned) (d .commands) then ok tt)) ⌝ }
 {
+    let mut quiet = [0; 4096];
+    mark_quiet(&mut quiet, s, &counts);
     let bodies = t.bodies;
     let mut free = owned.words;
     let fault = walk_block(
         s,
         &bodies,
-        &counts,
+        &quiet,
         rows,
         t.count,
         Names::main(),

@@ -1,11 +1,12 @@
-// The walk over blocks: a loop goes over a block's statements; only nesting and callees recurse. The free locations are lent, as the words of
-// their set, and each walk leaves there what is free after it.
+// The walk over blocks: a loop goes over a block's statements, runs of quiet ones in one move; only nesting and callees recurse. The free
+// locations are lent, as the words of their set, and each walk leaves there what is free after it.
 use super::free::add;
 use super::free::no_path;
 use super::free::remove;
 use super::names::Names;
 use super::positions::block_end;
 use super::positions::statement_end;
+use super::quiet::skip;
 use rules::bytes::wide;
 use rules::place::Location;
 ghost use mathlib.Core.Bool.{true, false};
@@ -31,7 +32,7 @@ fn is_inner(op: u8) -> bool
 pub fn walk_block(
     s: &[u8],
     bodies: &[usize; 16],
-    counts: &[usize; 16],
+    quiet: &[u16; 4096],
     rows: &[u64; 1024],
     g: usize,
     names: Names,
@@ -39,17 +40,17 @@ pub fn walk_block(
     mut frame: [Location; 32],
     free: &mut [u64; 4],
 ) -> usize
-    requires { ⌜ BlockAt (now s) (now bodies) g names at ⌝ }
+    requires { ⌜ BlockAt (now s) (now bodies) (now quiet) g names at ⌝ }
     requires { ⌜ length (now free) ≡ 4 ⌝ }
     ensures long { λ _. ⌜ length (now (free .exit)) ≡ 4 ⌝ }
-    ensures walks { λ r. ⌜ BlockWalked (now (s .entry)) (now (bodies .entry)) (now (counts .entry)) (now (rows .entry)) g names at frame (setOf (now (free .entry))) (leaves r (now (free .exit))) ⌝ }
+    ensures walks { λ r. ⌜ BlockWalked (now (s .entry)) (now (bodies .entry)) (now (quiet .entry)) (now (rows .entry)) g names at frame (setOf (now (free .entry))) (leaves r (now (free .exit))) ⌝ }
 {
     let stop = block_end(s, at);
-    let mut p = at + 2;
+    let mut p = skip(quiet, at + 2, stop);
     while p != stop {
         let op = s[p];
-        let next = statement_end(s, p);
-        // an init, a free, a merge, what recurses; the others have no commands
+        let next = skip(quiet, statement_end(s, p), stop);
+        // an init, a free, a merge, what recurses; a quiet one is met where it ends the file
         if op < 3 {
             let l = names.location(s[p + 2]);
             frame[wide(s[p + 1])] = l;
@@ -65,11 +66,11 @@ pub fn walk_block(
             }
         } else if is_inner(op) {
             let fault = if op == 10 {
-                walk_if(s, bodies, counts, rows, g, names, p, frame, free)
+                walk_if(s, bodies, quiet, rows, g, names, p, frame, free)
             } else if op == 11 {
-                walk_while(s, bodies, counts, rows, g, names, p, frame, free)
+                walk_while(s, bodies, quiet, rows, g, names, p, frame, free)
             } else {
-                walk_call(s, bodies, counts, rows, g, names, p, free)
+                walk_call(s, bodies, quiet, rows, g, names, p, free)
             };
             if fault != 0 {
                 return fault;
@@ -84,7 +85,7 @@ pub fn walk_block(
 fn walk_if(
     s: &[u8],
     bodies: &[usize; 16],
-    counts: &[usize; 16],
+    quiet: &[u16; 4096],
     rows: &[u64; 1024],
     g: usize,
     names: Names,
@@ -92,20 +93,20 @@ fn walk_if(
     frame: [Location; 32],
     free: &mut [u64; 4],
 ) -> usize
-    requires { ⌜ StatementAt (now s) (now bodies) g names at × (byte (now s) at ≡ 10) ⌝ }
+    requires { ⌜ StatementAt (now s) (now bodies) (now quiet) g names at × (byte (now s) at ≡ 10) ⌝ }
     requires { ⌜ length (now free) ≡ 4 ⌝ }
     ensures long { λ _. ⌜ length (now (free .exit)) ≡ 4 ⌝ }
-    ensures walks { λ r. ⌜ StatementWalked (now (s .entry)) (now (bodies .entry)) (now (counts .entry)) (now (rows .entry)) g names at frame (setOf (now (free .entry))) (leaves r (now (free .exit))) ⌝ }
+    ensures walks { λ r. ⌜ StatementWalked (now (s .entry)) (now (bodies .entry)) (now (quiet .entry)) (now (rows .entry)) g names at frame (setOf (now (free .entry))) (leaves r (now (free .exit))) ⌝ }
 {
     let mut other = *free;
-    let first = walk_block(s, bodies, counts, rows, g, names, at + 2, frame, free);
+    let first = walk_block(s, bodies, quiet, rows, g, names, at + 2, frame, free);
     if first != 0 {
         return first;
     }
     walk_block(
         s,
         bodies,
-        counts,
+        quiet,
         rows,
         g,
         names,
@@ -119,7 +120,7 @@ fn walk_if(
 fn walk_while(
     s: &[u8],
     bodies: &[usize; 16],
-    counts: &[usize; 16],
+    quiet: &[u16; 4096],
     rows: &[u64; 1024],
     g: usize,
     names: Names,
@@ -127,49 +128,36 @@ fn walk_while(
     frame: [Location; 32],
     free: &[u64; 4],
 ) -> usize
-    requires { ⌜ StatementAt (now s) (now bodies) g names at × (byte (now s) at ≡ 11) ⌝ }
+    requires { ⌜ StatementAt (now s) (now bodies) (now quiet) g names at × (byte (now s) at ≡ 11) ⌝ }
     requires { ⌜ length (now free) ≡ 4 ⌝ }
-    ensures { λ r. ⌜ StatementWalked (now (s .entry)) (now (bodies .entry)) (now (counts .entry)) (now (rows .entry)) g names at frame (setOf (now (free .entry))) (leaves r (now (free .entry))) ⌝ }
+    ensures { λ r. ⌜ StatementWalked (now (s .entry)) (now (bodies .entry)) (now (quiet .entry)) (now (rows .entry)) g names at frame (setOf (now (free .entry))) (leaves r (now (free .entry))) ⌝ }
 {
     let mut inside = *free;
-    walk_block(
-        s,
-        bodies,
-        counts,
-        rows,
-        g,
-        names,
-        at + 2,
-        frame,
-        &mut inside,
-    )
+    walk_block(s, bodies, quiet, rows, g, names, at + 2, frame, &mut inside)
 }
 
-// The callee's body at the call's locations, unless it has no commands; the caller's frame stays.
+// The callee's body at the call's locations; the caller's frame stays.
 fn walk_call(
     s: &[u8],
     bodies: &[usize; 16],
-    counts: &[usize; 16],
+    quiet: &[u16; 4096],
     rows: &[u64; 1024],
     g: usize,
     names: Names,
     at: usize,
     free: &mut [u64; 4],
 ) -> usize
-    requires { ⌜ StatementAt (now s) (now bodies) g names at × (byte (now s) at ≡ 12) ⌝ }
+    requires { ⌜ StatementAt (now s) (now bodies) (now quiet) g names at × (byte (now s) at ≡ 12) ⌝ }
     requires { ⌜ length (now free) ≡ 4 ⌝ }
     ensures long { λ _. ⌜ length (now (free .exit)) ≡ 4 ⌝ }
-    ensures walks { λ r. ⌜ CallWalked (now (s .entry)) (now (bodies .entry)) (now (counts .entry)) (now (rows .entry)) g names at (setOf (now (free .entry))) (leaves r (now (free .exit))) ⌝ }
+    ensures walks { λ r. ⌜ CallWalked (now (s .entry)) (now (bodies .entry)) (now (quiet .entry)) (now (rows .entry)) g names at (setOf (now (free .entry))) (leaves r (now (free .exit))) ⌝ }
 {
     let f = wide(s[at + 1]);
-    if counts[f] == 0 {
-        return 0;
-    }
     let inner = names.of_call(s, at + 4, wide(s[at + 2]));
     walk_block(
         s,
         bodies,
-        counts,
+        quiet,
         rows,
         f,
         inner,

@@ -1,6 +1,7 @@
 pub mod LowBits
 pub mod Members
 pub mod Swept
+pub mod Levels
 pub mod Written
 pub mod Sizes
 pub mod Sides

@@ -14,17 +14,13 @@ use Rattle.sets.specs.Sets.{bitOf, has}
 use Rattle.sets.proofs.Bits.{bit-lt, no-bit}
 use Rattle.sets.proofs.Bools.{side}
 use Rattle.sets.proofs.SetLaws.{in-word, off-word}
-use Rattle.route.specs.Sweeps.{Lowest, Cleared}
+use Rattle.route.specs.Sweeps.{Lowest, Cleared, Word}
 
 -- r is what is left of w from bit m on
 pub record Rest (w r m : ℕ) : Type 0 where
   pub room : m ≤ 64
   pub done : (j : ℕ) → j < m → bitOf r j ≡ 0
   pub same : (j : ℕ) → m ≤ j → bitOf r j ≡ bitOf w j
-
--- w is word i of S
-pub record Word (S : ℕ → Bool) (i w : ℕ) : Type 0 where
-  pub bit : (j : ℕ) → j < 64 → S (i * 64 + j) ≡ eqb (bitOf w j) 1
 
 pub set-word : (s : LocationSet) (i : ℕ) → i < 4 → Word (has s) i (getD (s .words) i 0)
 set-word s i h = record { bit = λ j l. go j l (bitOf (getD (s .words) i 0) j) refl (bit-lt _ j) }

@@ -21,26 +21,30 @@ gap {n = n} f x h p = ⊎-elim (λ l. l) (λ l. absurd (clash p (f x l h))) (sid
 
 module _ {rows : List ℕ} {S : ℕ → Bool} where
   pub joined-start : {out : LocationSet} → ((y : ℕ) → has out y ≡ false) → Joined rows S 0 out
-  joined-start e = record { to = λ y p. absurd (clash p (e y)); all = λ x y h. absurd (omega arith) }
+  joined-start e = record { to = λ y p f. absurd (clash p (e y)); all = λ x y h. absurd (omega arith) }
 
   module _ {n : ℕ} {out : LocationSet} (u : Joined rows S n out) where
     pub joined-skip : (m : ℕ) → n ≤ m → ((z : ℕ) → n ≤ z → z < m → S z ≡ false) → Joined rows S m out
     joined-skip m l f =
         record {
-          to = λ y p. let t = u .to y p in let k = t .1 in (t .0, omega arith, t .2, t .3);
+          to = λ y p g. let t = u .to y p g in let k = t .1 in (t .0, omega arith, t .2, t .3);
           all = λ x y h p. u .all x y (gap f x h p) p;
         }
 
     pub joined-more : {to : LocationSet} → S n ≡ true → ((y : ℕ) → has to y ≡ (has out y || has (rowOf rows n) y)) → Joined rows S (n + 1) to
     joined-more {to} p e =
         record {
-          to = λ y q. ⊎-elim (λ a. let t = u .to y a in let k = t .1 in (t .0, omega arith, t .2, t .3)) (λ a. (n, omega arith, p, a)) (or-cases _ _ (sym (e y) ∙ q));
+          to = λ y q g. ⊎-elim (λ a. let t = u .to y a g in let k = t .1 in (t .0, omega arith, t .2, t .3)) (λ a. (n, omega arith, p, a)) (or-cases _ _ (sym (e y) ∙ q));
           all = λ x y h q r. all x y h q r (ℕ-discrete x n);
         }
       where
         all : (x y : ℕ) → x < n + 1 → S x ≡ true → has (rowOf rows x) y ≡ true → Dec (x ≡ n) → has to y ≡ true
         all x y h q r (yes d) = e y ∙ or-right (has out y) _ (subst (λ (z : ℕ). has (rowOf rows z) y ≡ true) d r)
         all x y h q r (no d) = e y ∙ or-left (has out y) _ (u .all x y (omega arith) q r)
+
+    -- members of S besides
+    pub joined-own : {own : LocationSet} → ((y : ℕ) → has own y ≡ true → S y ≡ false → has out y ≡ true) → ((y : ℕ) → has out y ≡ true → has own y ≡ true) → Joined rows S n own
+    joined-own e f = record { to = λ y p g. u .to y (e y p g) g; all = λ x y h q r. f y (u .all x y h q r) }
 
 module _ {S : ℕ → Bool} {v : ℕ} where
   pub noted-start : {h : List ℕ} → Noted S v 0 h h

@@ -12,8 +12,7 @@ use Rattle.rules.specs.Region.{Region, joined}
 use Rattle.rules.specs.Path.{between, Along, last, route}
 use Rattle.sets.specs.declared.LocationSet.{LocationSet}
 use Rattle.sets.specs.Sets.{has, rowOf}
-use Rattle.sets.proofs.Bools.{clash}
-use Rattle.sets.proofs.SetLaws.{has-lt}
+use Rattle.sets.proofs.Bools.{clash, and-both, not-of}
 use Rattle.device.specs.Reader.{Rows}
 use Rattle.route.specs.Found.{edgesOf}
 use Rattle.route.specs.Sweeps.{Joined}
@@ -89,31 +88,31 @@ module _ {R : Region} {rows : List ℕ} (w : Rows R rows) where
       }
 
   -- after one turn comes the other end's
-  pub turn-next : {B J F L L' : ℕ → Bool} {p q k : ℕ} (s t : LocationSet) → Turn (joined R) B p q J F L k
-      → ((y : ℕ) → has s y ≡ (J y && L y)) → ((y : ℕ) → has s y ≡ true → F y ≡ true → ⊥) → ((y : ℕ) → L' y ≡ (L y && not (has s y))) → Joined rows (has s) 256 t
+  pub turn-next : {B J F N L L' : ℕ → Bool} {p q k : ℕ} (t : LocationSet) → Turn (joined R) B p q J F L k
+      → ((y : ℕ) → N y ≡ (J y && L y)) → ((y : ℕ) → N y ≡ true → y < 256) → ((y : ℕ) → N y ≡ true → F y ≡ true → ⊥) → ((y : ℕ) → L' y ≡ (L y && not (N y))) → Joined rows N 256 t
       → Turn (joined R) B q p F (has t) L' (k + 1)
-  turn-next s t v n never l j =
-      let u = raise (v .P) (has s) (v .m) in
+  turn-next {N = N} {L = L} t v n small never l j =
+      let u = raise (v .P) N (v .m) in
       let e = v .sum in
       record {
         P = v .Q;
-        Q = raised (v .P) (has s) (v .m);
+        Q = raised (v .P) N (v .m);
         m = v .n;
         n = suc (v .m);
         both = swap (joined-even R) (turn (joined-even R) (v .both) (v .mine) n u (v .other) never l);
         mine = turn-fewer (joined-even R) (v .both) (v .mine) n u (v .other) never l;
         other = turn-joins (joined-even R) (v .both) (v .mine) n u (v .other) never l
-            (λ x y h d r. j .all y x (has-lt s y r) r (edge-row x y d))
-            (λ x h r. let o = j .to x r in (o .0, row-edge (o .0) x (o .3), o .2));
+            (λ x y h d r. j .all y x (small y r) r (edge-row x y d))
+            (λ x h r. let o = j .to x r (not-of (N x) (and-both (L x) (not (N x)) (sym (l x) ∙ h) .1)) in (o .0, row-edge (o .0) x (o .3), o .2));
         sum = omega arith;
       }
 
   -- either end's turn, then the other's
-  pub turns-next : {B J F L L' : ℕ → Bool} {a b k : ℕ} (s t : LocationSet) → Turn (joined R) B b a J F L k ⊎ Turn (joined R) B a b J F L k
-      → ((y : ℕ) → has s y ≡ (J y && L y)) → ((y : ℕ) → has s y ≡ true → F y ≡ true → ⊥) → ((y : ℕ) → L' y ≡ (L y && not (has s y))) → Joined rows (has s) 256 t
+  pub turns-next : {B J F N L L' : ℕ → Bool} {a b k : ℕ} (t : LocationSet) → Turn (joined R) B b a J F L k ⊎ Turn (joined R) B a b J F L k
+      → ((y : ℕ) → N y ≡ (J y && L y)) → ((y : ℕ) → N y ≡ true → y < 256) → ((y : ℕ) → N y ≡ true → F y ≡ true → ⊥) → ((y : ℕ) → L' y ≡ (L y && not (N y))) → Joined rows N 256 t
       → Turn (joined R) B b a F (has t) L' (k + 1) ⊎ Turn (joined R) B a b F (has t) L' (k + 1)
-  turns-next s t (inl v) n never l j = inr (turn-next s t v n never l j)
-  turns-next s t (inr v) n never l j = inl (turn-next s t v n never l j)
+  turns-next t (inl v) n small never l j = inr (turn-next t v n small never l j)
+  turns-next t (inr v) n small never l j = inl (turn-next t v n small never l j)
 
 module _ (R : Region) {free B : ℕ → Bool} {a b : ℕ} (i : Inner free a b B) (d : a ≡ b → ⊥) where
   found-here : {J F L : ℕ → Bool} {k : ℕ} → Turn (joined R) B b a J F L k → (y : ℕ) → L y ≡ true → J y ≡ true → F y ≡ true → k + 1 ≡ edgesOf (route R free a b)

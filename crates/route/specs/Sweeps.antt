@@ -2,7 +2,8 @@
 use mathlib.Core.Bool.{Bool, true, false, not, _&&_}
 use mathlib.Core.List.{List}
 use mathlib.Core.Path.{_≡_}
-use Prim.Native.Nat.{ℕ, _≤_, _<_}
+use Prim.Native.Nat.{ℕ, _+_, _*_, _≤_, _<_}
+use lib.Dec.{eqb}
 use lib.ListN.{length, getD}
 use Rattle.sets.specs.declared.LocationSet.{LocationSet}
 use Rattle.sets.specs.Sets.{bitOf, has, rowOf}
@@ -19,10 +20,35 @@ pub record Cleared (w r : ℕ) : Type 0 where
   pub off : (t : ℕ) → Lowest w t → bitOf r t ≡ 0
   pub same : (t j : ℕ) → Lowest w t → (j ≡ t → ⊥) → bitOf r j ≡ bitOf w j
 
--- out has what the members of S are joined to
+-- w is word i of S
+pub record Word (S : ℕ → Bool) (i w : ℕ) : Type 0 where
+  pub bit : (j : ℕ) → j < 64 → S (i * 64 + j) ≡ eqb (bitOf w j) 1
+
+-- r is s with the word w at i
+pub record Put (s : LocationSet) (i w : ℕ) (r : LocationSet) : Type 0 where
+  pub here : Word (has r) i w
+  pub under : (y : ℕ) → y < i * 64 → has r y ≡ has s y
+  pub above : (y : ℕ) → i * 64 + 64 ≤ y → has r y ≡ has s y
+
+-- out has what the members of S are joined to; which members of S it has is left open
 pub record Joined (rows : List ℕ) (S : ℕ → Bool) (n : ℕ) (out : LocationSet) : Type 0 where
-  pub to : (y : ℕ) → has out y ≡ true → (x : ℕ) × (x < n) × (S x ≡ true) × (has (rowOf rows x) y ≡ true)
+  pub to : (y : ℕ) → has out y ≡ true → S y ≡ false → (x : ℕ) × (x < n) × (S x ≡ true) × (has (rowOf rows x) y ≡ true)
   pub all : (x y : ℕ) → x < n → S x ≡ true → has (rowOf rows x) y ≡ true → has out y ≡ true
+
+-- an end's turn that meets nothing: N is its new level, F what the other end's newest level is joined to, L what was left before; left has what is
+-- left afterwards, out what N is joined to, and any is 0 where N has no location
+pub record Advanced (rows : List ℕ) (N F L : ℕ → Bool) (n : ℕ) (left out : LocationSet) (any : ℕ) : Type 0 where
+  pub taken : (y : ℕ) → y < n → has left y ≡ (L y && not (N y))
+  pub later : (y : ℕ) → n ≤ y → has left y ≡ L y
+  pub next : Joined rows N n out
+  pub some : (any ≡ 0 → ⊥) → (y : ℕ) × (N y ≡ true)
+  pub none : any ≡ 0 → (y : ℕ) → y < n → N y ≡ false
+  pub apart : (y : ℕ) → y < n → N y ≡ true → F y ≡ true → ⊥
+
+-- a turn: it says met where N meets F, and nothing else then
+pub record Turned (rows : List ℕ) (N F L : ℕ → Bool) (n : ℕ) (left out : LocationSet) (any : ℕ) (met : Bool) : Type 0 where
+  pub meets : met ≡ true → (y : ℕ) × (N y ≡ true) × (F y ≡ true)
+  pub on : met ≡ false → Advanced rows N F L n left out any
 
 -- v stands at the members of S, and elsewhere what stood there before
 pub record Noted (S : ℕ → Bool) (v n : ℕ) (before after : List ℕ) : Type 0 where

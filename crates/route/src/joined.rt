@@ -1,30 +1,19 @@
-// What the members of a set are joined to.
+// What the members of a set in one word are joined to.
 use super::words::low;
 use super::words::rest;
 use sets::LocationSet;
 use sets::rows;
-ghost use Prim.Native.Nat.{_+_, _*_, _<_};
-ghost use Rattle.sets.specs.Sets.{has};
-ghost use Rattle.route.specs.Sweeps.{Joined};
+ghost use mathlib.Core.Bool.{Bool};
+ghost use Prim.Native.Nat.{ℕ, _+_, _*_, _<_};
+ghost use Rattle.route.specs.Sweeps.{Word, Joined};
 
-// The locations that some member of a set is joined to.
-pub fn joined_to(rows: &[u64; 1024], s: LocationSet) -> LocationSet
-    ensures { λ r. ⌜ Joined (now (rows .entry)) (has s) 256 r ⌝ }
-{
-    let none = LocationSet::empty();
-    let first = join_word(rows, s, 0, none);
-    let second = join_word(rows, s, 1, first);
-    let third = join_word(rows, s, 2, second);
-    join_word(rows, s, 3, third)
-}
-
-// With what the members in one word of the set are joined to.
-fn join_word(rows: &[u64; 1024], s: LocationSet, i: usize, to: LocationSet) -> LocationSet
+// With what the members in word i of a set are joined to.
+pub fn join_word(rows: &[u64; 1024], i: usize, word: u64, to: LocationSet) -> LocationSet
     requires { ⌜ i < 4 ⌝ }
-    ensures { λ r. ⌜ (Joined (now (rows .entry)) (has s) (i * 64) to → Joined (now (rows .entry)) (has s) (i * 64 + 64) r) ⌝ }
+    ensures { λ r. ⌜ ((S : ℕ → Bool) → Word S i word → Joined (now (rows .entry)) S (i * 64) to → Joined (now (rows .entry)) S (i * 64 + 64) r) ⌝ }
 {
     let mut out = to;
-    let mut w = s.words[i];
+    let mut w = word;
     while w != 0 {
         let x = i * 64 + low(w);
         out = out.union(rows::row(rows, x));

@@ -1,9 +1,9 @@
 // The route search over a region's rows of bits: how many edges the route between two ends has, and the route itself.
-use joined::joined_to;
 use search::search;
 use sets::LocationSet;
 use sets::rows;
 use trace::trace;
+use turn::advance;
 ghost use mathlib.Core.Path.{_≡_};
 ghost use Prim.Native.Nat.{_<_};
 ghost use lib.ListN.{length};
@@ -17,6 +17,7 @@ mod front;
 mod joined;
 mod search;
 mod trace;
+mod turn;
 mod words;
 
 // What a search for a route answers: how many locations it wrote, that there is no path, or that the buffer is too short.
@@ -44,17 +45,17 @@ pub fn distance(rows: &[u64; 1024], free: LocationSet, a: usize, b: usize) -> us
     let mut left = free.remove(a).remove(b);
     let mut k: usize = 1;
     loop {
-        let next = joined.common(left);
-        if next.is_empty() {
-            return 0;
-        }
+        let turn = advance(rows, joined, other, left);
         k += 1;
-        if !other.common(next).is_empty() {
+        if turn.met {
             return k;
         }
-        left = left.without(next);
+        if turn.any == 0 {
+            return 0;
+        }
+        left = turn.left;
         joined = other;
-        other = joined_to(rows, next);
+        other = turn.joined;
     }
 }
 

@@ -1,18 +1,17 @@
 -- The invariant: it is one end's turn, and the levels and the locations that are left are no more than the device has.
-use mathlib.Core.Bool.{Bool, true, false}
+use mathlib.Core.Bool.{Bool, false, _&&_}
 use mathlib.Core.Logic.{_⊎_, inl}
 use mathlib.Core.Path.{_≡_, refl, sym, ap, _∙_}
 use native.Mathlib.Omega.{arith}
 use Prim.Native.Nat.{ℕ, _+_, _≤_, _<_}
-use borrow.Author.Tests.{not-false}
 use Rattle.rules.specs.Region.{Region, joined}
-use Rattle.sets.specs.declared.LocationSet.{LocationSet}
-use Rattle.sets.specs.Sets.{has, rowOf}
-use Rattle.sets.proofs.Bools.{clash, and-both, both-and, not-of}
+use Rattle.sets.specs.Sets.{has}
 use Rattle.sets.proofs.SetLaws.{has-lt}
 use Rattle.device.specs.Reader.{Rows}
 use Rattle.route.specs.Found.{edgesOf}
+use Rattle.route.specs.Sweeps.{Turned}
 use Rattle.route.proofs.Sizes.{count, count-but-two, count-some, set-less}
+use Rattle.route.proofs.Levels.{level-left, level-lt, level-none, level-apart, all-taken}
 use Rattle.route.proofs.Turns.{Turn, Inner, inner-of, inner-first, inner-second, turn-start, turns-next, turns-found, turns-none, ends-joined, ends-same}
 use borrow.Author.Needs.{needs}
 use Rattle.route.proofs.distance.Statement.{statement}
@@ -66,66 +65,58 @@ loop-holds c =
       λ R w. inl (turn-start w (c .before .before .row2 .result) (c .before .before .before .before .before .row .result) i (c .before .before .row2 .ensures) (c .before .before .before .before .before .row .ensures) (sym (c .before .before .before .before .contains .ensures) ∙ c .before .before .before .if2 .left)),
     )
 
-common-requires : tie.Need-common-requires Inv-loop μ-loop
-common-requires c κs = search needs
+advance-requires : tie.Need-advance-requires Inv-loop μ-loop
+advance-requires c κs = search needs
 
-is-empty-requires : tie.Need-is-empty-requires Inv-loop μ-loop
-is-empty-requires c κs = search needs
+-- the new level
+abbrev level : tie.After-advance Inv-loop μ-loop → ℕ → Bool
+level c y = has (c .before .loop .joined) y && has (c .before .loop .left) y
+
+turned : (c : tie.After-advance Inv-loop μ-loop)
+    → Turned (c .before .before .before .before .before .before .before .before .before .args .rows .now) (level c) (has (c .before .loop .other)) (has (c .before .loop .left)) 256 (c .advance .result .left) (c .advance .result .joined) (c .advance .result .any) (c .advance .result .met)
+turned c = c .advance .ensures (level c) (λ y. refl)
+
+add-k : tie.Need-add-k Inv-loop μ-loop
+add-k c = omega (arith, c .before .loop .inv .0)
 
 returns-3 : tie.Need-returns-3 Inv-loop μ-loop
 returns-3 c =
-    let l = c .before .before .before .loop in
-    let d = c .before .before .before .before in
-    let e = c .before .is-empty .ensures .0 (c .if3 .taken) in (
-      (λ R w. turns-none R (inner d) (d .before .before .before .before .before .before .if1 .left) (l .inv .1 R w)
-          (λ y p q. clash (c .before .before .common .ensures y ∙ both-and (has (l .joined) y) (has (l .left) y) q p) (e y))),
-      omega arith,
-    )
-
-add-k : tie.Need-add-k Inv-loop μ-loop
-add-k c = omega (arith, c .before .before .before .loop .inv .0)
-
-common-requires-2 : tie.Need-common-requires-2 Inv-loop μ-loop
-common-requires-2 c κs = search needs
-
-is-empty-requires-2 : tie.Need-is-empty-requires-2 Inv-loop μ-loop
-is-empty-requires-2 c κs = search needs
+    let v = c .before in
+    let l = v .before .loop in
+    let d = v .before .before in
+    let t = turned v .meets (c .if3 .taken) in
+    let n = level-left (has (l .joined)) (has (l .left)) (λ y. refl) (t .0) (t .1) in
+    let z = count-some (has (l .left)) 256 (t .0) (has-lt (l .left) (t .0) (n .1)) (n .1) in
+    ((λ R w. turns-found R (inner d) (d .before .before .before .before .before .before .if1 .left) (l .inv .1 R w) (t .0) (n .1) (n .0) (t .2)), omega (arith, l .inv .0))
 
 returns-4 : tie.Need-returns-4 Inv-loop μ-loop
 returns-4 c =
-    let l = c .before .before .before .before .before .before .loop in
-    let d = c .before .before .before .before .before .before .before in
-    let t = c .before .is-empty2 .ensures .1 (not-of _ (c .if4 .taken)) in
-    let o = and-both (has (l .other) (t .0)) (has (c .before .before .before .before .before .common .result) (t .0)) (sym (c .before .before .common2 .ensures (t .0)) ∙ t .1) in
-    let n = and-both (has (l .joined) (t .0)) (has (l .left) (t .0)) (sym (c .before .before .before .before .before .common .ensures (t .0)) ∙ o .1) in
-    let z = count-some (has (l .left)) 256 (t .0) (has-lt (l .left) (t .0) (n .1)) (n .1) in
-    ((λ R w. turns-found R (inner d) (d .before .before .before .before .before .before .if1 .left) (l .inv .1 R w) (t .0) (n .1) (n .0) (o .0)), omega (arith, l .inv .0))
-
-without-requires : tie.Need-without-requires Inv-loop μ-loop
-without-requires c κs = search needs
-
-joined-to-requires : tie.Need-joined-to-requires Inv-loop μ-loop
-joined-to-requires c κs = search needs
+    let v = c .before .before .before in
+    let l = v .before .loop in
+    let d = v .before .before in
+    let u = turned v .on (c .before .before .if3 .left) in
+    ((λ R w. turns-none R (inner d) (d .before .before .before .before .before .before .if1 .left) (l .inv .1 R w) (level-none (has (l .joined)) (l .left) (λ y. refl) u (c .if4 .taken))), omega arith)
 
 -- a level takes one at least
-shrinks : (c : tie.After-joined-to Inv-loop μ-loop) → count (has (c .before .without .result)) 256 < count (has (c .before .before .before .before .before .before .before .before .loop .left)) 256
-shrinks c =
-    let n = c .before .before .before .before .before .before .before .common in
-    let l = c .before .before .before .before .before .before .before .before .loop in
-    let t = c .before .before .before .before .before .before .is-empty .ensures .1 (c .before .before .before .before .before .if3 .left) in
-    set-less (n .result) (l .left) (c .before .without .result) (c .before .without .ensures) (t .0) (t .1) (and-both (has (l .joined) (t .0)) (has (l .left) (t .0)) (sym (n .ensures (t .0)) ∙ t .1) .1)
+shrinks : (c : tie.After-advance Inv-loop μ-loop) → c .advance .result .met ≡ false → (c .advance .result .any ≡ 0 → ⊥) → count (has (c .advance .result .left)) 256 < count (has (c .before .loop .left)) 256
+shrinks c m a =
+    let l = c .before .loop in
+    let u = turned c .on m in
+    let t = u .some a in
+    set-less (level c) (l .left) (c .advance .result .left) (all-taken (has (l .joined)) (l .left) (λ y. refl) u) (t .0) (t .1) (level-left (has (l .joined)) (has (l .left)) (λ y. refl) (t .0) (t .1) .1)
 
 loop-less : tie.Need-loop-less Inv-loop μ-loop
-loop-less c = shrinks c
+loop-less c = shrinks (c .before .before .before .before .before) (c .before .before .before .before .if3 .left) (c .before .before .if4 .left)
 
 loop-again : tie.Need-loop-again Inv-loop μ-loop
 loop-again c =
-    let l = c .before .before .before .before .before .before .before .before .loop in
-    let e = c .before .before .before .is-empty2 .ensures .0 (not-false _ (c .before .before .if4 .left)) in
-    let z = shrinks c in (
+    let v = c .before .before .before .before .before in
+    let l = v .before .loop in
+    let z = shrinks v (c .before .before .before .before .if3 .left) (c .before .before .if4 .left) in
+    let u = turned v .on (c .before .before .before .before .if3 .left) in (
       omega (arith, l .inv .0),
-      λ R w. turns-next w (c .before .before .before .before .before .before .before .common .result) (c .joined-to .result) (l .inv .1 R w) (c .before .before .before .before .before .before .before .common .ensures)
-          (λ y p q. clash (c .before .before .before .before .common2 .ensures y ∙ both-and (has (l .other) y) _ q p) (e y)) (c .before .without .ensures) (c .joined-to .ensures),
+      λ R w. turns-next w (v .advance .result .joined) (l .inv .1 R w) (λ y. refl) (level-lt (has (l .joined)) (l .left) (λ y. refl) u)
+          (level-apart (has (l .joined)) (l .left) (λ y. refl) u) (all-taken (has (l .joined)) (l .left) (λ y. refl) u) (u .next),
     )
 
 pub distance-spec : {M : Type 1} → statement M
@@ -142,14 +133,9 @@ distance-spec =
     remove-requires
     remove-requires-2
     loop-holds
-    common-requires
-    is-empty-requires
-    returns-3
+    advance-requires
     add-k
-    common-requires-2
-    is-empty-requires-2
+    returns-3
     returns-4
-    without-requires
-    joined-to-requires
     loop-less
     loop-again)

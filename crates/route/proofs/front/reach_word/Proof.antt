@@ -5,8 +5,8 @@ use mathlib.Core.Path.{_≡_, ap, _∙_}
 use native.Mathlib.Omega.{arith}
 use Prim.Native.Nat.{ℕ, _+_, _*_, _<_}
 use lib.ListN.{length}
-use Rattle.route.specs.Sweeps.{Spread}
-use Rattle.route.proofs.Members.{Rest, Word, set-word, rest-start, rest-more, rest-first, rest-here, rest-between, rest-end}
+use Rattle.route.specs.Sweeps.{Word, Spread}
+use Rattle.route.proofs.Members.{Rest, set-word, rest-start, rest-more, rest-first, rest-here, rest-between, rest-end}
 use Rattle.route.proofs.Swept.{spread-skip}
 use borrow.Author.Needs.{needs}
 use Rattle.route.proofs.front.reach_word.Statement.{statement}

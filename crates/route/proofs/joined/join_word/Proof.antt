@@ -1,27 +1,21 @@
 -- The invariant: the word's members below those that are left are done.
 use mathlib.Core.Bool.{Bool, _||_}
-use mathlib.Core.Path.{_≡_, ap, _∙_}
+use mathlib.Core.Path.{ap, _∙_}
 use native.Mathlib.Omega.{arith}
-use Prim.Native.Nat.{ℕ, _+_, _*_, _<_}
-use Rattle.sets.specs.Sets.{has, rowOf}
-use Rattle.route.specs.Sweeps.{Joined}
-use Rattle.route.proofs.Members.{Rest, Word, set-word, rest-start, rest-more, rest-first, rest-here, rest-between, rest-end}
+use Prim.Native.Nat.{ℕ, _+_, _*_}
+use Rattle.sets.specs.Sets.{has}
+use Rattle.route.specs.Sweeps.{Word, Joined}
+use Rattle.route.proofs.Members.{Rest, rest-start, rest-more, rest-first, rest-here, rest-between, rest-end}
 use Rattle.route.proofs.Swept.{joined-skip, joined-more}
 use borrow.Author.Needs.{needs}
 use Rattle.route.proofs.joined.join_word.Statement.{statement}
 use Rattle.route.proofs.joined.join_word.Tie as tie
 
 abbrev Inv-loop : tie.InvT-loop
-Inv-loop rows i out₀ w₀ out w = (m : ℕ) × Rest w₀ w m × ((S : ℕ → Bool) → Word S i w₀ → Joined rows S (i * 64) out₀ → Joined rows S (i * 64 + m) out)
+Inv-loop rows i word out₀ w₀ out w = (m : ℕ) × Rest word w m × ((S : ℕ → Bool) → Word S i word → Joined rows S (i * 64) out₀ → Joined rows S (i * 64 + m) out)
 
 abbrev μ-loop : tie.MeasureT-loop
-μ-loop rows i out₀ w₀ out w = w
-
-mul-w : tie.Need-mul-w Inv-loop μ-loop
-mul-w c = search needs
-
-element-copy-out-w : tie.Need-element-copy-out-w Inv-loop μ-loop
-element-copy-out-w c = search needs
+μ-loop rows i word out₀ w₀ out w = w
 
 loop-holds : tie.Need-loop-holds Inv-loop μ-loop
 loop-holds c = (0, rest-start _, λ S s j. joined-skip j _ (omega arith) (λ z h l. absurd (omega arith)))
@@ -56,7 +50,7 @@ loop-again c =
       t + 1,
       rest-more u t _ o (c .rest .ensures),
       λ S s j. joined-skip
-          (joined-more (joined-skip (l .inv .2 S s j) (c .before .before .before .before .before .before .before .args .i * 64 + t) (let h = rest-first u t o in omega arith) (rest-between u s t o)) (rest-here u s t o)
+          (joined-more (joined-skip (l .inv .2 S s j) (c .before .before .before .before .before .before .args .i * 64 + t) (let h = rest-first u t o in omega arith) (rest-between u s t o)) (rest-here u s t o)
           (λ y. c .before .union .ensures y ∙ ap (λ r. has (l .out) y || has r y) (c .before .before .row .ensures)))
           _ (omega arith) (λ z h k. absurd (omega arith)),
     )
@@ -65,8 +59,7 @@ returns : tie.Need-returns Inv-loop μ-loop
 returns c =
     let l = c .before .loop in
     let u = l .inv .1 in
-    let s = set-word (c .before .before .before .args .t2) (c .before .before .before .args .i) (c .before .before .before .pre) in
-    λ j. joined-skip (l .inv .2 _ s j) _ (let h = u .room in omega arith) (rest-end u s (c .loop-test .left))
+    λ S s j. joined-skip (l .inv .2 S s j) _ (let h = u .room in omega arith) (rest-end u s (c .loop-test .left))
 
 pub join-word-spec : {M : Type 1} → statement M
 join-word-spec =
@@ -74,8 +67,6 @@ join-word-spec =
     (tie.spec
     Inv-loop
     μ-loop
-    mul-w
-    element-copy-out-w
     loop-holds
     mul-x
     low-requires

@@ -1872,7 +1872,8 @@ impl Corridor<'_> {
         if *taken { simple(&[1, 2, self.middle]) } else { simple(&[3, 2]) }
     }
 
-    /// Statements that end with the middle as it was, unless `free_to_change`.
+    /// Statements that end with the middle as it was, unless `free_to_change`; even then a
+    /// nested block may not end with a middle that it took, for that qubit would outlive it.
     fn block(&mut self, depth: usize, taken: &mut bool, free_to_change: bool) -> Block {
         let before = *taken;
         let mut block = Vec::new();
@@ -1923,7 +1924,8 @@ impl Corridor<'_> {
                 }
             }
         }
-        if !free_to_change && *taken != before {
+        let may_change = free_to_change && (depth == 1 || before);
+        if !may_change && *taken != before {
             block.push(self.toggle(taken));
         }
         self.outcome = outcome;

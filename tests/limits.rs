@@ -1,90 +1,27 @@
 //! The readers at the limits: for each refusal 1 to 10 the last file that reads and the first that does not, with number, place and file.
 //! The expected answers are written from the document.
 
-extern "C" {
-    fn abwakiris_read_device(bytes: *const u8, len: usize) -> u64;
-    fn abwakiris_read_program(bytes: *const u8, len: usize) -> u64;
-}
+mod cases;
+mod files;
+mod library;
 
-const DEVICE: u64 = 1;
-const PROGRAM: u64 = 16;
-
-fn word(n: usize) -> [u8; 2] {
-    [(n / 256) as u8, (n % 256) as u8]
-}
-
-/// A device file with this many locations, all owned by job 1, and these edges.
-fn device(n: usize, edges: &[(usize, usize)]) -> Vec<u8> {
-    let mut file = b"QLG\0\x01".to_vec();
-    file.extend(word(n));
-    file.extend(word(edges.len()));
-    file.extend(std::iter::repeat(1).take(n));
-    for &(a, b) in edges {
-        file.extend([a as u8, b as u8]);
-    }
-    file
-}
-
-/// The first edges in order between 256 locations.
-fn edges(count: usize) -> Vec<(usize, usize)> {
-    let all = (0..256).flat_map(|a| (a + 1..256).map(move |b| (a, b)));
-    all.take(count).collect()
-}
-
-fn block(statements: &[u8]) -> Vec<u8> {
-    [&word(statements.len())[..], statements].concat()
-}
-
-/// A program file: functions with k, m and body, then main.
-fn program(functions: &[(u8, u8, Vec<u8>)], main: &[u8]) -> Vec<u8> {
-    let mut file = b"QLS\0\x01".to_vec();
-    file.push(functions.len() as u8);
-    for (k, m, body) in functions {
-        file.extend([*k, *m]);
-        file.extend(block(body));
-    }
-    file.extend(block(main));
-    file
-}
-
-/// So many whiles, one in the other: main's block has depth 1, the innermost block depth `whiles` + 1.
-fn nested(whiles: usize) -> Vec<u8> {
-    (0..whiles).fold(Vec::new(), |inner, _| [&[11, 0][..], &block(&inner)].concat())
-}
-
-struct Tried {
-    cases: usize,
-    wrong: usize,
-}
+use cases::Tried;
+use files::{device, edges, nested, program, with};
+use library::{no, Call, DEVICE, PROGRAM};
 
 impl Tried {
-    fn case(&mut self, what: &str, answer: u64, number: u64, place: u64, file: u64) {
-        let expected = place | number << 32 | if number == 0 { 0 } else { file << 40 };
-        self.cases += 1;
-        if answer != expected {
-            self.wrong += 1;
-            println!("{what}: {} at {} in {}, not {number} at {place}", answer >> 32 & 255, answer as u32, answer >> 40);
-        }
-    }
-
     fn device(&mut self, what: &str, file: &[u8], number: u64, place: u64) {
-        let answer = unsafe { abwakiris_read_device(file.as_ptr(), file.len()) };
-        self.case(what, answer, number, place, DEVICE);
+        self.untouched(what, &Call::read_device(file), answer(number, place, DEVICE));
     }
 
     fn program(&mut self, what: &str, file: &[u8], number: u64, place: u64) {
-        let answer = unsafe { abwakiris_read_program(file.as_ptr(), file.len()) };
-        self.case(what, answer, number, place, PROGRAM);
+        self.untouched(what, &Call::read_program(file), answer(number, place, PROGRAM));
     }
 }
 
-/// The file with some bytes changed.
-fn with(file: &[u8], changes: &[(usize, u8)]) -> Vec<u8> {
-    let mut file = file.to_vec();
-    for &(at, byte) in changes {
-        file[at] = byte;
-    }
-    file
+/// The packed answer; number 0 is a file that reads.
+fn answer(number: u64, place: u64, file: u64) -> u64 {
+    if number == 0 { 0 } else { no(number, place, file) }
 }
 
 fn devices(t: &mut Tried) {
@@ -175,9 +112,8 @@ fn programs(t: &mut Tried) {
 }
 
 fn main() {
-    let mut t = Tried { cases: 0, wrong: 0 };
+    let mut t = Tried::new("limits");
     devices(&mut t);
     programs(&mut t);
-    println!("limits: {} cases, {} wrong", t.cases, t.wrong);
-    std::process::exit(if t.wrong == 0 { 0 } else { 1 });
+    t.end()
 }

@@ -39,6 +39,16 @@ fn refuse<T>(number: u8, place: usize, file: u8) -> Answer<T> {
     Err(Refusal { number, place, file })
 }
 
+/// An answer as the exports pack it.
+pub fn pack(answer: Answer<u64>) -> u64 {
+    match answer {
+        Ok(value) => value,
+        Err(Refusal { number, place, file }) => {
+            place as u64 | u64::from(number) << 32 | u64::from(file) << 40
+        }
+    }
+}
+
 fn word(bytes: &[u8], at: usize) -> usize {
     usize::from(bytes[at]) * 256 + usize::from(bytes[at + 1])
 }

@@ -1,15 +1,22 @@
-//! How much stack a call takes: it runs on a stack of its own that was painted before, and what is painted over is counted.
+//! How much stack a call takes: it runs on a stack of its own that was painted before, and what is painted over is counted. The check must stay
+//! within `MOST`.
 
+mod files;
+mod library;
+
+use files::*;
+use library::{abwakiris_check, abwakiris_read_device, abwakiris_read_program, abwakiris_route, abwakiris_run};
 use std::ffi::c_void;
 
 extern "C" {
-    fn abwakiris_read_device(bytes: *const u8, len: usize) -> u64;
-    fn abwakiris_read_program(bytes: *const u8, len: usize) -> u64;
     fn pthread_attr_init(attr: *mut c_void) -> i32;
     fn pthread_attr_setstack(attr: *mut c_void, stack: *mut c_void, size: usize) -> i32;
     fn pthread_create(thread: *mut usize, attr: *const c_void, start: extern "C" fn(*mut c_void) -> *mut c_void, arg: *mut c_void) -> i32;
     fn pthread_join(thread: usize, result: *mut *mut c_void) -> i32;
 }
+
+/// The most bytes of stack that the check may take.
+const MOST: usize = 65_536;
 
 const SIZE: usize = 1 << 20;
 const PAINT: u8 = 0xA5;
@@ -50,17 +57,104 @@ fn painted(call: &mut dyn FnMut()) -> usize {
     }
 }
 
-fn block(statements: &[u8]) -> Vec<u8> {
-    [&[(statements.len() / 256) as u8, (statements.len() % 256) as u8][..], statements].concat()
+/// The bytes of stack that a call takes, printed. The call must answer this.
+fn report(what: &str, answer: u64, call: impl Fn() -> u64) -> usize {
+    let mut found = 0;
+    let used = painted(&mut || found = call());
+    assert_eq!(found, answer, "{what}");
+    println!("stack: {used:>6} bytes, {what}");
+    used
+}
+
+/// A statement at depth 8 of a body, in seven ifs or whiles of the bool in slot 8 and the reference in slot 9.
+#[derive(Clone, Copy)]
+enum Nest {
+    Then,
+    Else,
+    While,
+}
+
+impl Nest {
+    fn around(self, statement: Statement) -> Statement {
+        match self {
+            Nest::Then => when(8, &[statement], &[]),
+            Nest::Else => when(8, &[], &[statement]),
+            Nest::While => repeat(9, &[statement]),
+        }
+    }
+
+    fn body(self, deepest: Statement) -> Vec<Statement> {
+        let value = u8::from(!matches!(self, Nest::Else));
+        let nested = (0..7).fold(deepest, |inner, _| self.around(inner));
+        vec![boolean(8, value), refer(9, 8), nested]
+    }
+}
+
+/// 15 functions, each calling the one before at its deepest, and main the last one; at the bottom a merge. Ends are in slots 0 and 1, at 0 and 255.
+/// With it the count: main's four, the merge, and 7 for the blocks of each body.
+fn deepest(nest: Nest) -> (Vec<u8>, u64) {
+    let merging = function(2, 2, &nest.body(merge(2, 0, 1)));
+    let onward = |i: u8| function(2, 2, &nest.body(call(i - 1, &[0, 1], &[0, 1])));
+    let functions: Vec<Function> = std::iter::once(merging).chain((1..15).map(onward)).collect();
+    let main = [vec![init(0, 0), init(1, 255)], nest.body(call(14, &[0, 255], &[0, 1])), vec![free(0), free(1)]].concat();
+    (calling(&functions, &main), 4 + 1 + 7 * 16)
+}
+
+fn readers() {
+    let device = device(256, &edges(1024));
+    report("read_device, 256 locations, 1,024 edges", 0, || unsafe { abwakiris_read_device(device.as_ptr(), device.len()) });
+    let (program, _) = deepest(Nest::Else);
+    report("read_program, depth 8", 0, || unsafe { abwakiris_read_program(program.as_ptr(), program.len()) });
+}
+
+/// The most that a check takes.
+fn checks() -> usize {
+    let device = line(256);
+    let nests = [("then", Nest::Then), ("else", Nest::Else), ("while", Nest::While)];
+    let used = nests.map(|(name, nest)| {
+        let (program, count) = deepest(nest);
+        let what = format!("check, a merge under 16 bodies of depth 8 ({name})");
+        report(&what, count, || unsafe { abwakiris_check(device.as_ptr(), device.len(), program.as_ptr(), program.len(), 1) })
+    });
+    used.into_iter().max().unwrap()
+}
+
+fn routes() {
+    let device = line(256);
+    let occupancy = [0; 256];
+    report("route, 256 locations", 256, || {
+        let mut buffer = [0; 256];
+        let (free, room) = (occupancy.as_ptr(), buffer.as_mut_ptr());
+        unsafe { abwakiris_route(device.as_ptr(), device.len(), 1, free, 256, 0, 255, room, 256) }
+    });
+}
+
+/// A run in which job 1 calls 15 deep, merges there and returns, and job 2 has finished.
+fn runs() {
+    let device = line(256);
+    let empty = only(&[]);
+    let (program, _) = deepest(Nest::Then);
+    // each body: bool, reference, 7 ifs and a call or the merge; a return for each call; main's inits and frees
+    let steps = 16 * 10 + 15 + 4;
+    let schedule = [vec![0x10; steps], vec![0x20; 100]].concat();
+    let (mut records, mut map) = (vec![0; 4 * schedule.len()], vec![0; 256]);
+    let (records_at, map_at) = (records.as_mut_ptr(), map.as_mut_ptr());
+    report("run, a merge under 16 bodies of depth 8", steps as u64, || unsafe {
+        abwakiris_run(
+            device.as_ptr(), device.len(), program.as_ptr(), program.len(), empty.as_ptr(), empty.len(),
+            schedule.as_ptr(), schedule.len(), records_at, 4 * schedule.len(), map_at, 256,
+        )
+    });
+    assert!(records.chunks(4).filter(|record| record[..2] == [0, 255]).count() == 1, "the merge moved");
 }
 
 fn main() {
-    let mut device = b"QLG\0\x01\x01\x00\x00\x00".to_vec();
-    device.extend([1; 256]);
-    // ifs in ifs to depth 8, in a function and in main
-    let nest = (0..7).fold(vec![4, 0, 0], |inner: Vec<u8>, _| [&[10, 0][..], &block(&[]), &block(&inner)].concat());
-    let program = [&b"QLS\0\x01\x01\x00\x00"[..], &block(&nest), &block(&nest)].concat();
-    let report = |what: &str, call: &mut dyn FnMut()| println!("stack of {what}: {} bytes", painted(call));
-    report("abwakiris_read_device", &mut || assert_eq!(unsafe { abwakiris_read_device(device.as_ptr(), device.len()) }, 0));
-    report("abwakiris_read_program, depth 8", &mut || assert_eq!(unsafe { abwakiris_read_program(program.as_ptr(), program.len()) }, 0));
+    readers();
+    let most = checks();
+    routes();
+    runs();
+    if most > MOST {
+        println!("stack: the check takes more than {MOST} bytes");
+        std::process::exit(1);
+    }
 }

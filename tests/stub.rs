@@ -1,7 +1,11 @@
-//! The five exports answered by the reference itself, so that the comparison, the cases and
-//! their coverage can be tried without the library.
+//! The five exports answered by the reference itself. With it a test can be tried without the
+//! library, on any computer: the generated cases for what they cover, the written answers
+//! against a second reading of the document.
 
-use crate::{pack, reference};
+#[path = "reference.rs"]
+mod reference;
+
+use reference::pack;
 
 /// A length of 0 goes with any pointer, so the pointer is not looked at then.
 unsafe fn slice<'a>(pointer: *const u8, length: usize) -> &'a [u8] {

@@ -3,8 +3,10 @@
 //! Usage: vectors <file>. One case a line, `<call> <inputs> -> <answer>`; byte strings are hex,
 //! `-` when empty; buffers begin as all AA.
 
+mod files;
 mod reference;
 
+use files::hex;
 use reference::{Refusal, FILE_DEVICE, FILE_NONE, FILE_PROGRAM, FILE_SCHEDULE};
 
 fn bytes(text: &str) -> Vec<u8> {
@@ -15,13 +17,6 @@ fn bytes(text: &str) -> Vec<u8> {
     (0..text.len() / 2)
         .map(|i| u8::from_str_radix(&text[2 * i..2 * i + 2], 16).expect("hex"))
         .collect()
-}
-
-fn hex(bytes: &[u8]) -> String {
-    if bytes.is_empty() {
-        return "-".to_string();
-    }
-    bytes.iter().map(|byte| format!("{byte:02x}")).collect()
 }
 
 fn number(text: &str) -> u64 {

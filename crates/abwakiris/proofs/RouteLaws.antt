@@ -126,11 +126,14 @@ module _ (device : List ℕ) (job : ℕ) (occupancy : List ℕ) (a b : ℕ) (bef
     where
       R : Region
       R = regionOf D job
+
       rest : Check (List ℕ)
       rest = fitted (route R (freeIn R occupancy) a b) (length before)
+
       whole : _≡_ {A = Check (List ℕ)} (routed device job occupancy a b (length before))
           (need (eqb (length occupancy) (length (D .owners))) 26 0 >> (need (owns R a) 13 0 >> (need (owns R b) 13 1 >> (need (not (eqb a b)) 15 0 >> rest))))
       whole = rw (e, q) refl
+
       in-order : _≡_ {A = Check (List ℕ)} (asked (owns R) (length (D .owners)) occupancy a b >> rest)
           (need (eqb (length occupancy) (length (D .owners))) 26 0 >> (need (owns R a) 13 0 >> (need (owns R b) 13 1 >> (need (not (eqb a b)) 15 0 >> rest))))
       in-order = go (eqb (length occupancy) (length (D .owners))) (owns R a) (owns R b)

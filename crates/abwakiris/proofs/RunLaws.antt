@@ -38,6 +38,7 @@ schedule-refuses s x {A} k e = go (within Schedule (need (leb (length s) 4096) 2
     again : Check (Unit {0}) → Check A
     again (ok u) = refused x
     again (refused y) = refused y
+
     go : (m : Check (Unit {0})) (n : Check (List Turn)) → _≡_ {A = Check (Unit {0})} (refused x) (m >> (n >> ok tt)) → _≡_ {A = Check A} (refused x) (m >> (n >>= k))
     go (ok u) (ok ts) e = ok-not-refused (sym e)
     go (ok u) (refused y) e = ap again e

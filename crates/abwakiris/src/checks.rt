@@ -1,12 +1,14 @@
 // The check of a job's program on a device.
-use crate::jobs::{is_job, narrow};
+use crate::jobs::is_job;
+use crate::jobs::narrow;
 use crate::packed::packed_refusal;
 use answers::CheckAnswer;
 use answers::File;
 use answers::ReadAnswer;
 use answers::Refusal;
 use device::DeviceAnswer;
-use device::region::{owned_by, region_rows};
+use device::region::owned_by;
+use device::region::region_rows;
 use judge::judge;
 use rules::device::DeviceHeader;
 ghost use mathlib.Core.Path.{_≡_};

@@ -1,12 +1,14 @@
 // The route search between two locations of a job's region.
-use crate::jobs::{is_job, narrow};
+use crate::jobs::is_job;
+use crate::jobs::narrow;
 use crate::packed::packed_refusal;
 use answers::ReadAnswer;
 use answers::Refusal;
 use answers::RouteAnswer;
 use device::DeviceAnswer;
 use device::free::free_in;
-use device::region::{owned_by, region_rows};
+use device::region::owned_by;
+use device::region::region_rows;
 use route::Found;
 use route::find_route;
 use rules::device::DeviceHeader;
@@ -25,7 +27,14 @@ ghost use Rattle.abwakiris.specs.Packed.{packedValue};
 ghost use Rattle.abwakiris.specs.Routing.{asked, told, Finds, Routes};
 
 // Job, device, 26, the two ends, then the search. The buffer is written only where a route is answered.
-pub fn route(device: &[u8], job: u64, occupancy: &[u8], first: u64, second: u64, buffer: &mut [u8]) -> RouteAnswer
+pub fn route(
+    device: &[u8],
+    job: u64,
+    occupancy: &[u8],
+    first: u64,
+    second: u64,
+    buffer: &mut [u8],
+) -> RouteAnswer
     ensures { λ r. ⌜ told r (now (buffer .exit)) ≡ routeOf (now (device .entry)) job (now (occupancy .entry)) first second (now (buffer .entry)) ⌝ }
 {
     if !is_job(job) {
@@ -39,7 +48,14 @@ pub fn route(device: &[u8], job: u64, occupancy: &[u8], first: u64, second: u64,
 
 // Value: the number of locations.
 #[no_mangle]
-pub extern "C" fn abwakiris_route(device: &[u8], job: u64, occupancy: &[u8], first: u64, second: u64, buffer: &mut [u8]) -> u64
+pub extern "C" fn abwakiris_route(
+    device: &[u8],
+    job: u64,
+    occupancy: &[u8],
+    first: u64,
+    second: u64,
+    buffer: &mut [u8],
+) -> u64
     ensures answer { λ r. ⌜ r ≡ packedValue (routeOf (now (device .entry)) job (now (occupancy .entry)) first second (now (buffer .entry)) .answer) ⌝ }
     ensures written { λ _. ⌜ now (buffer .exit) ≡ routeOf (now (device .entry)) job (now (occupancy .entry)) first second (now (buffer .entry)) .buffer ⌝ }
 {
@@ -50,7 +66,15 @@ pub extern "C" fn abwakiris_route(device: &[u8], job: u64, occupancy: &[u8], fir
 }
 
 // On a device that was read, for a job that is one.
-fn route_in(device: &[u8], h: DeviceHeader, job: u8, occupancy: &[u8], first: u64, second: u64, buffer: &mut [u8]) -> RouteAnswer
+fn route_in(
+    device: &[u8],
+    h: DeviceHeader,
+    job: u8,
+    occupancy: &[u8],
+    first: u64,
+    second: u64,
+    buffer: &mut [u8],
+) -> RouteAnswer
     requires { ⌜ ((D : Device) × Reads (now device) h D) ⌝ }
     ensures { λ r. ⌜ ((D : Device) → Reads (now (device .entry)) h D → Routes (regionOf D job) (length (D .owners)) (now (occupancy .entry)) first second (now (buffer .entry)) r (now (buffer .exit))) ⌝ }
 {
@@ -61,7 +85,13 @@ fn route_in(device: &[u8], h: DeviceHeader, job: u8, occupancy: &[u8], first: u6
     }
     let mut rows = [0u64; 1024];
     region_rows(device, h, job, &mut rows);
-    search(&rows, free_in(owned, occupancy), first as usize, second as usize, buffer)
+    search(
+        &rows,
+        free_in(owned, occupancy),
+        first as usize,
+        second as usize,
+        buffer,
+    )
 }
 
 // What is asked before the search: 26, 13 for each end, 15.
@@ -95,7 +125,13 @@ fn is_inside(owned: LocationSet, x: u64) -> bool
 }
 
 // The search: 21, then 24 where the route is longer than the buffer.
-fn search(rows: &[u64; 1024], free: LocationSet, a: usize, b: usize, buffer: &mut [u8]) -> RouteAnswer
+fn search(
+    rows: &[u64; 1024],
+    free: LocationSet,
+    a: usize,
+    b: usize,
+    buffer: &mut [u8],
+) -> RouteAnswer
     requires { ⌜ (a < 256) × (b < 256) ⌝ }
     ensures { λ r. ⌜ ((R : Region) → Rows R (now (rows .entry)) → Finds (path.route R (has free) a b) (now (buffer .entry)) r (now (buffer .exit))) ⌝ }
 {

@@ -20,7 +20,13 @@ ghost use Rattle.rules.specs.Syntax.{Program};
 // Main may have so many commands and no more.
 const MOST_COMMANDS: usize = 65535;
 
-pub fn judge(s: &[u8], t: FunctionTable, main: usize, rows: &[u64; 1024], owned: LocationSet) -> CheckAnswer
+pub fn judge(
+    s: &[u8],
+    t: FunctionTable,
+    main: usize,
+    rows: &[u64; 1024],
+    owned: LocationSet,
+) -> CheckAnswer
     requires { ⌜ ((p : Program) × (readProgram (now s) ≡ ok p) × Tabled p t main) ⌝ }
     ensures { λ r. ⌜ ((p : Program) → readProgram (now (s .entry)) ≡ ok p → Tabled p t main → (R : Region) → Owned R owned → Rows R (now (rows .entry)) → checkSaid r ≡ judged R p) ⌝ }
 {

@@ -66,8 +66,10 @@ module _ (s₁ : List ℕ) (c₁ : Seat) (rows₁ s₂ : List ℕ) (c₂ : Seat)
     where
       plus-one : (k : ℕ) → suc k ≡ k + 1
       plus-one k = omega arith
+
       four-on : (k : ℕ) → 4 * (k + 1) ≡ 4 * k + 4
       four-on k = omega arith
+
       together : (x y z : ℕ) → x + (y + z) ≡ x + y + z
       together x y z = omega arith
 

@@ -66,16 +66,18 @@ module _ (device : List ℕ) (h : DeviceHeader) (s₁ : List ℕ) (t₁ : Functi
   pub run-is : (before₁ before₂ now₁ now₂ : List ℕ) (r : Ended) → 4 * length schedule ≤ length before₁ → h .locations ≤ length before₂
       → Dealt s₁ one rows₁ s₂ two rows₂ D p q (started D (programs p q)) (map turnOf schedule) before₁ r now₁ → now₂ ≡ sets before₂ 0 (take (h .locations) (r .map))
       → _≡_ {A = Ran} (record { answer = ok (r .moved); records = now₁; map = now₂ })
-          (runWritten before₁ before₂ (ok (finished device h s₁ t₁ main₁ s₂ t₂ main₂ schedule D p q)))
+      (runWritten before₁ before₂ (ok (finished device h s₁ t₁ main₁ s₂ t₂ main₂ schedule D p q)))
   run-is before₁ before₂ now₁ now₂ r f g E w = rw (answers, records-are, map-is) refl
     where
       answers : r .moved ≡ record { first = movedBy 1 (records D (programs p q) (map turnOf schedule) (started D (programs p q))); second = movedBy 2 (records D (programs p q) (map turnOf schedule) (started D (programs p q))) }
       answers = ap₂ (λ (a b : ℕ). record { first = a; second = b }) (E .first) (E .second)
+
       records-are : now₁ ≡ over (recordBytes (records D (programs p q) (map turnOf schedule) (started D (programs p q)))) before₁
       records-are =
           let k = record-bytes D (programs p q) (map turnOf schedule) (started D (programs p q)) in
           let l = length-map schedule turnOf in
           E .written ∙ sets-over (recordBytes (records D (programs p q) (map turnOf schedule) (started D (programs p q)))) before₁ (omega (arith, k, l, f))
+
       map-is : now₂ ≡ over (final D (programs p q) (map turnOf schedule) (started D (programs p q)) .occupancy) before₂
       map-is =
           let v = known Q in

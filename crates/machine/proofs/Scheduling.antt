@@ -87,6 +87,7 @@ may-run s e = long (decLe (length s) 4096)
     go : (h : length s ≤ 4096) (m : Check (List Turn)) → turns 2 0 s ≡ m → _≡_ {A = Check (Unit {0})} (ok tt) (within Schedule m >> ok tt) → Scheduled s
     go h (ok ts) q e = let r = turns-sound s 0 ts q in record { short = h; turns-so = q ∙ ap ok (r .0); all-turns = each-turn s (r .1) }
     go h (refused x) q e = ok-not-refused e
+
     long : Dec (length s ≤ 4096) → Scheduled s
     long (yes h) = go h (turns 2 0 s) refl (e ∙ from-start s h)
     long (no h) = ok-not-refused (e ∙ sym (too-long s (omega (arith, h))))

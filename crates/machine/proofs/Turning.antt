@@ -48,7 +48,7 @@ module _ (s₁ : List ℕ) (c₁ : Seat) (rows₁ s₂ : List ℕ) (c₂ : Seat)
       → Turns s₁ c₁ rows₁ s₂ c₂ rows₂ m b (record { machine = record { map = now; first = t .job; second = m .second }; «record» = t .record })
   turned-first e T D p q M B H =
       subst (λ (j : ℕ). Holds s₁ c₁ rows₁ s₂ c₂ rows₂ D p q (after D (programs p q) (record { job = j; outcome = eqb (b % 16) 1 }) M) (record { map = now; first = t .job; second = m .second })
-          × (t .record ≡ recordOf (stepOf D (programs p q) (record { job = j; outcome = eqb (b % 16) 1 }) M .answer)))
+      × (t .record ≡ recordOf (stepOf D (programs p q) (record { job = j; outcome = eqb (b % 16) 1 }) M .answer)))
       (sym e)
       (let F = T p (M .jobs 1) (regionOf D 1) (M .occupancy) (B .first) (H .first) (H .maps) (long-enough D p q M 1 H) in
       (record { first = F .0; second = H .second; maps = F .2; long = length-written 1 (stepOf D (programs p q) (record { job = 1; outcome = eqb (b % 16) 1 }) M .act) (M .occupancy) ∙ H .long }, F .1))
@@ -57,7 +57,7 @@ module _ (s₁ : List ℕ) (c₁ : Seat) (rows₁ s₂ : List ℕ) (c₂ : Seat)
       → Turns s₁ c₁ rows₁ s₂ c₂ rows₂ m b (record { machine = record { map = now; first = m .first; second = t .job }; «record» = t .record })
   turned-second e T D p q M B H =
       subst (λ (j : ℕ). Holds s₁ c₁ rows₁ s₂ c₂ rows₂ D p q (after D (programs p q) (record { job = j; outcome = eqb (b % 16) 1 }) M) (record { map = now; first = m .first; second = t .job })
-          × (t .record ≡ recordOf (stepOf D (programs p q) (record { job = j; outcome = eqb (b % 16) 1 }) M .answer)))
+      × (t .record ≡ recordOf (stepOf D (programs p q) (record { job = j; outcome = eqb (b % 16) 1 }) M .answer)))
       (sym e)
       (let F = T q (M .jobs 2) (regionOf D 2) (M .occupancy) (B .second) (H .second) (H .maps) (long-enough D p q M 2 H) in
       (record { first = H .first; second = F .0; maps = F .2; long = length-written 2 (stepOf D (programs p q) (record { job = 2; outcome = eqb (b % 16) 1 }) M .act) (M .occupancy) ∙ H .long }, F .1))

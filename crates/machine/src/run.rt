@@ -1,8 +1,13 @@
 // The run: both jobs fresh, then one turn for each byte of the schedule, its record four bytes after the one before; at the end the map.
-use crate::records::{moved_more, write_map, write_record};
-use crate::turn::{turn, Machine, Seat};
+use crate::records::moved_more;
+use crate::records::write_map;
+use crate::records::write_record;
+use crate::turn::Machine;
+use crate::turn::Seat;
+use crate::turn::turn;
 use answers::Moved;
-use device::region::{owned_by, region_rows};
+use device::region::owned_by;
+use device::region::region_rows;
 use program::functions::FunctionTable;
 use rules::device::DeviceHeader;
 use steps::step::start;
@@ -17,7 +22,17 @@ pub struct Ended {
 }
 
 // One turn for each byte of a schedule that may be run.
-pub fn deal(first: &[u8], one: Seat, first_rows: &[u64; 1024], second: &[u8], two: Seat, second_rows: &[u64; 1024], start: Machine, schedule: &[u8], records: &mut [u8]) -> Ended
+pub fn deal(
+    first: &[u8],
+    one: Seat,
+    first_rows: &[u64; 1024],
+    second: &[u8],
+    two: Seat,
+    second_rows: &[u64; 1024],
+    start: Machine,
+    schedule: &[u8],
+    records: &mut [u8],
+) -> Ended
     requires { ⌜ Dealing (now first) one (now «first_rows») (now second) two (now «second_rows») start (now schedule) (length (now records)) ⌝ }
     ensures { λ r. ⌜ Deals (now (first .entry)) one (now («first_rows» .entry)) (now (second .entry)) two (now («second_rows» .entry)) start (now (schedule .entry)) (now (records .entry)) r (now (records .exit)) ⌝ }
 {
@@ -28,7 +43,16 @@ pub fn deal(first: &[u8], one: Seat, first_rows: &[u64; 1024], second: &[u8], tw
     let mut i: usize = 0;
     while i < n {
         let byte = schedule[i];
-        let turned = turn(first, one, first_rows, second, two, second_rows, machine, byte);
+        let turned = turn(
+            first,
+            one,
+            first_rows,
+            second,
+            two,
+            second_rows,
+            machine,
+            byte,
+        );
         let next = turned.machine;
         let record = turned.record;
         let code = record.code;
@@ -82,7 +106,17 @@ pub fn run(
         first: start(first, first_main),
         second: start(second, second_main),
     };
-    let ended = deal(first, one, &first_rows, second, two, &second_rows, machine, schedule, records);
+    let ended = deal(
+        first,
+        one,
+        &first_rows,
+        second,
+        two,
+        &second_rows,
+        machine,
+        schedule,
+        records,
+    );
     let occupied = ended.map;
     write_map(&occupied, h.locations, map);
     let moved = ended.moved;

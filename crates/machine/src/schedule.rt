@@ -1,6 +1,6 @@
 // A schedule's bytes: 10, 11 hex for job 1 with outcome 0, 1; 20, 21 hex for job 2.
-use answers::ReadAnswer;
 use answers::File;
+use answers::ReadAnswer;
 use answers::Refusal;
 ghost use mathlib.Core.Path.{_≡_};
 ghost use lib.ListN.{length};

@@ -33,7 +33,15 @@ pub struct Turned {
 }
 
 // A step of one job, done to the map.
-fn take_step(s: &[u8], seat: Seat, rows: &[u64; 1024], map: &mut [u8; 256], job: Job, number: u8, outcome: bool) -> Taken
+fn take_step(
+    s: &[u8],
+    seat: Seat,
+    rows: &[u64; 1024],
+    map: &mut [u8; 256],
+    job: Job,
+    number: u8,
+    outcome: bool,
+) -> Taken
     requires { ⌜ Ready (now s) seat job ⌝ }
     ensures { λ r. ⌜ Takes (now (s .entry)) seat (now (rows .entry)) (now (map .entry)) job number outcome r (now (map .exit)) ⌝ }
 {
@@ -51,7 +59,16 @@ fn take_step(s: &[u8], seat: Seat, rows: &[u64; 1024], map: &mut [u8; 256], job:
 }
 
 // A turn of job 1, or of job 2.
-pub fn turn(first: &[u8], one: Seat, first_rows: &[u64; 1024], second: &[u8], two: Seat, second_rows: &[u64; 1024], machine: Machine, byte: u8) -> Turned
+pub fn turn(
+    first: &[u8],
+    one: Seat,
+    first_rows: &[u64; 1024],
+    second: &[u8],
+    two: Seat,
+    second_rows: &[u64; 1024],
+    machine: Machine,
+    byte: u8,
+) -> Turned
     requires { ⌜ Running (now first) one (now «first_rows») (now second) two (now «second_rows») machine byte ⌝ }
     ensures { λ r. ⌜ Turns (now (first .entry)) one (now («first_rows» .entry)) (now (second .entry)) two (now («second_rows» .entry)) machine byte r ⌝ }
 {

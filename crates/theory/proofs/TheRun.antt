@@ -93,6 +93,7 @@ sizes-for (b ∷ s) h = go (ℕ-discrete (b / 16) 1) (sizes-for s (and-right (is
   where
     not-two : b / 16 ≡ 1 → b / 16 ≡ 2 → ⊥
     not-two e f = omega (arith, e, f)
+
     go : Dec (b / 16 ≡ 1) → length (bytesFor 1 s) + length (bytesFor 2 s) ≡ length s → length (bytesFor 1 (b ∷ s)) + length (bytesFor 2 (b ∷ s)) ≡ length (b ∷ s)
     go (yes e) k = rw (eq-eqb (b / 16) 1 e, ne-eqb (b / 16) 2 (not-two e)) (omega (arith, k))
     go (no n) k = rw (ne-eqb (b / 16) 1 n, eq-eqb (b / 16) 2 (which b (and-left (isTurn b) (all isTurn s) h) (no n) n)) (omega (arith, k))
@@ -116,8 +117,10 @@ module _ (D : rules.Device) (P : ℕ → syntax.Program) (j : ℕ) (rest : List 
     where
       r : Told
       r = record { job = b / 16; told = stepOf D P (turnOf b) M .answer }
+
       rs : List Told
       rs = recordsOf j (records D P (map turnOf s) (after D P (turnOf b) M))
+
       go : (t : Bool) {l : List ℕ} → l ≡ recordBytes rs → chosen t (r .told .code ∷ r .told .edges ∷ r .told .offset / 256 ∷ r .told .offset % 256 ∷ l) l ≡ recordBytes (chosen t (r ∷ rs) rs)
       go true e = ap (λ (l : List ℕ). r .told .code ∷ r .told .edges ∷ r .told .offset / 256 ∷ r .told .offset % 256 ∷ l) e
       go false e = e
@@ -128,8 +131,10 @@ module _ (D : rules.Device) (P : ℕ → syntax.Program) (j : ℕ) (rest : List 
     where
       r : Told
       r = record { job = b / 16; told = stepOf D P (turnOf b) M .answer }
+
       rs : List Told
       rs = recordsOf j (records D P (map turnOf s) (after D P (turnOf b) M))
+
       go : (t : Bool) {l : List ℕ} → l ≡ map code rs → chosen t (r .told .code ∷ l) l ≡ map code (chosen t (r ∷ rs) rs)
       go true e = ap (λ (l : List ℕ). r .told .code ∷ l) e
       go false e = e
@@ -248,6 +253,7 @@ never-stuck-in-runs device first second schedule buffer map′ j n m h k e =
     both : (t : Bool) {p q : syntax.Program} → readProgram first ≡ ok p → readProgram second ≡ ok q → readProgram (chosen t first second) ≡ ok (chosen t p q)
     both true a b = a
     both false a b = b
+
     same : {A : Type 0} {c : Check A} {x y : A} → c ≡ ok x → c ≡ ok y → x ≡ y
     same e f = cc
 
@@ -262,10 +268,10 @@ runs-in-order device first second schedule buffer map′ m e =
     let r = run-of device first second (B .D) (B .p) (B .q) (B .device-reads) (B .first-reads) (B .second-reads) buffer map′ schedule (B .short) (B .room) (B .all-turns) in
     let q = run-of device first second (B .D) (B .p) (B .q) (B .device-reads) (B .first-reads) (B .second-reads) buffer map′ s (rw l (B .short)) (rw l (B .room)) u in
     let t : map turnOf s ≡ turnsOf 1 (map turnOf schedule) ++ turnsOf 2 (map turnOf schedule) =
-            map-append (bytesFor 1 schedule) (bytesFor 2 schedule) ∙ ap (λ (ts : List Turn). ts ++ map turnOf (bytesFor 2 schedule)) (turns-for 1 schedule) ∙ ap (λ (ts : List Turn). turnsOf 1 (map turnOf schedule) ++ ts) (turns-for 2 schedule) in
+    map-append (bytesFor 1 schedule) (bytesFor 2 schedule) ∙ ap (λ (ts : List Turn). ts ++ map turnOf (bytesFor 2 schedule)) (turns-for 1 schedule) ∙ ap (λ (ts : List Turn). turnsOf 1 (map turnOf schedule) ++ ts) (turns-for 2 schedule) in
     let A : Alike (B .D) P (map turnOf schedule) (map turnOf s) = subst (λ (ts : List Turn). Alike (B .D) P (map turnOf schedule) ts) (sym t) (two-jobs (B .D) P (map turnOf schedule) (one-or-two schedule (B .all-turns))) in
     let moved : (j : ℕ) → movedBy j (records (B .D) P (map turnOf s) (started (B .D) P)) ≡ movedBy j (records (B .D) P (map turnOf schedule) (started (B .D) P)) =
-            λ j. moved-count j (records (B .D) P (map turnOf s) (started (B .D) P)) ∙ ap (λ (rs : List Told). beginWithZero (recordBytes rs)) (sym (A .told j)) ∙ sym (moved-count j (records (B .D) P (map turnOf schedule) (started (B .D) P))) in
+    λ j. moved-count j (records (B .D) P (map turnOf s) (started (B .D) P)) ∙ ap (λ (rs : List Told). beginWithZero (recordBytes rs)) (sym (A .told j)) ∙ sym (moved-count j (records (B .D) P (map turnOf schedule) (started (B .D) P))) in
     record {
       answers = ap (λ (w : Ran). w .answer) q ∙ ap (λ (x : ℕ). ok (record { first = x; second = movedBy 2 (records (B .D) P (map turnOf s) (started (B .D) P)) })) (moved 1)
           ∙ ap (λ (x : ℕ). ok (record { first = movedBy 1 (records (B .D) P (map turnOf schedule) (started (B .D) P)); second = x })) (moved 2) ∙ sym (ap (λ (w : Ran). w .answer) r) ∙ e;

@@ -28,7 +28,7 @@ new-requires c κs = search needs
 
 returns-2 : tie.Need-returns-2
 returns-2 c = λ p e t R O W.
-    let s = c .before .before .before .before .before .before .before .args .s .now in let j = judgeable R p s e (rw (c .before .before .before .enum-told .given .1) at (c .before .before .before .before .before .type-program .ensures p (program-in s p e) t R O)) in 
+    let s = c .before .before .before .before .before .before .before .args .s .now in let j = judgeable R p s e (rw (c .before .before .before .enum-told .given .1) at (c .before .before .before .before .before .type-program .ensures p (program-in s p e) t R O)) in
     let C = c .before .before .count-program .ensures .0 p (program-in s p e) t (sizes R p s e j) (sizes-fit R p s e j) in
     ap refused (c .new .ensures) ∙ too-many R p s e j _ C (omega (arith, c .before .if1 .taken))
 
@@ -43,13 +43,13 @@ enum-known-walked c = search needs
 
 returns-3 : tie.Need-returns-3
 returns-3 c = λ p e t R O W.
-    let s = c .before .before .before .before .before .before .before .before .before .before .before .args .s .now in let j = judgeable R p s e (rw (c .before .before .before .before .before .before .before .enum-told .given .1) at (c .before .before .before .before .before .before .before .before .before .type-program .ensures p (program-in s p e) t R O)) in 
+    let s = c .before .before .before .before .before .before .before .before .before .before .before .args .s .now in let j = judgeable R p s e (rw (c .before .before .before .before .before .before .before .enum-told .given .1) at (c .before .before .before .before .before .before .before .before .before .type-program .ensures p (program-in s p e) t R O)) in
     let C = c .before .before .before .before .before .before .count-program .ensures .0 p (program-in s p e) t (sizes R p s e j) (sizes-fit R p s e j) in
     accepted R p s e j _ C (omega (arith, c .before .before .before .before .before .if1 .left)) (rw (c .enum-told2 .given .1) at (c .before .before .walk-program .ensures p R (j .typed) (j .derives) (program-in s p e) t O W (no-commands R p s e j _ C)))
 
 returns-4 : tie.Need-returns-4
 returns-4 c = λ p e t R O W.
-    let s = c .before .before .before .before .before .before .before .before .before .before .before .before .args .s .now in let j = judgeable R p s e (rw (c .before .before .before .before .before .before .before .before .enum-told .given .1) at (c .before .before .before .before .before .before .before .before .before .before .type-program .ensures p (program-in s p e) t R O)) in 
+    let s = c .before .before .before .before .before .before .before .before .before .before .before .before .args .s .now in let j = judgeable R p s e (rw (c .before .before .before .before .before .before .before .before .enum-told .given .1) at (c .before .before .before .before .before .before .before .before .before .before .type-program .ensures p (program-in s p e) t R O)) in
     let C = c .before .before .before .before .before .before .before .count-program .ensures .0 p (program-in s p e) t (sizes R p s e j) (sizes-fit R p s e j) in
     no-path R p s e j _ C (omega (arith, c .before .before .before .before .before .before .if1 .left)) _ (rw (c .before .walked .given .1) at (c .before .before .before .walk-program .ensures p R (j .typed) (j .derives) (program-in s p e) t O W (no-commands R p s e j _ C)))
 

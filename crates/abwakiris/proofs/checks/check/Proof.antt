@@ -36,7 +36,7 @@ enum-known-x c = search needs
 
 returns-2 : tie.Need-returns-2
 returns-2 c =
-    let a = c .before .before .before .before .before .before .before .before .before .before .args in 
+    let a = c .before .before .before .before .before .before .before .before .before .before .args in
     let g = read-gives _ Device _ (rw (c .before .before .before .h .given .1) at (c .before .before .before .before .before .read-device .ensures)) in
     check-done (a .device .now) (a .program .now) (a .job) (g .0) (sym (c .before .before .before .before .before .before .before .is-job .ensures) ∙ not-false _ (c .before .before .before .before .before .before .if1 .left)) (g .1 .reads) _ (rw (c .before .narrow .ensures) at (c .check-in .ensures (g .0) (g .1)))
 

@@ -40,14 +40,14 @@ in-file-requires c κs = search needs
 
 returns-2 : tie.Need-returns-2
 returns-2 c = λ D d.
-    let a = c .before .before .before .before .before .before .before .before .before .before .before .before .before .before .args in 
+    let a = c .before .before .before .before .before .before .before .before .before .before .before .before .before .before .args in
     let p = program-gives (a .program .now) (a .job) (rw (c .before .before .before .before .before .before .before .before .before .enum-told .given .1) at (c .before .before .before .before .before .before .before .before .before .before .before .read-program .ensures .0)) in
     let j = c .before .before .before .judge .ensures (p .0) (p .1) (c .before .before .before .before .before .before .before .before .before .before .before .read-program .ensures .1 (p .0) (p .1)) (regionOf D (a .job)) (c .before .before .before .before .before .before .before .before .owned-by .ensures D d) (c .before .before .before .before .before .before .region-rows .ensures .1 D d) in
     check-judged (a .program .now) (a .job) (regionOf D (a .job)) (p .0) (p .1) _ (ap (λ m. within (Program (a .job)) m) (rw (c .before .n .given .1) at j))
 
 returns-3 : tie.Need-returns-3
 returns-3 c = λ D d.
-    let a = c .before .before .before .before .before .before .before .before .before .before .before .before .before .before .before .args in 
+    let a = c .before .before .before .before .before .before .before .before .before .before .before .before .before .before .before .args in
     let p = program-gives (a .program .now) (a .job) (rw (c .before .before .before .before .before .before .before .before .before .before .enum-told .given .1) at (c .before .before .before .before .before .before .before .before .before .before .before .before .read-program .ensures .0)) in
     let j = c .before .before .before .before .judge .ensures (p .0) (p .1) (c .before .before .before .before .before .before .before .before .before .before .before .before .read-program .ensures .1 (p .0) (p .1)) (regionOf D (a .job)) (c .before .before .before .before .before .before .before .before .before .owned-by .ensures D d) (c .before .before .before .before .before .before .before .region-rows .ensures .1 D d) in
     check-judged (a .program .now) (a .job) (regionOf D (a .job)) (p .0) (p .1) _ (ap refused (c .in-file .ensures) ∙ ap (λ m. within (Program (a .job)) m) (rw (c .before .before .x .given .1) at j))

@@ -25,7 +25,7 @@ start-requires-2 : tie.Need-start-requires-2
 start-requires-2 c κs = begins (c .before .before .before .before .before .before .before .before .before .before .before .before .before .pre .second)
 
 deal-requires : tie.Need-deal-requires
-deal-requires c κs = 
+deal-requires c κs =
     let a = c .before .before .before .before .before .before .before .before .before .before .before .before .before .before .before .before .before .args in
     let d = c .before .before .before .before .before .before .before .before .before .before .before .before .before .before .before .before .before .pre in
     let o₁ = c .before .before .before .before .before .before .owned-by in
@@ -53,8 +53,8 @@ write-map-requires c κs =
     let r₁ = c .before .before .before .before .before .before .before .before .before .before .before .before .before .before .before .region-rows .ensures .1 (d .D) (d .the-device) in
     let r₂ = c .before .before .before .before .before .before .before .before .before .before .before .before .before .region-rows2 .ensures .1 (d .D) (d .the-device) in
     let e = c .before .before .before .before .before .deal .ensures (d .D) (d .p) (d .q) _
-        (both (a .device .now) (a .h) (a .first .now) (a .ones) (a .first-main) (o₁ .result) _ (a .second .now) (a .twos) (a .second-main) (o₂ .result) _ (a .schedule .now) (d .D) (d .p) (d .q) (d .the-device) (d .first) (d .second) (o₁ .ensures (d .D) (d .the-device)) r₁ (o₂ .ensures (d .D) (d .the-device)) r₂)
-        (fresh-holds (a .device .now) (a .h) (a .first .now) (a .ones) (a .first-main) (o₁ .result) _ (a .second .now) (a .twos) (a .second-main) (o₂ .result) _ (a .schedule .now) (d .D) (d .p) (d .q) (d .the-device) (d .first) (d .second) _ _ (c .before .before .before .before .before .before .before .before .before .before .start .ensures) (c .before .before .before .before .before .before .before .before .before .start2 .ensures)) in
+    (both (a .device .now) (a .h) (a .first .now) (a .ones) (a .first-main) (o₁ .result) _ (a .second .now) (a .twos) (a .second-main) (o₂ .result) _ (a .schedule .now) (d .D) (d .p) (d .q) (d .the-device) (d .first) (d .second) (o₁ .ensures (d .D) (d .the-device)) r₁ (o₂ .ensures (d .D) (d .the-device)) r₂)
+    (fresh-holds (a .device .now) (a .h) (a .first .now) (a .ones) (a .first-main) (o₁ .result) _ (a .second .now) (a .twos) (a .second-main) (o₂ .result) _ (a .schedule .now) (d .D) (d .p) (d .q) (d .the-device) (d .first) (d .second) _ _ (c .before .before .before .before .before .before .before .before .before .before .start .ensures) (c .before .before .before .before .before .before .before .before .before .start2 .ensures)) in
     (e .maps .long, known (d .the-device) .few, d .map-fits)
 
 same-length : tie.Need-same-length
@@ -64,7 +64,7 @@ same-length-2 : tie.Need-same-length-2
 same-length-2 c = search needs
 
 returns : tie.Need-returns
-returns c = 
+returns c =
     let a = c .before .before .before .before .before .before .before .before .before .before .before .before .before .before .before .before .before .before .before .before .before .before .before .before .before .before .before .args in
     let e = c .before .before .before .before .before .before .before .before .before .before .before .before .before .before .before .before .before .before .before .before .before .before .before .before .before .before .before .pre in
     let o₁ = c .before .before .before .before .before .before .before .before .before .before .before .before .before .before .before .before .owned-by in

@@ -1,4 +1,4 @@
-// The free locations, as the words of their set.
+// The free locations, as the words of their set: one word is changed where it stands, as the set's own functions change it.
 use route::distance;
 use rules::bytes::wide;
 use rules::place::Location;
@@ -19,10 +19,10 @@ pub fn remove(free: &mut [u64; 4], l: Location)
     ensures long { λ _. ⌜ length (now (free .exit)) ≡ 4 ⌝ }
     ensures here { λ _. ⌜ ((y : ℕ) → has (setOf (now (free .exit))) y ≡ (not (eqb y (l .0)) && has (setOf (now (free .entry))) y)) ⌝ }
 {
-    let words = *free;
-    let left = LocationSet { words: words }.remove(wide(l.0));
-    let less = left.words;
-    *free = less;
+    let x = wide(l.0);
+    let i = x / 64;
+    let w = free[i];
+    free[i] = w ^ (w & (1 << (x % 64)));
 }
 
 // A location is given back.
@@ -31,10 +31,10 @@ pub fn add(free: &mut [u64; 4], l: Location)
     ensures long { λ _. ⌜ length (now (free .exit)) ≡ 4 ⌝ }
     ensures here { λ _. ⌜ ((y : ℕ) → has (setOf (now (free .exit))) y ≡ (eqb y (l .0) || has (setOf (now (free .entry))) y)) ⌝ }
 {
-    let words = *free;
-    let with = LocationSet { words: words }.add(wide(l.0));
-    let more = with.words;
-    *free = more;
+    let x = wide(l.0);
+    let i = x / 64;
+    let w = free[i];
+    free[i] = w | (1 << (x % 64));
 }
 
 // Whether no path over free locations joins two ends.

@@ -2,13 +2,14 @@
  *
  * Every call takes any bytes, any lengths and any numbers, and always answers. A length of 0 with any pointer is fine. Each answer is one u64:
  *
- *   bits  0 to 31   the call's value, or the place of a refusal (a byte offset in the file named below; 0 where it is in none, and for a route's end 13 the
- *                   end, 0 or 1)
+ *   bits  0 to 31   the call's value, or the place of a refusal: a byte offset in the file named below; 0 where it is in none, but for 13 of
+ *                   a route the end, 0 or 1
  *   bits 32 to 39   0 where nothing is refused, else the refusal's number, ABWAKIRIS_NO_..
  *   bits 40 to 47   the file that the place is in, ABWAKIRIS_IN_..
  *   bits 48 to 63   0
  *
- * After a refusal every buffer that was lent holds the bytes it held before. Bytes past what a call writes stay as they are.
+ * After a refusal every buffer that was lent holds the bytes it held before. Bytes past what a call writes stay as they are. A buffer that a
+ * call writes (buffer, records, map) must overlap nothing else that is given to it; what it only reads may overlap.
  */
 #ifndef ABWAKIRIS_H
 #define ABWAKIRIS_H
@@ -87,16 +88,18 @@ uint64_t abwakiris_read_program(const uint8_t *program, size_t program_len);
 /* Whether a program can be loaded for a job (1 or 2) and never halts its machine. Value: the command count. */
 uint64_t abwakiris_check(const uint8_t *device, size_t device_len, const uint8_t *program, size_t program_len, uint64_t job);
 
-/* The route between two locations of a job's region. The occupancy has one byte a location, 0 free; the ends' own bytes don't matter. The route is written
- * from the buffer's start. Value: its number of locations, at most 256. */
-uint64_t abwakiris_route(const uint8_t *device, size_t device_len, uint64_t job, const uint8_t *occupancy, size_t occupancy_len, uint64_t first, uint64_t second,
-                         uint8_t *buffer, size_t buffer_len);
+/* The route between two locations of a job's region. The occupancy has one byte a location, 0 free; the ends' own bytes don't matter. The
+ * route is written from the buffer's start. Value: its number of locations, at most 256. */
+uint64_t abwakiris_route(const uint8_t *device, size_t device_len, uint64_t job, const uint8_t *occupancy, size_t occupancy_len,
+                         uint64_t first, uint64_t second, uint8_t *buffer, size_t buffer_len);
 
-/* A run of two jobs from a fresh start. Schedule bytes are 0x10, 0x11 (job 1, outcome 0, 1), 0x20, 0x21 (job 2). Each step writes a record of four bytes:
- * 0 moved, 1 finished or the reason; the edges of the route of a moved merge, else 0; the statement's offset, big-endian (0xFFFF finished). The map gets one
- * byte a location, 0 or the occupying job. Value: steps moved by job 1 + 65536 * steps moved by job 2. */
-uint64_t abwakiris_run(const uint8_t *device, size_t device_len, const uint8_t *first_program, size_t first_len, const uint8_t *second_program, size_t second_len,
-                       const uint8_t *schedule, size_t schedule_len, uint8_t *records, size_t records_len, uint8_t *map, size_t map_len);
+/* A run of two jobs from a fresh start. Schedule bytes are 0x10, 0x11 (job 1, outcome 0, 1), 0x20, 0x21 (job 2). Each step writes a record of
+ * four bytes: 0 moved, 1 finished or the reason; the edges of the route of a moved merge, else 0; the statement's offset, big-endian (0xFFFF
+ * finished). The map gets one byte a location, 0 or the occupying job. Records need 4 bytes a step, the map one a location.
+ * Value: steps moved by job 1 + 65536 * steps moved by job 2. */
+uint64_t abwakiris_run(const uint8_t *device, size_t device_len, const uint8_t *first_program, size_t first_len,
+                       const uint8_t *second_program, size_t second_len, const uint8_t *schedule, size_t schedule_len,
+                       uint8_t *records, size_t records_len, uint8_t *map, size_t map_len);
 
 #ifdef __cplusplus
 }

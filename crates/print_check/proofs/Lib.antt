@@ -1,0 +1,4 @@
+mod BundleLaws
+mod Cases
+mod DigitLaws
+mod LineLaws

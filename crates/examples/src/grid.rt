@@ -1,15 +1,15 @@
 // The grid examples of the rules: 2 rows of 3 locations, 0 1 2 over 3 4 5, all owned by job 1.
 use crate::say;
 
-pub const GRID: [u8; 29] = *b"QLG\x00\x01\x00\x06\x00\x07\
+const GRID: [u8; 29] = *b"QLG\x00\x01\x00\x06\x00\x07\
     \x01\x01\x01\x01\x01\x01\
     \x00\x01\x00\x03\x01\x02\x01\x04\x02\x05\x03\x04\x04\x05";
 
 // Program A: qubits at 0 and 2, their merge, and both freed.
-pub const A: [u8; 24] = *b"QLS\x00\x01\x00\x00\x10\
+const A: [u8; 24] = *b"QLS\x00\x01\x00\x00\x10\
     \x01\x00\x00\x01\x01\x02\x06\x02\x00\x00\x00\x01\x03\x00\x03\x01";
 
-pub const EMPTY: [u8; 8] = *b"QLS\x00\x01\x00\x00\x00";
+const EMPTY: [u8; 8] = *b"QLS\x00\x01\x00\x00\x00";
 
 // A with qubits at 1 and 4 made before the merge, which then has no path.
 const TAKEN: [u8; 34] = *b"QLS\x00\x01\x00\x00\x1a\
@@ -17,35 +17,20 @@ const TAKEN: [u8; 34] = *b"QLS\x00\x01\x00\x00\x1a\
     \x06\x04\x00\x00\x00\x01\x03\x00\x03\x01\x03\x02\x03\x03";
 
 pub fn examples() {
-    say::check(b"A", &GRID, &A, 1);
-    say::check(b"A with both corridors taken", &GRID, &TAKEN, 1);
-    run_a();
+    check(b"A", &A, 1);
+    check(b"A with both corridors taken", &TAKEN, 1);
+    runs();
     run_taken();
-    say::check(
-        b"all 15 doubling functions and an empty loop",
-        &GRID,
-        &DOUBLING_ALL,
-        1,
-    );
-    say::check(
-        b"the last doubling function twice",
-        &GRID,
-        &DOUBLING_TWICE,
-        1,
-    );
+    check(b"all doubling functions and a loop", &DOUBLING_ALL, 1);
+    check(b"the last doubling function twice", &DOUBLING_TWICE, 1);
 }
 
-fn run_a() {
+fn runs() {
     let mut records = [0xaa; 16];
-    let mut map = [0xaa; 6];
-    say::run(
+    run_a(
         b"A beside the empty program",
-        &GRID,
-        &A,
-        &EMPTY,
         b"\x10\x10\x20\x10",
         &mut records,
-        &mut map,
     );
 }
 
@@ -53,15 +38,35 @@ fn run_a() {
 fn run_taken() {
     let mut records = [0xaa; 24];
     let mut map = [0xaa; 6];
+    let schedule = b"\x10\x10\x10\x10\x10\x10";
     say::run(
         b"A with both corridors taken",
         &GRID,
         &TAKEN,
         &EMPTY,
-        b"\x10\x10\x10\x10\x10\x10",
+        schedule,
         &mut records,
         &mut map,
     );
+}
+
+pub fn third_job() {
+    check(b"A for job 3", &A, 3);
+}
+
+pub fn check(what: &[u8], program: &[u8], job: u64) {
+    say::check(what, &GRID, program, job);
+}
+
+// For job 1.
+pub fn route(what: &[u8], occupancy: &[u8], first: u64, second: u64, buffer: &mut [u8]) {
+    say::route(what, &GRID, 1, occupancy, first, second, buffer);
+}
+
+// Beside the empty program.
+pub fn run_a(what: &[u8], schedule: &[u8], records: &mut [u8]) {
+    let mut map = [0xaa; 6];
+    say::run(what, &GRID, &A, &EMPTY, schedule, records, &mut map);
 }
 
 // Function 0 is one init and one free at its parameter; each other calls the one before it twice. Main calls all 15, and has one empty loop.

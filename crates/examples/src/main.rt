@@ -7,11 +7,7 @@ mod say;
 
 fn main() {
     grid::examples();
-    files::device_refusals();
-    files::program_refusals();
-    judged::slot_refusals();
-    judged::location_refusals();
-    judged::block_refusals();
-    calls::check_and_route_refusals();
-    calls::run_refusals();
+    files::refusals();
+    judged::refusals();
+    calls::refusals();
 }

@@ -1,15 +1,14 @@
 -- A merge: the set that the search is handed has the free locations of the region, so the route that it measures is the rules' route; a route has at
 -- least one edge, so no edges mean no route.
-use mathlib.Core.Bool.{Bool, true, false, not, _&&_, _||_}
+use mathlib.Core.Bool.{Bool, true, false, _&&_}
 use mathlib.Core.List.{List}
 use mathlib.Core.Option.{Option, none, some}
-use mathlib.Core.Path.{_≡_, refl, sym, ap, _∙_, fun-ext}
-use native.Mathlib.Decide.{ℕ-discrete, decLe}
+use mathlib.Core.Path.{_≡_, refl, sym, ap, _∙_}
 use native.Mathlib.Omega.{arith}
 use Prim.Native.Nat.{ℕ, zero, suc, _+_, _-_, _≤_, _<_}
-use lib.Dec.{eqb, leb}
+use lib.Dec.{eqb}
 use lib.ListN.{getD, set, length}
-use borrow.Author.Tests.{eq-eqb, ne-eqb, le-leb, lt-leb, le-ltb}
+use borrow.Author.Tests.{eq-eqb, ne-eqb}
 use Rattle.answers.specs.Check.{ok, _>>=_, _>>_}
 use Rattle.rules.specs.declared.place.Location.{Location}
 use Rattle.rules.specs.Basics.{firstFrom}
@@ -23,6 +22,7 @@ use Rattle.rules.specs.Machine.{Frame, Item}
 use Rattle.sets.specs.declared.LocationSet.{LocationSet}
 use Rattle.sets.specs.Sets.{has}
 use Rattle.device.specs.Reader.{Owned, Rows}
+use Rattle.device.proofs.FreeLaws.{free-same as free-locations}
 use Rattle.route.specs.Found.{edgesOf}
 use Rattle.steps.specs.declared.Act.the-variants.{Quiet}
 use Rattle.steps.specs.declared.slots.Slots.{Slots}
@@ -31,79 +31,12 @@ use Rattle.steps.specs.declared.slots.Placed.the-variants.{At, Nowhere}
 use Rattle.steps.specs.declared.operations.Performed.{Performed}
 use Rattle.steps.specs.State.{placeOf, slotsOf}
 use Rattle.steps.specs.Told.{actOf}
-use Rattle.steps.specs.Performing.{movedWith, stuckWith, Tells, Maps, thin, Routes, Merges}
+use Rattle.steps.specs.Performing.{movedWith, stuckWith, Tells, Maps, Routes, Merges}
 use Rattle.steps.proofs.Perform.{stops, goes, Qubit, qubit-is, bind-is}
-
--- the set while the map is gone through: what it has lost are the taken locations below x
-abbrev pub Thinned : LocationSet → List ℕ → ℕ → LocationSet → Type 0
-Thinned owned map x free = (y : ℕ) → has free y ≡ (has owned y && (eqb (getD map y 0) 0 || leb x y))
-
-and-true : (a : Bool) → a ≡ (a && true)
-and-true true = refl
-and-true false = refl
-
-or-true : (a : Bool) → true ≡ (a || true)
-or-true true = refl
-or-true false = refl
-
-or-false : (a : Bool) → (a || false) ≡ a
-or-false true = refl
-or-false false = refl
-
-pub thin-none : (owned : LocationSet) (map : List ℕ) → Thinned owned map 0 owned
-thin-none owned map y = and-true (has owned y) ∙ ap (λ (z : Bool). has owned y && z) (or-true (eqb (getD map y 0) 0) ∙ ap (λ (z : Bool). eqb (getD map y 0) 0 || z) (sym (le-leb 0 y (omega arith))))
-
--- one location more
-thin-same : (a t : Bool) → ((t || false) && (a && (t || true))) ≡ (a && (t || false))
-thin-same true true = refl
-thin-same true false = refl
-thin-same false true = refl
-thin-same false false = refl
-
-thin-other : (a t : Bool) → ((t || true) && a) ≡ a
-thin-other true true = refl
-thin-other true false = refl
-thin-other false true = refl
-thin-other false false = refl
-
-pub thin-more : (owned : LocationSet) (map : List ℕ) (x : ℕ) (free r : LocationSet) → Thinned owned map x free → ((y : ℕ) → has r y ≡ thin free x (getD map x 0) y) → Thinned owned map (x + 1) r
-thin-more owned map x free r h k y = go (ℕ-discrete y x)
-  where
-    go : Dec (y ≡ x) → has r y ≡ (has owned y && (eqb (getD map y 0) 0 || leb (x + 1) y))
-    go (yes e) =
-        k y ∙ ap (λ (z : ℕ). (eqb (getD map z 0) 0 || not (eqb y x)) && has free y) (sym e) ∙ ap (λ (z : Bool). (eqb (getD map y 0) 0 || not z) && has free y) (eq-eqb y x e)
-        ∙ ap (λ (z : Bool). (eqb (getD map y 0) 0 || false) && z) (h y ∙ ap (λ (z : Bool). has owned y && (eqb (getD map y 0) 0 || z)) (le-leb x y (omega arith)))
-        ∙ thin-same (has owned y) (eqb (getD map y 0) 0) ∙ ap (λ (z : Bool). has owned y && (eqb (getD map y 0) 0 || z)) (sym (lt-leb (x + 1) y (omega arith)))
-    go (no n) =
-        k y ∙ ap (λ (z : Bool). (eqb (getD map x 0) 0 || not z) && has free y) (ne-eqb y x n) ∙ thin-other (has free y) (eqb (getD map x 0) 0) ∙ h y
-        ∙ ap (λ (z : Bool). has owned y && (eqb (getD map y 0) 0 || z)) (later (decLe x y))
-      where
-        later : Dec (x ≤ y) → leb x y ≡ leb (x + 1) y
-        later (yes l) = le-leb x y l ∙ sym (le-leb (x + 1) y (omega (arith, n)))
-        later (no l) = lt-leb x y (omega (arith, l)) ∙ sym (lt-leb (x + 1) y (omega (arith, l)))
-
--- from 256 on no set has any
-none-beyond : (s : LocationSet) (y : ℕ) → 256 ≤ y → has s y ≡ false
-unfolding has
-none-beyond s y l = rw (le-ltb y 256 l)
-
-pub thin-all : (owned : LocationSet) (map : List ℕ) (x : ℕ) (free : LocationSet) → 256 ≤ x → Thinned owned map x free → (y : ℕ) → has free y ≡ (has owned y && eqb (getD map y 0) 0)
-thin-all owned map x free g h y = h y ∙ go (decLe x y)
-  where
-    go : Dec (x ≤ y) → (has owned y && (eqb (getD map y 0) 0 || leb x y)) ≡ (has owned y && eqb (getD map y 0) 0)
-    go (yes k) = rw (none-beyond owned y (omega arith))
-    go (no k) = ap (λ (z : Bool). has owned y && (eqb (getD map y 0) 0 || z)) (lt-leb x y (omega (arith, k))) ∙ ap (λ (z : Bool). has owned y && z) (or-false (eqb (getD map y 0) 0))
-
--- the two ways of one location
-pub thin-free : (free : LocationSet) (x t y : ℕ) → t ≡ 0 → has free y ≡ thin free x t y
-thin-free free x t y e = sym (ap (λ (z : Bool). (z || not (eqb y x)) && has free y) (eq-eqb t 0 e))
-
-pub thin-taken : (free r : LocationSet) (x t y : ℕ) → (t ≡ 0 → ⊥) → has r y ≡ (not (eqb y x) && has free y) → has r y ≡ thin free x t y
-thin-taken free r x t y e k = k ∙ sym (ap (λ (z : Bool). (z || not (eqb y x)) && has free y) (ne-eqb t 0 e))
 
 -- the set has the free locations, as the rules have them
 free-same : (owned free : LocationSet) (map : List ℕ) (R : Region) (occupancy : List ℕ) → Owned R owned → Maps map occupancy → ((y : ℕ) → has free y ≡ (has owned y && eqb (getD map y 0) 0)) → has free ≡ freeIn R occupancy
-free-same owned free map R occupancy O M h = fun-ext λ y. h y ∙ ap (λ (z : ℕ). has owned y && eqb z 0) (M .same y) ∙ ap (λ (z : Bool). z && eqb (getD occupancy y 0) 0) (O .owned y)
+free-same owned free map R occupancy O M h = free-locations owned free R occupancy O (λ y. h y ∙ ap (λ (z : ℕ). has owned y && eqb z 0) (M .same y))
 
 -- a route has two ends
 abbrev Long : Option (List ℕ) → Type 0

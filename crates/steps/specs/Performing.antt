@@ -58,10 +58,6 @@ Inits φ x l owned map r =
     (d : Side) (σ : Actual d) (q : Preparation) (p : Place d) (R : Region) (fs : List Function) (v : Bool) (occupancy : List ℕ) → Owned R owned → Maps map occupancy → locate σ p ≡ placeOf l
     → Does R fs v (freeIn R occupancy) σ φ (init q x p) r
 
--- a set without x where the map has it as taken
-abbrev pub thin : LocationSet → ℕ → ℕ → ℕ → Bool
-thin free x taken y = (eqb taken 0 || not (eqb y x)) && has free y
-
 -- a merge, once its qubits are known to be two at the locations l and k: what is left is its route
 abbrev pub Routes : Slots → ℕ → Location → Location → List ℕ → LocationSet → List ℕ → Bool → Performed → Type 0
 Routes φ y l k rows owned map v r =

@@ -6,41 +6,14 @@ use crate::operations::stuck;
 use crate::slots::Placed;
 use crate::slots::Slot;
 use crate::slots::Slots;
+use device::free::free_in;
 use route::distance;
 use rules::bytes::wide;
 use rules::place::Location;
 use sets::LocationSet;
-ghost use mathlib.Core.Bool.{_&&_};
 ghost use mathlib.Core.Path.{_≡_};
-ghost use Prim.Native.Nat.{ℕ, _<_};
-ghost use lib.Dec.{eqb};
-ghost use lib.ListN.{getD};
-ghost use Rattle.sets.specs.Sets.{has};
-ghost use Rattle.steps.specs.Performing.{movedWith, thin, Merges, Routes};
-
-// A set without a location that the map has as taken.
-fn thinned(free: LocationSet, x: usize, taken: u8) -> LocationSet
-    requires { ⌜ x < 256 ⌝ }
-    ensures { λ r. ⌜ ((y : ℕ) → has r y ≡ thin free x taken y) ⌝ }
-{
-    if taken == 0 {
-        return free;
-    }
-    free.remove(x)
-}
-
-// The locations of the region that the map has as free.
-pub fn free_in(owned: LocationSet, map: &[u8; 256]) -> LocationSet
-    ensures { λ r. ⌜ ((y : ℕ) → has r y ≡ (has owned y && eqb (getD (now (map .entry)) y 0) 0)) ⌝ }
-{
-    let mut free = owned;
-    let mut x: usize = 0;
-    while x < 256 {
-        free = thinned(free, x, map[x]);
-        x += 1;
-    }
-    free
-}
+ghost use Prim.Native.Nat.{_<_};
+ghost use Rattle.steps.specs.Performing.{movedWith, Merges, Routes};
 
 // A move of a merge, with the edges of its route.
 fn moved_along(slots: Slots, edges: usize) -> Performed

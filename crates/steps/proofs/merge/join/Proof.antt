@@ -21,7 +21,7 @@ stuck-requires c κs = search needs
 
 returns : tie.Need-returns
 returns c =
-    join-21 _ _ _ _ _ _ _ (c .before .before .before .before .before .before .args .map .now) _ _ (c .before .before .before .before .before .free-in .ensures) _ _ _ (c .before .before .before .before .wide .ensures .0) (c .before .before .before .wide2 .ensures .0) (c .before .before .distance .ensures .0) (c .before .if1 .taken) (c .stuck .ensures)
+    join-21 _ _ _ _ _ _ _ (c .before .before .before .before .before .before .before .args .map .now) _ _ (c .before .before .before .before .before .free-in .ensures) _ _ _ (c .before .before .before .before .wide .ensures .0) (c .before .before .before .wide2 .ensures .0) (c .before .before .distance .ensures .0) (c .before .if1 .taken) (c .stuck .ensures)
 
 bind-requires : tie.Need-bind-requires
 bind-requires c κs = search needs
@@ -31,7 +31,7 @@ moved-along-requires c κs = search needs
 
 returns-2 : tie.Need-returns-2
 returns-2 c =
-    join-moves _ _ _ _ _ _ _ (c .before .before .before .before .before .before .before .args .map .now) _ _ (c .before .before .before .before .before .before .free-in .ensures) _ _ _ (c .before .before .before .before .before .wide .ensures .0) (c .before .before .before .before .wide2 .ensures .0) (c .before .before .before .distance .ensures .0) _ (c .before .before .if1 .left) (c .before .bind .ensures) (c .moved-along .ensures)
+    join-moves _ _ _ _ _ _ _ (c .before .before .before .before .before .before .before .before .args .map .now) _ _ (c .before .before .before .before .before .before .free-in .ensures) _ _ _ (c .before .before .before .before .before .wide .ensures .0) (c .before .before .before .before .wide2 .ensures .0) (c .before .before .before .distance .ensures .0) _ (c .before .before .if1 .left) (c .before .bind .ensures) (c .moved-along .ensures)
 
 pub join-spec : {M : Type 1} → statement M
 join-spec =

@@ -36,7 +36,7 @@ module _ (s : List ℕ) where
   line-files d p e m q =
       let ed : 2 + d - 2 ≡ d = omega arith in
       let ep : 4 + d + p - (4 + d) ≡ p = omega arith in
-      ap verdictOf (rw (ed, ep) at q) ∙ ap (printedFor s) e
+      ap verdictOf {y = checkOf (take d (drop 2 s)) (take p (drop (4 + d) s)) 1} (rw (ed, ep) at q) ∙ ap (printedFor s) e
 
   pub line-bad : Bad ≡ bundleOf s → (0x42 ∷ 0x41 ∷ 0x44 ∷ 0x0A ∷ []) ≡ printed s
   unfolding printedFor

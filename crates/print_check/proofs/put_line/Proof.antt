@@ -1,5 +1,7 @@
 -- A bundle's two files fill it, so that both parts lie within it; the line is the answer's.
-use mathlib.Core.Path.{sym, _∙_}
+use mathlib.Core.Path.{_≡_, sym, _∙_}
+use Prim.Native.Nat.{_+_}
+use lib.ListN.{length}
 use native.Mathlib.Omega.{arith}
 use Rattle.print_check.proofs.BundleLaws.{files-fill}
 use Rattle.print_check.proofs.LineLaws.{counts, line-files, line-bad}
@@ -13,14 +15,19 @@ split-requires c κs = search needs
 enum-known-d : tie.Need-enum-known-d
 enum-known-d c = search needs
 
+-- the lengths that the split gave fill the bundle
+filled : (c : tie.After-known-told) → 4 + c .before .d .given .0 .0 + c .before .d .given .0 .1 .0 ≡ length (c .before .before .before .before .before .before .args .bytes .now)
+filled c =
+    files-fill _ _ _ (sym (c .before .d .given .1) ∙ c .before .before .before .split .ensures)
+
 add-device-end : tie.Need-add-device-end
-add-device-end c = omega (arith, files-fill (c .before .before .before .before .before .before .args .bytes .now) (c .before .d .given .0 .0) (c .before .d .given .0 .1 .0) (sym (c .before .d .given .1) ∙ c .before .before .before .split .ensures))
+add-device-end c = omega (arith, filled c)
 
 add-start : tie.Need-add-start
-add-start c = omega (arith, files-fill (c .before .before .before .before .before .before .args .bytes .now) (c .before .d .given .0 .0) (c .before .d .given .0 .1 .0) (sym (c .before .d .given .1) ∙ c .before .before .before .split .ensures))
+add-start c = omega (arith, filled c)
 
 add-end : tie.Need-add-end
-add-end c = omega (arith, files-fill (c .before .before .before .before .before .before .args .bytes .now) (c .before .d .given .0 .0) (c .before .d .given .0 .1 .0) (sym (c .before .d .given .1) ∙ c .before .before .before .split .ensures))
+add-end c = omega (arith, filled c)
 
 sub-check : tie.Need-sub-check
 sub-check c = search needs
@@ -29,7 +36,7 @@ part-check-start : tie.Need-part-check-start
 part-check-start c = search needs
 
 part-check-end : tie.Need-part-check-end
-part-check-end c = omega (arith, files-fill (c .before .before .before .before .before .before .args .bytes .now) (c .before .d .given .0 .0) (c .before .d .given .0 .1 .0) (sym (c .before .d .given .1) ∙ c .before .before .before .split .ensures))
+part-check-end c = omega (arith, filled c)
 
 sub-check-2 : tie.Need-sub-check-2
 sub-check-2 c = search needs
@@ -38,7 +45,7 @@ part-check-start-2 : tie.Need-part-check-start-2
 part-check-start-2 c = search needs
 
 part-check-end-2 : tie.Need-part-check-end-2
-part-check-end-2 c = omega (arith, files-fill (c .before .before .before .before .before .before .before .args .bytes .now) (c .before .before .d .given .0 .0) (c .before .before .d .given .0 .1 .0) (sym (c .before .before .d .given .1) ∙ c .before .before .before .before .split .ensures))
+part-check-end-2 c = omega (arith, filled (c .before))
 
 check-requires : tie.Need-check-requires
 check-requires c κs = search needs

@@ -11,7 +11,6 @@ use lib.Dec.{eqb}
 use lib.ListN.{set, length}
 use lib.Seq.{getD-set-same, getD-set-other}
 use Rattle.answers.specs.Check.{Check, ok, refused, refusal, _>>=_, _>>_}
-use Rattle.rules.specs.declared.place.Location.{Location}
 use Rattle.rules.specs.Basics.{byte}
 use Rattle.rules.specs.Region.{Region}
 use Rattle.rules.specs.Path.{route, traced, fewest, reach, smallestFrom}
@@ -22,18 +21,17 @@ use Rattle.sets.specs.declared.LocationSet.{LocationSet}
 use Rattle.sets.specs.Sets.{has}
 use Rattle.theory.proofs.Base.{eqb-same, eqb-other}
 use Rattle.program.proofs.In.{statement-view}
-use Rattle.walking.specs.declared.names.Names.{Names}
 use Rattle.walking.specs.Walk.{Standing, Walker, put, taken, given, walkOp, walkStatement}
-use Rattle.walking.specs.Stands.{Walked, placed, named, standing, noPath, faultSaid, walkSaid, kept, StatementAt, Over}
+use Rattle.walking.specs.Stands.{Names, Walked, placed, named, standing, noPath, faultSaid, walkSaid, kept, StatementAt, Over}
 use Rattle.walking.proofs.Views.{view-init, view-free, view-merge, view-quiet}
 
 -- a store in the frame, and sets that have the same
-put-placed : (f : List Location) (x : ℕ) (l : Location) → x < length f → placed (set f x l) ≡ put (placed f) x (l .0)
+put-placed : (f : List ℕ) (x l : ℕ) → x < length f → placed (set f x l) ≡ put (placed f) x l
 put-placed f x l r = λ i y. go y (ℕ-discrete y x) i
   where
-    go : (y : ℕ) → Dec (y ≡ x) → placed (set f x l) y ≡ put (placed f) x (l .0) y
-    go y (yes e) = rw (e, eqb-same x) (ap (λ (m : Location). m .0) (getD-set-same f x l (record { 0 = 0 }) r))
-    go y (no d) = rw (eqb-other y x d) (ap (λ (m : Location). m .0) (getD-set-other f x y l (record { 0 = 0 }) d))
+    go : (y : ℕ) → Dec (y ≡ x) → placed (set f x l) y ≡ put (placed f) x l y
+    go y (yes e) = rw (e, eqb-same x) (getD-set-same f x l 0 r)
+    go y (no d) = rw (eqb-other y x d) (getD-set-other f x y l 0 d)
 
 same-set : {F G : ℕ → Bool} → ((y : ℕ) → F y ≡ G y) → F ≡ G
 same-set h = λ i y. h y i
@@ -69,25 +67,25 @@ unfolding noPath
 searched R F r a a′ b b′ e g d = ap (λ (n : ℕ). eqb n 0) d ∙ (λ i. eqb (edgesOf (route R F (e i) (g i))) 0)
 
 -- and between the locations of slots x and z
-pub no-path-of : (R : Region) (F : ℕ → Bool) (f : List Location) (x x′ z z′ : ℕ) (t : Bool) → x′ ≡ x → z′ ≡ z → noPath R F (placed f x′) (placed f z′) ≡ t → noPath R F (placed f x) (placed f z) ≡ t
+pub no-path-of : (R : Region) (F : ℕ → Bool) (f : List ℕ) (x x′ z z′ : ℕ) (t : Bool) → x′ ≡ x → z′ ≡ z → noPath R F (placed f x′) (placed f z′) ≡ t → noPath R F (placed f x) (placed f z) ≡ t
 no-path-of R F f x x′ z z′ t e g h = (λ i. noPath R F (placed f (sym e i)) (placed f (sym g i))) ∙ h
 
 -- The statement t at p, in a block that the walk is over. The frame f and the set F are where the walk stands.
-module _ {s bodies quiet rows : List ℕ} {g : ℕ} {n : Names} {p : ℕ} (f : List Location) (F : LocationSet) (t : StatementAt s bodies quiet g n p) (R : Region) (W : Walker) (σ : Place (t .side) → Place device)
+module _ {s bodies quiet rows : List ℕ} {g : ℕ} {n : Names} {p : ℕ} (f : List ℕ) (F : LocationSet) (t : StatementAt s bodies quiet g n p) (R : Region) (W : Walker) (σ : Place (t .side) → Place device)
     (O : Over R rows (t .counts) (t .program .functions) g (t .scope) n W σ) where
   as-op : (a : Op (t .side)) → t .tree ≡ op p a → walkStatement R W σ (t .tree) (standing f F) ≡ walkOp R W σ p a (standing f F)
   unfolding walkStatement
   as-op a e = ap (λ (x : Statement (t .side)). walkStatement R W σ x (standing f F)) e
 
   -- an init: its slot x has its qubit at l, which is no longer free
-  pub on-init : byte s p < 3 → (x w : ℕ) (l : Location) (G : LocationSet) → x ≡ byte s (p + 1) → length f ≡ 32 → l .0 ≡ named n (byte s (p + 2)) → w ≡ l .0
+  pub on-init : byte s p < 3 → (x w l : ℕ) (G : LocationSet) → x ≡ byte s (p + 1) → length f ≡ 32 → l ≡ named n (byte s (p + 2)) → w ≡ l
       → ((y : ℕ) → has G y ≡ (not (eqb y w) && has F y)) → walkStatement R W σ (t .tree) (standing f F) ≡ ok (standing (set f x l) G)
   unfolding walkOp
   on-init h x w l G e z k u d =
       let v = view-init (statement-view (t .stands)) h in
-      let q : σ (record { no = byte s (p + 2) }) .no ≡ l .0 = O .places (record { no = byte s (p + 2) }) (v .place) ∙ sym k in
+      let q : σ (record { no = byte s (p + 2) }) .no ≡ l = O .places (record { no = byte s (p + 2) }) (v .place) ∙ sym k in
       let fs : put (placed f) (byte s (p + 1)) (σ (record { no = byte s (p + 2) }) .no) ≡ placed (set f x l)
-      = ap (λ (m : ℕ). put (placed f) (byte s (p + 1)) m) q ∙ ap (λ (y : ℕ). put (placed f) y (l .0)) (sym e) ∙ sym (put-placed f x l (omega (arith, v .slot))) in
+      = ap (λ (m : ℕ). put (placed f) (byte s (p + 1)) m) q ∙ ap (λ (y : ℕ). put (placed f) y l) (sym e) ∙ sym (put-placed f x l (omega (arith, v .slot))) in
       let gs : taken (has F) (σ (record { no = byte s (p + 2) }) .no) ≡ has G = ap (taken (has F)) (q ∙ sym u) ∙ sym (same-set d) in
       as-op (init (v .prepared) (byte s (p + 1)) (record { no = byte s (p + 2) })) (v .is) ∙ (λ i. ok (record { frame = fs i; free = gs i }))
 
@@ -117,10 +115,10 @@ fault-said zero F h = absurd (h refl)
 fault-said (suc o) F h = refl
 
 -- what an inner walk's answer says of its statement
-pub kept-on : (f : List Location) (w : Walked) {m : Check Standing} → kept f (walkSaid w) ≡ m → w .fault ≡ 0 → m ≡ ok (standing f (w .free))
+pub kept-on : (f : List ℕ) (w : Walked) {m : Check Standing} → kept f (walkSaid w) ≡ m → w .fault ≡ 0 → m ≡ ok (standing f (w .free))
 unfolding _>>=_
 kept-on f w e h = sym e ∙ ap (λ (o : ℕ). kept f (faultSaid o (w .free))) h
 
-pub kept-refused : (f : List Location) (w : Walked) {m : Check Standing} → kept f (walkSaid w) ≡ m → w .fault ≢ 0 → m ≡ refused (refusal 21 (w .fault))
+pub kept-refused : (f : List ℕ) (w : Walked) {m : Check Standing} → kept f (walkSaid w) ≡ m → w .fault ≢ 0 → m ≡ refused (refusal 21 (w .fault))
 unfolding _>>=_
 kept-refused f w e h = sym e ∙ ap (kept f) (fault-said (w .fault) (w .free) h)

@@ -13,7 +13,6 @@ use lib.ListN.{getD, length, take}
 use lib.Seq.{getD-take, length-take-le}
 use borrow.Author.Tests.{lt-ltb, le-ltb}
 use Rattle.answers.specs.Check.{Check, ok, refused, refusal, _>>=_, _>>_}
-use Rattle.rules.specs.declared.place.Location.{Location}
 use Rattle.rules.specs.Basics.{upTo, byte, word}
 use Rattle.rules.specs.Region.{Region}
 use Rattle.rules.specs.Syntax.{device, parameter, Place, param, at, Statement, if, while, call, Function, function}
@@ -22,9 +21,8 @@ use Rattle.sets.specs.Sets.{has}
 use Rattle.rules.proofs.Basics.{getD-upTo}
 use Rattle.program.specs.In.{BlockIn, scopeOf}
 use Rattle.program.proofs.In.{statement-view}
-use Rattle.walking.specs.declared.names.Names.{Names}
 use Rattle.walking.specs.Walk.{Walker, enteredAt, walkStatement, walkBlock}
-use Rattle.walking.specs.Stands.{Walked, leaves, placed, named, standing, faultSaid, kept, BlockAt, StatementAt, Over, BlockWalked, StatementWalked}
+use Rattle.walking.specs.Stands.{Names, Walked, leaves, placed, named, standing, faultSaid, kept, BlockAt, StatementAt, Over, BlockWalked, StatementWalked}
 use Rattle.walking.proofs.Views.{view-if, view-while, view-call}
 use Rattle.walking.proofs.Ends.{block-ends}
 use Rattle.walking.proofs.Arms.{fault-said}
@@ -57,17 +55,17 @@ module _ {s bodies quiet : List ℕ} {g : ℕ} {n : Names} {p : ℕ} where
       record { side = t .side; program = t .program; counts = t .counts; scope = t .scope; depths = t .depths; tree = v .inner; next = t .next; body = t .body; stands = v .first }
 
 -- what two walks after one another say, and one whose free locations are not taken over
-both-said : (f : List Location) (o : ℕ) (G H : LocationSet) → kept f (faultSaid o G) ≡ (ok (has G) >>= λ K. faultSaid o H >> ok (record { frame = placed f; free = K }))
+both-said : (f : List ℕ) (o : ℕ) (G H : LocationSet) → kept f (faultSaid o G) ≡ (ok (has G) >>= λ K. faultSaid o H >> ok (record { frame = placed f; free = K }))
 unfolding _>>=_ _>>_
 both-said f zero G H = refl
 both-said f (suc o) G H = refl
 
-once-said : (f : List Location) (o : ℕ) (F G : LocationSet) → kept f (faultSaid o F) ≡ (faultSaid o G >> ok (standing f F))
+once-said : (f : List ℕ) (o : ℕ) (F G : LocationSet) → kept f (faultSaid o F) ≡ (faultSaid o G >> ok (standing f F))
 unfolding _>>=_ _>>_
 once-said f zero F G = refl
 once-said f (suc o) F G = refl
 
-module _ {s bodies quiet : List ℕ} {g : ℕ} {n : Names} {p : ℕ} (f : List Location) (F : LocationSet) where
+module _ {s bodies quiet : List ℕ} {g : ℕ} {n : Names} {p : ℕ} (f : List ℕ) (F : LocationSet) where
   if-is : (h : byte s p ≡ 10) (m : ℕ) (e : m ≡ p + 2 + 2 + word s (p + 2)) (t : StatementAt s bodies quiet g n p) (R : Region) (W : Walker) (σ : Place (t .side) → Place device)
       → walkStatement R W σ (t .tree) (standing f F)
       ≡ (walkBlock R W σ (thenBlock h t .tree) (standing f F) >>= λ G. walkBlock R W σ (elseBlock m h e t .tree) (standing f F) >> ok (record { frame = placed f; free = G }))
@@ -79,7 +77,7 @@ module _ {s bodies quiet : List ℕ} {g : ℕ} {n : Names} {p : ℕ} (f : List L
   unfolding walkStatement
   while-is h t R W σ = let v = view-while (statement-view (t .stands)) h in ap (λ (x : Statement (t .side)). walkStatement R W σ x (standing f F)) (v .is)
 
-module _ {s bodies quiet rows : List ℕ} {g : ℕ} {n : Names} {p : ℕ} (f : List Location) (F : LocationSet) where
+module _ {s bodies quiet rows : List ℕ} {g : ℕ} {n : Names} {p : ℕ} (f : List ℕ) (F : LocationSet) where
   -- both blocks walked: what the first left free, where the second found no fault
   pub if-walked : (h : byte s p ≡ 10) (m : ℕ) (e : m ≡ p + 2 + 2 + word s (p + 2)) (a b : Walked) → BlockWalked s bodies quiet rows g n (p + 2) f F a → a .fault ≡ 0
       → BlockWalked s bodies quiet rows g n m f F b → StatementWalked s bodies quiet rows g n p f F (record { fault = b .fault; free = a .free })
@@ -105,7 +103,7 @@ module _ {s bodies quiet rows : List ℕ} {g : ℕ} {n : Names} {p : ℕ} (f : L
       once-said f (a .fault) F (a .free) ∙ ap (λ (m : Check (ℕ → Bool)). m >> ok (standing f F)) (A (loopBlock h t) R W σ o) ∙ sym (while-is f F h t R W σ)
 
 -- the same fault and the same words
-pub walked-as : (s bodies quiet rows : List ℕ) (g : ℕ) (n : Names) (p : ℕ) (f : List Location) (F : LocationSet) (o : ℕ) (ws : List ℕ) (o′ : ℕ) (ws′ : List ℕ) → ws ≡ ws′ → o ≡ o′ → length ws′ ≡ 4
+pub walked-as : (s bodies quiet rows : List ℕ) (g : ℕ) (n : Names) (p : ℕ) (f : List ℕ) (F : LocationSet) (o : ℕ) (ws : List ℕ) (o′ : ℕ) (ws′ : List ℕ) → ws ≡ ws′ → o ≡ o′ → length ws′ ≡ 4
     → StatementWalked s bodies quiet rows g n p f F (leaves o′ ws′) → StatementWalked s bodies quiet rows g n p f F (leaves o ws) × (length ws ≡ 4)
 walked-as s bodies quiet rows g n p f F o ws o′ ws′ e d l h = (
   subst (λ (v : ℕ). StatementWalked s bodies quiet rows g n p f F (leaves v ws)) (sym d) (subst (λ (vs : List ℕ). StatementWalked s bodies quiet rows g n p f F (leaves o′ vs)) (sym e) h),
@@ -150,7 +148,7 @@ module _ {s bodies quiet : List ℕ} {g : ℕ} {n : Names} {p : ℕ} (h : byte s
   abbrev places : List (Place (t .side))
   places = upTo (p + 4) (byte s (p + 2)) λ i. record { no = byte s i }
 
-  call-is : (fr : List Location) (F : LocationSet) (R : Region) (W : Walker) (σ : Place (t .side) → Place device)
+  call-is : (fr : List ℕ) (F : LocationSet) (R : Region) (W : Walker) (σ : Place (t .side) → Place device)
       → walkStatement R W σ (t .tree) (standing fr F) ≡ kept fr (W f (λ q. σ (at places (q .no))) (has F))
   unfolding walkStatement
   call-is fr F R W σ =
@@ -165,7 +163,7 @@ module _ {s bodies quiet : List ℕ} {g : ℕ} {n : Names} {p : ℕ} (h : byte s
       let v = view-call (statement-view (t .stands)) h in
       ap (λ (q : Place (t .side)). σ q .no) (getD-upTo (p + 4) (byte s (p + 2)) i (λ j. record { no = byte s j }) _ l) ∙ O .places (record { no = byte s (p + 4 + i) }) (v .places i l)
 
-module _ {s bodies quiet rows : List ℕ} {g : ℕ} {n : Names} {p : ℕ} (fr : List Location) (F : LocationSet) where
+module _ {s bodies quiet rows : List ℕ} {g : ℕ} {n : Names} {p : ℕ} (fr : List ℕ) (F : LocationSet) where
   -- a callee without commands: the walk goes on as it stands
   pub call-quiet : (h : byte s p ≡ 12) (t : StatementAt s bodies quiet g n p) → getD (t .counts) (byte s (p + 1)) 0 ≡ 0 → (R : Region) (W : Walker) (σ : Place (t .side) → Place device)
       → Over R rows (t .counts) (t .program .functions) g (t .scope) n W σ → walkStatement R W σ (t .tree) (standing fr F) ≡ ok (standing fr F)
@@ -174,11 +172,10 @@ module _ {s bodies quiet rows : List ℕ} {g : ℕ} {n : Names} {p : ℕ} (fr : 
       call-is h _ refl t fr F R W σ ∙ ap (kept fr) (O .callees .skips (byte s (p + 1)) (callee-known h _ refl t .0) z (λ q. σ (at (places h _ refl t) (q .no))) (has F))
 
   -- a callee walked: its places are the call's, and on entry argument i is at place i
-  pub call-walked : (h : byte s p ≡ 12) (f k : ℕ) → f ≡ byte s (p + 1) → k ≡ byte s (p + 2) → (inner : Names) (entry : List Location) (w : Walked) → inner .in_main ≡ false
-      → ((i : ℕ) → i < k → placed (inner .at) i ≡ named n (byte s (p + 4 + i))) → ((i : ℕ) → k ≤ i → placed (inner .at) i ≡ 0)
-      → ((i : ℕ) → i < 16 → placed entry i ≡ placed (inner .at) i) → ((i : ℕ) → 16 ≤ i → placed entry i ≡ 0)
+  pub call-walked : (h : byte s p ≡ 12) (f k : ℕ) → f ≡ byte s (p + 1) → k ≡ byte s (p + 2) → (inner : Names) (entry : List ℕ) (w : Walked) → inner .main ≡ false
+      → ((i : ℕ) → i < k → placed (inner .at) i ≡ named n (byte s (p + 4 + i))) → ((i : ℕ) → i < k → placed entry i ≡ named n (byte s (p + 4 + i))) → ((i : ℕ) → k ≤ i → placed entry i ≡ 0)
       → BlockWalked s bodies quiet rows f inner (getD bodies f 0) entry F w → StatementWalked s bodies quiet rows g n p fr F w
-  call-walked h f k e u inner entry w main a b c d B t R W σ O =
+  call-walked h f k e u inner entry w main a b d B t R W σ O =
       ap (kept fr) (B (calleeBlock h f e t inner) R W τ over ∙ ap (λ (q : ℕ → ℕ). walkBlock R W τ (function fs f .body) (record { frame = q; free = has F })) same
       ∙ sym (O .callees .walks f (known .0) τ (has F)))
       ∙ sym (call-is h f e t fr F R W σ)
@@ -192,26 +189,23 @@ module _ {s bodies quiet rows : List ℕ} {g : ℕ} {n : Names} {p : ℕ} (fr : 
       τ : Place parameter → Place device
       τ q = σ (at (places h f e t) (q .no))
 
-      τ-named : (i : ℕ) → i < k → τ (param i) .no ≡ placed (inner .at) i
-      τ-named i l = place-named h f e t σ O i (omega (arith, u)) ∙ sym (a i l)
+      τ-named : (i : ℕ) → i < k → τ (param i) .no ≡ named n (byte s (p + 4 + i))
+      τ-named i l = place-named h f e t σ O i (omega (arith, u))
 
       over : Over R rows (t .counts) fs f (scopeOf fs f) inner W τ
       over = record {
         region = O .region;
         callees = record { walks = λ j l. O .callees .walks j (omega (arith, l, known .0)); skips = λ j l. O .callees .skips j (omega (arith, l, known .0)) };
-        places = λ q l. τ-named (q .no) (omega (arith, u, known .3, l)) ∙ rw main;
+        places = λ q l. let z : q .no < k = omega (arith, u, known .3, l) in τ-named (q .no) z ∙ sym (a (q .no) z) ∙ rw main;
       }
 
-      at-slot : (i : ℕ) → Dec (i < k) → Dec (i < 16) → placed entry i ≡ cond (ltb i (function fs f .k)) (τ (param i) .no) 0
-      at-slot i (yes l) r =
+      at-slot : (i : ℕ) → Dec (i < k) → placed entry i ≡ cond (ltb i (function fs f .k)) (τ (param i) .no) 0
+      at-slot i (yes l) =
           let q : ltb i (function fs f .k) ≡ true = lt-ltb i (function fs f .k) (omega (arith, u, known .3)) in
-          rw q (c i (omega (arith, u, known .4)) ∙ sym (τ-named i l))
-      at-slot i (no l) (yes r) =
-          let q : ltb i (function fs f .k) ≡ false = le-ltb i (function fs f .k) (omega (arith, u, known .3)) in
-          rw q (c i r ∙ b i (omega arith))
-      at-slot i (no l) (no r) =
+          rw q (b i l ∙ sym (τ-named i l))
+      at-slot i (no l) =
           let q : ltb i (function fs f .k) ≡ false = le-ltb i (function fs f .k) (omega (arith, u, known .3)) in
           rw q (d i (omega arith))
 
       same : placed entry ≡ enteredAt (function fs f .k) τ (has F) .frame
-      same = λ j i. at-slot i (decLt i k) (decLt i 16) j
+      same = λ j i. at-slot i (decLt i k) j

@@ -12,7 +12,6 @@ use Rattle.answers.specs.declared.Refusal.{Refusal}
 use Rattle.answers.specs.declared.ReadAnswer.the-variants.{Readable, Refused}
 use Rattle.answers.specs.Check.{Check, ok, refusal, _>>_}
 use Rattle.answers.specs.Said.{readSaid}
-use Rattle.rules.specs.declared.place.Location.{Location}
 use Rattle.rules.specs.Region.{Region}
 use Rattle.rules.specs.Syntax.{device, Place, function, Program}
 use Rattle.rules.specs.Commands.{sizeOf, walk}
@@ -24,14 +23,13 @@ use Rattle.device.specs.Reader.{Owned, Rows}
 use Rattle.program.specs.declared.functions.FunctionTable.{FunctionTable}
 use Rattle.program.specs.In.{BlockIn, ProgramIn, mainScope}
 use Rattle.program.specs.Reader.{Tabled}
-use Rattle.walking.specs.declared.names.Names.{Names}
 use Rattle.walking.specs.Quiet.{Skips}
-use Rattle.walking.specs.Stands.{Walked, placed, faultSaid, walkSaid, BlockAt, Over, BlockWalked}
+use Rattle.walking.specs.Stands.{Names, Walked, placed, faultSaid, walkSaid, BlockAt, Over, BlockWalked}
 use Rattle.walking.proofs.Arms.{fault-said}
 use Rattle.walking.proofs.Whole.{byCommands, callees, main-follows}
 
 -- main's block
-abbrev pub mainBlock : {s counts quiet : List ℕ} {p : Program} {t : FunctionTable} {main : ℕ} (n : Names) → n .in_main ≡ true → Skips s counts quiet → ProgramIn s p → Tabled p t main
+abbrev pub mainBlock : {s counts quiet : List ℕ} {p : Program} {t : FunctionTable} {main : ℕ} (n : Names) → n .main ≡ true → Skips s counts quiet → ProgramIn s p → Tabled p t main
     → BlockAt s (t .bodies) quiet (t .count) n main
 mainBlock {s = s} {counts = counts} {p = p} {t = t} n h K P T = record {
   side = device;
@@ -53,7 +51,7 @@ mainBlock {s = s} {counts = counts} {p = p} {t = t} n h K P T = record {
 }
 
 -- What the walk over it says, for every region and typing of the program.
-module _ {s : List ℕ} {t : FunctionTable} {counts quiet rows : List ℕ} {main : ℕ} (n : Names) (h : n .in_main ≡ true) (K : Skips s counts quiet) (f : List Location) (owned : LocationSet) (w : Walked)
+module _ {s : List ℕ} {t : FunctionTable} {counts quiet rows : List ℕ} {main : ℕ} (n : Names) (h : n .main ≡ true) (K : Skips s counts quiet) (f : List ℕ) (owned : LocationSet) (w : Walked)
     (B : BlockWalked s (t .bodies) quiet rows (t .count) n main f owned w)
     (p : Program) (R : Region) (d : Typed device) (e : Derives (R .owned) p d) (P : ProgramIn s p) (T : Tabled p t main) (O : Owned R owned) (r : Rows R rows)
     (z : (g : ℕ) → g < length (p .functions) → getD counts g 0 ≡ 0 → sizeOf (signature (e .signatures) g .commands) ≡ 0) where

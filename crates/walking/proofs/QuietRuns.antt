@@ -6,20 +6,18 @@ use native.Mathlib.Decide.{decLt}
 use native.Mathlib.Omega.{arith}
 use Prim.Native.Nat.{ℕ, _+_, _<_, _≤_}
 use lib.ListN.{length}
-use Rattle.rules.specs.declared.place.Location.{Location}
 use Rattle.rules.specs.Basics.{word}
 use Rattle.sets.specs.declared.LocationSet.{LocationSet}
 use Rattle.program.proofs.In.{statement-view, statements-next}
-use Rattle.walking.specs.declared.names.Names.{Names}
 use Rattle.walking.specs.Quiet.{Quiet, none, operation, call, Skips, Stepped}
-use Rattle.walking.specs.Stands.{BlockAt, StatementsAt}
+use Rattle.walking.specs.Stands.{Names, BlockAt, StatementsAt}
 use Rattle.walking.proofs.Views.{view-size, view-call}
 use Rattle.walking.proofs.QuietLaws.{quiet-rises, stepped-bounds}
 use Rattle.walking.proofs.Steps.{statementsOf, Left, left-on, statementIn, Rest, Turn}
 use Rattle.walking.proofs.Arms.{on-quiet}
 use Rattle.walking.proofs.Inner.{call-quiet}
 
-module _ (s bodies quiet rows : List ℕ) (g : ℕ) (n : Names) (from stop : ℕ) (f₀ : List Location) (F₀ : LocationSet) (b : StatementsAt s bodies quiet g n from stop) (f : List Location) (F : LocationSet) where
+module _ (s bodies quiet rows : List ℕ) (g : ℕ) (n : Names) (from stop : ℕ) (f₀ : List ℕ) (F₀ : LocationSet) (b : StatementsAt s bodies quiet g n from stop) (f : List ℕ) (F : LocationSet) where
   abbrev Here : ℕ → Type 0
   Here p = Left s bodies quiet rows g n from stop f₀ F₀ b p f F
 
@@ -47,7 +45,7 @@ abbrev pub Steps : List ℕ → ℕ → ℕ → ℕ → Type 0
 Steps quiet p stop r = (s counts : List ℕ) → stop ≤ length s → Skips s counts quiet → Stepped s counts p stop r
 
 -- what is left after the step, and where it ends
-pub rest-run : {s bodies quiet rows : List ℕ} {g : ℕ} {n : Names} {from stop : ℕ} {f₀ : List Location} {F₀ : LocationSet} {p r : ℕ} {f : List Location} {F : LocationSet} → Steps quiet p stop r → p ≤ stop
+pub rest-run : {s bodies quiet rows : List ℕ} {g : ℕ} {n : Names} {from stop : ℕ} {f₀ : List ℕ} {F₀ : LocationSet} {p r : ℕ} {f : List ℕ} {F : LocationSet} → Steps quiet p stop r → p ≤ stop
     → Rest s bodies quiet rows g n from stop f₀ F₀ p f F → Rest s bodies quiet rows g n from stop f₀ F₀ r f F
 rest-run {s} {bodies} {quiet} {rows} {g} {n} {from} {stop} {f₀} {F₀} {p} {r} {f} {F} k l H = record {
   left = λ b.

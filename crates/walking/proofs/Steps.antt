@@ -8,7 +8,6 @@ use Prim.Native.Nat.{ℕ, _+_, _<_, _≤_}
 use lib.ListN.{length}
 use Rattle.answers.specs.declared.Refusal.{Refusal}
 use Rattle.answers.specs.Check.{Check, ok, refused, _>>=_}
-use Rattle.rules.specs.declared.place.Location.{Location}
 use Rattle.rules.specs.Basics.{word}
 use Rattle.rules.specs.Region.{Region}
 use Rattle.rules.specs.Syntax.{device, Place, Statements, Block, block}
@@ -16,9 +15,8 @@ use Rattle.sets.specs.declared.LocationSet.{LocationSet}
 use Rattle.sets.specs.Sets.{has}
 use Rattle.program.specs.In.{StatementsIn}
 use Rattle.program.proofs.In.{block-in, statement-byte, statements-end, statements-next}
-use Rattle.walking.specs.declared.names.Names.{Names}
 use Rattle.walking.specs.Walk.{Standing, Walker, walkStatement, walkStatements, walkBlock}
-use Rattle.walking.specs.Stands.{standing, BlockAt, StatementAt, StatementsAt, Over}
+use Rattle.walking.specs.Stands.{Names, standing, BlockAt, StatementAt, StatementsAt, Over}
 
 -- the statements of a block that ends at `stop`
 abbrev pub statementsOf : {s bodies quiet : List ℕ} {g : ℕ} {n : Names} {at : ℕ} (stop : ℕ) → stop ≡ at + 2 + word s at → BlockAt s bodies quiet g n at → StatementsAt s bodies quiet g n (at + 2) stop
@@ -40,15 +38,15 @@ block-opens : {s bodies quiet : List ℕ} {g : ℕ} {n : Names} {at : ℕ} (stop
 unfolding walkStatement
 block-opens stop e b R W σ st = ap (λ (x : Block (b .side)). walkBlock R W σ x st) (block-in (b .stands) .2)
 
-module _ (s bodies quiet rows : List ℕ) (g : ℕ) (n : Names) (from stop : ℕ) (f₀ : List Location) (F₀ : LocationSet) where
+module _ (s bodies quiet rows : List ℕ) (g : ℕ) (n : Names) (from stop : ℕ) (f₀ : List ℕ) (F₀ : LocationSet) where
   -- from p on, standing so, what is left ends as all of the statements b does
-  pub record Left (b : StatementsAt s bodies quiet g n from stop) (p : ℕ) (f : List Location) (F : LocationSet) : Type 0 where
+  pub record Left (b : StatementsAt s bodies quiet g n from stop) (p : ℕ) (f : List ℕ) (F : LocationSet) : Type 0 where
     pub tree : Statements (b .side)
     pub stands : StatementsIn s (b .scope) (b .depths) p stop tree
     pub walks : (R : Region) (W : Walker) (σ : Place (b .side) → Place device) → Over R rows (b .counts) (b .program .functions) g (b .scope) n W σ
         → walkStatements R W σ (b .tree) (standing f₀ F₀) ≡ walkStatements R W σ tree (standing f F)
 
-  module _ (b : StatementsAt s bodies quiet g n from stop) {p : ℕ} {f : List Location} {F : LocationSet} (H : Left b p f F) where
+  module _ (b : StatementsAt s bodies quiet g n from stop) {p : ℕ} {f : List ℕ} {F : LocationSet} (H : Left b p f F) where
     -- the statement at p
     abbrev pub statementIn : p < stop → StatementAt s bodies quiet g n p
     statementIn l =
@@ -56,7 +54,7 @@ module _ (s bodies quiet rows : List ℕ) (g : ℕ) (n : Names) (from stop : ℕ
         record { side = b .side; program = b .program; counts = b .counts; scope = b .scope; depths = b .depths; tree = k .0; next = k .1; body = b .body; stands = k .4 }
 
     -- where it lets the walk on
-    pub left-on : (q : ℕ) (f′ : List Location) (F′ : LocationSet) (l : p < stop) → q ≡ statementIn l .next
+    pub left-on : (q : ℕ) (f′ : List ℕ) (F′ : LocationSet) (l : p < stop) → q ≡ statementIn l .next
         → ((R : Region) (W : Walker) (σ : Place (b .side) → Place device) → Over R rows (b .counts) (b .program .functions) g (b .scope) n W σ
         → walkStatement R W σ (statementIn l .tree) (standing f F) ≡ ok (standing f′ F′)) → Left b q f′ F′
     unfolding walkStatement _>>=_
@@ -71,18 +69,18 @@ module _ (s bodies quiet rows : List ℕ) (g : ℕ) (n : Names) (from stop : ℕ
         }
 
   -- and so for each
-  pub record Rest (p : ℕ) (f : List Location) (F : LocationSet) : Type 0 where
+  pub record Rest (p : ℕ) (f : List ℕ) (F : LocationSet) : Type 0 where
     pub left : (b : StatementsAt s bodies quiet g n from stop) → Left b p f F
 
   pub rest-start : Rest from f₀ F₀
   rest-start = record { left = λ b. record { tree = b .tree; stands = b .stands; walks = λ R W σ o. refl } }
 
-  module _ {p : ℕ} {f : List Location} {F : LocationSet} (H : Rest p f F) where
+  module _ {p : ℕ} {f : List ℕ} {F : LocationSet} (H : Rest p f F) where
     abbrev statementOf : p < stop → StatementsAt s bodies quiet g n from stop → StatementAt s bodies quiet g n p
     statementOf l b = statementIn b (H .left b) l
 
     -- where every statement at p lets the walk on
-    pub rest-on : (q : ℕ) (f′ : List Location) (F′ : LocationSet) (l : p < stop) → ((t : StatementAt s bodies quiet g n p) → q ≡ t .next)
+    pub rest-on : (q : ℕ) (f′ : List ℕ) (F′ : LocationSet) (l : p < stop) → ((t : StatementAt s bodies quiet g n p) → q ≡ t .next)
         → ((t : StatementAt s bodies quiet g n p) (R : Region) (W : Walker) (σ : Place (t .side) → Place device) → Over R rows (t .counts) (t .program .functions) g (t .scope) n W σ
         → walkStatement R W σ (t .tree) (standing f F) ≡ ok (standing f′ F′)) → Rest q f′ F′
     rest-on q f′ F′ l e h = record { left = λ b. left-on b (H .left b) q f′ F′ l (e (statementOf l b)) (h (statementOf l b)) }
@@ -106,7 +104,7 @@ module _ (s bodies quiet rows : List ℕ) (g : ℕ) (n : Names) (from stop : ℕ
     rest-ends e b R W σ o = H .left b .walks R W σ o ∙ ap (λ (ts : Statements (b .side)). walkStatements R W σ ts (standing f F)) (statements-end (H .left b .stands) e)
 
 -- The whole block, from where the loop stands.
-module _ {s bodies quiet rows : List ℕ} {g : ℕ} {n : Names} {at stop : ℕ} {f₀ : List Location} {F₀ : LocationSet} {p : ℕ} {f : List Location} {F : LocationSet}
+module _ {s bodies quiet rows : List ℕ} {g : ℕ} {n : Names} {at stop : ℕ} {f₀ : List ℕ} {F₀ : LocationSet} {p : ℕ} {f : List ℕ} {F : LocationSet}
     (H : Rest s bodies quiet rows g n (at + 2) stop f₀ F₀ p f F) (e : stop ≡ at + 2 + word s at) (b : BlockAt s bodies quiet g n at) (R : Region) (W : Walker) (σ : Place (b .side) → Place device)
     (o : Over R rows (b .counts) (b .program .functions) g (b .scope) n W σ) where
   pub block-refused : (r : Refusal) (l : p < stop)
@@ -126,7 +124,7 @@ pub record Turn (s bodies quiet : List ℕ) (g : ℕ) (n : Names) (p stop : ℕ)
   pub further : p < here .next
   pub fits : here .next ≤ stop
 
-pub turn : {s bodies quiet rows : List ℕ} {g : ℕ} {n : Names} {at stop : ℕ} {f₀ : List Location} {F₀ : LocationSet} {p : ℕ} {f : List Location} {F : LocationSet} → BlockAt s bodies quiet g n at
+pub turn : {s bodies quiet rows : List ℕ} {g : ℕ} {n : Names} {at stop : ℕ} {f₀ : List ℕ} {F₀ : LocationSet} {p : ℕ} {f : List ℕ} {F : LocationSet} → BlockAt s bodies quiet g n at
     → stop ≡ at + 2 + word s at → p ≤ stop → (p ≡ stop → ⊥) → Rest s bodies quiet rows g n (at + 2) stop f₀ F₀ p f F → Turn s bodies quiet g n p stop
 turn {stop = stop} {p = p} b e l d H =
     let i : p < stop = omega (arith, l, d) in
@@ -143,5 +141,5 @@ pub statement-bounds : {s bodies quiet : List ℕ} {g : ℕ} {n : Names} {at : �
 statement-bounds t = let k = statement-byte (t .stands) in (omega (arith, k .2, k .3), t .body .program .size)
 
 -- a place byte below 16, where the names are those of a call
-pub place-room : {s bodies quiet : List ℕ} {g : ℕ} {n : Names} {at b : ℕ} (t : StatementAt s bodies quiet g n at) → b < t .scope .places → n .in_main ≡ false → b < 16
+pub place-room : {s bodies quiet : List ℕ} {g : ℕ} {n : Names} {at b : ℕ} (t : StatementAt s bodies quiet g n at) → b < t .scope .places → n .main ≡ false → b < 16
 place-room t l h = omega (arith, l, t .body .room h)

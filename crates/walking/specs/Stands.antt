@@ -6,7 +6,6 @@ use Prim.Native.Nat.{ℕ, zero, suc, _<_, _≤_}
 use lib.Dec.{eqb}
 use lib.ListN.{getD, length, take}
 use Rattle.answers.specs.Check.{Check, ok, refused, refusal, _>>=_}
-use Rattle.rules.specs.declared.place.Location.{Location}
 use Rattle.rules.specs.Region.{Region}
 use Rattle.rules.specs.Path.{route}
 use Rattle.rules.specs.Syntax.{Side, device, Place, Statement, Statements, Block, Function, function, Program}
@@ -16,19 +15,26 @@ use Rattle.sets.specs.Sets.{has}
 use Rattle.device.specs.Reader.{Rows}
 use Rattle.route.specs.Found.{edgesOf}
 use Rattle.program.specs.In.{BlockIn, StatementIn, StatementsIn, ProgramIn, offsetOf}
-use Rattle.walking.specs.declared.names.Names.{Names}
 use Rattle.walking.specs.Quiet.{Skips}
 use Rattle.walking.specs.Walk.{Standing, Walker, walkStatement, walkBlock, Callees}
 
 -- the location of element x
-abbrev pub placed : List Location → ℕ → ℕ
-placed f x = getD f x (record { 0 = 0 }) .0
+abbrev pub placed : List ℕ → ℕ → ℕ
+placed f x = getD f x 0
+
+-- the places of a body: in main a place is its location; in a function place i is the location that the call named for it
+pub record Names : Type 0 where
+  pub main : Bool
+  pub at : List ℕ
+
+abbrev pub namesOf : Bool → List ℕ → Names
+namesOf m ls = record { main = m; at = ls }
 
 -- the location that a place byte stands for
 abbrev pub named : Names → ℕ → ℕ
-named n b = cond (n .in_main) b (placed (n .at) b)
+named n b = cond (n .main) b (placed (n .at) b)
 
-abbrev pub standing : List Location → LocationSet → Standing
+abbrev pub standing : List ℕ → LocationSet → Standing
 standing f s = record { frame = placed f; free = has s }
 
 -- no path joins a and b: the route that is singled out has no edges
@@ -55,7 +61,7 @@ abbrev pub walkSaid : Walked → Check (ℕ → Bool)
 walkSaid w = faultSaid (w .fault) (w .free)
 
 -- and the frame that stays
-abbrev pub kept : List Location → Check (ℕ → Bool) → Check Standing
+abbrev pub kept : List ℕ → Check (ℕ → Bool) → Check Standing
 kept f m = m >>= λ F. ok (record { frame = placed f; free = F })
 
 -- the body of function number g, or main's, where g is the number of functions: it may call those before g, and its places have names; the table
@@ -65,7 +71,7 @@ pub record Body (s bodies quiet : List ℕ) (p : Program) (counts : List ℕ) (g
   pub offsets : (f : ℕ) → f < length (p .functions) → getD bodies f 0 ≡ offsetOf (function (p .functions) f .body)
   pub reach : g ≤ length (p .functions)
   pub earlier : S .earlier ≡ take g (p .functions)
-  pub room : n .in_main ≡ false → S .places ≤ 16
+  pub room : n .main ≡ false → S .places ≤ 16
   pub table : Skips s counts quiet
 
 -- a block of it, a statement, and the statements up to a block's end
@@ -108,7 +114,7 @@ pub record Over {d : Side} (R : Region) (rows counts : List ℕ) (fs : List Func
   pub places : (l : Place d) → l .no < S .places → σ l .no ≡ named n (l .no)
 
 -- w is how the walk over the block ends, and over the statement, which leaves the frame as it is
-module _ (s bodies quiet rows : List ℕ) (g : ℕ) (n : Names) (at : ℕ) (frame : List Location) (free : LocationSet) (w : Walked) where
+module _ (s bodies quiet rows : List ℕ) (g : ℕ) (n : Names) (at : ℕ) (frame : List ℕ) (free : LocationSet) (w : Walked) where
   abbrev pub BlockWalked : Type 0
   BlockWalked = (b : BlockAt s bodies quiet g n at) (R : Region) (W : Walker) (σ : Place (b .side) → Place device) → Over R rows (b .counts) (b .program .functions) g (b .scope) n W σ
       → walkSaid w ≡ walkBlock R W σ (b .tree) (standing frame free)
@@ -119,4 +125,4 @@ module _ (s bodies quiet rows : List ℕ) (g : ℕ) (n : Names) (at : ℕ) (fram
 
 -- the same for a call, whatever the caller's frame is
 abbrev pub CallWalked : (s bodies quiet rows : List ℕ) (g : ℕ) (n : Names) (at : ℕ) (free : LocationSet) (w : Walked) → Type 0
-CallWalked s bodies quiet rows g n at free w = (frame : List Location) → StatementWalked s bodies quiet rows g n at frame free w
+CallWalked s bodies quiet rows g n at free w = (frame : List ℕ) → StatementWalked s bodies quiet rows g n at frame free w

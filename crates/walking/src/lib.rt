@@ -1,10 +1,8 @@
 // The walk over the commands of a typed program: the first merge that no path joins, over the bytes of the program.
 use answers::ReadAnswer;
 use answers::Refusal;
-use names::Names;
 use program::functions::FunctionTable;
 use quiet::mark_quiet;
-use rules::place::Location;
 use sets::LocationSet;
 use walk::walk_block;
 ghost use mathlib.Core.Path.{_≡_};
@@ -42,6 +40,8 @@ pub fn walk_program(
     let mut quiet = [0; 4096];
     mark_quiet(&mut quiet, s, &counts);
     let bodies = t.bodies;
+    let names = [0; 16];
+    let mut frame = [0; 32];
     let mut free = owned.words;
     let fault = walk_block(
         s,
@@ -49,9 +49,10 @@ pub fn walk_program(
         &quiet,
         rows,
         t.count,
-        Names::main(),
+        true,
+        &names,
         main,
-        [Location(0); 32],
+        &mut frame,
         &mut free,
     );
     if fault != 0 {

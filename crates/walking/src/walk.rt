@@ -1,9 +1,11 @@
 // The walk over blocks: a loop goes over a block's statements, runs of quiet ones in one move; only nesting and callees recurse. The free
-// locations are lent, as the words of their set, and each walk leaves there what is free after it.
+// locations are lent, as the words of their set, and each walk leaves there what is free after it. A frame is lent too, as the numbers of its
+// slots' locations, to the one block that may change it.
 use super::free::add;
 use super::free::no_path;
 use super::free::remove;
-use super::names::Names;
+use super::names::enter;
+use super::names::location_of;
 use super::positions::block_end;
 use super::positions::statement_end;
 use super::quiet::skip;
@@ -14,7 +16,7 @@ ghost use mathlib.Core.Path.{_≡_};
 ghost use Prim.Native.Nat.{_<_};
 ghost use lib.ListN.{length};
 ghost use Rattle.rules.specs.Basics.{byte};
-ghost use Rattle.walking.specs.Stands.{setOf, leaves, BlockAt, StatementAt, BlockWalked, StatementWalked, CallWalked};
+ghost use Rattle.walking.specs.Stands.{namesOf, setOf, leaves, BlockAt, StatementAt, BlockWalked, StatementWalked, CallWalked};
 
 // Whether a statement has blocks of its own or is a call: an if, a while, a call.
 fn is_inner(op: u8) -> bool
@@ -35,15 +37,16 @@ pub fn walk_block(
     quiet: &[u16; 4096],
     rows: &[u64; 1024],
     g: usize,
-    names: Names,
+    in_main: bool,
+    names: &[u8; 16],
     at: usize,
-    mut frame: [Location; 32],
+    frame: &mut [u8; 32],
     free: &mut [u64; 4],
 ) -> usize
-    requires { ⌜ BlockAt (now s) (now bodies) (now quiet) g names at ⌝ }
-    requires { ⌜ length (now free) ≡ 4 ⌝ }
+    requires { ⌜ BlockAt (now s) (now bodies) (now quiet) g (namesOf in_main (now names)) at ⌝ }
+    requires { ⌜ (length (now free) ≡ 4) × (length (now frame) ≡ 32) ⌝ }
     ensures long { λ _. ⌜ length (now (free .exit)) ≡ 4 ⌝ }
-    ensures walks { λ r. ⌜ BlockWalked (now (s .entry)) (now (bodies .entry)) (now (quiet .entry)) (now (rows .entry)) g names at frame (setOf (now (free .entry))) (leaves r (now (free .exit))) ⌝ }
+    ensures walks { λ r. ⌜ BlockWalked (now (s .entry)) (now (bodies .entry)) (now (quiet .entry)) (now (rows .entry)) g (namesOf in_main (now (names .entry))) at (now (frame .entry)) (setOf (now (free .entry))) (leaves r (now (free .exit))) ⌝ }
 {
     let stop = block_end(s, at);
     let mut p = skip(quiet, at + 2, stop);
@@ -52,25 +55,25 @@ pub fn walk_block(
         let next = skip(quiet, statement_end(s, p), stop);
         // an init, a free, a merge, what recurses; a quiet one is met where it ends the file
         if op < 3 {
-            let l = names.location(s[p + 2]);
-            frame[wide(s[p + 1])] = l;
+            let l = location_of(in_main, names, s[p + 2]);
+            frame[wide(s[p + 1])] = l.0;
             remove(free, l);
         } else if op == 3 {
             let l = frame[wide(s[p + 1])];
-            add(free, l);
+            add(free, Location(l));
         } else if op == 6 {
             let a = frame[wide(s[p + 3])];
             let b = frame[wide(s[p + 5])];
-            if no_path(rows, free, a, b) {
+            if no_path(rows, free, Location(a), Location(b)) {
                 return p;
             }
         } else if is_inner(op) {
             let fault = if op == 10 {
-                walk_if(s, bodies, quiet, rows, g, names, p, frame, free)
+                walk_if(s, bodies, quiet, rows, g, in_main, names, p, frame, free)
             } else if op == 11 {
-                walk_while(s, bodies, quiet, rows, g, names, p, frame, free)
+                walk_while(s, bodies, quiet, rows, g, in_main, names, p, frame, free)
             } else {
-                walk_call(s, bodies, quiet, rows, g, names, p, free)
+                walk_call(s, bodies, quiet, rows, g, in_main, names, p, free)
             };
             if fault != 0 {
                 return fault;
@@ -88,30 +91,45 @@ fn walk_if(
     quiet: &[u16; 4096],
     rows: &[u64; 1024],
     g: usize,
-    names: Names,
+    in_main: bool,
+    names: &[u8; 16],
     at: usize,
-    frame: [Location; 32],
+    frame: &[u8; 32],
     free: &mut [u64; 4],
 ) -> usize
-    requires { ⌜ StatementAt (now s) (now bodies) (now quiet) g names at × (byte (now s) at ≡ 10) ⌝ }
-    requires { ⌜ length (now free) ≡ 4 ⌝ }
+    requires { ⌜ StatementAt (now s) (now bodies) (now quiet) g (namesOf in_main (now names)) at × (byte (now s) at ≡ 10) ⌝ }
+    requires { ⌜ (length (now free) ≡ 4) × (length (now frame) ≡ 32) ⌝ }
     ensures long { λ _. ⌜ length (now (free .exit)) ≡ 4 ⌝ }
-    ensures walks { λ r. ⌜ StatementWalked (now (s .entry)) (now (bodies .entry)) (now (quiet .entry)) (now (rows .entry)) g names at frame (setOf (now (free .entry))) (leaves r (now (free .exit))) ⌝ }
+    ensures walks { λ r. ⌜ StatementWalked (now (s .entry)) (now (bodies .entry)) (now (quiet .entry)) (now (rows .entry)) g (namesOf in_main (now (names .entry))) at (now (frame .entry)) (setOf (now (free .entry))) (leaves r (now (free .exit))) ⌝ }
 {
     let mut other = *free;
-    let first = walk_block(s, bodies, quiet, rows, g, names, at + 2, frame, free);
+    let mut first_frame = *frame;
+    let first = walk_block(
+        s,
+        bodies,
+        quiet,
+        rows,
+        g,
+        in_main,
+        names,
+        at + 2,
+        &mut first_frame,
+        free,
+    );
     if first != 0 {
         return first;
     }
+    let mut other_frame = *frame;
     walk_block(
         s,
         bodies,
         quiet,
         rows,
         g,
+        in_main,
         names,
         block_end(s, at + 2),
-        frame,
+        &mut other_frame,
         &mut other,
     )
 }
@@ -123,17 +141,30 @@ fn walk_while(
     quiet: &[u16; 4096],
     rows: &[u64; 1024],
     g: usize,
-    names: Names,
+    in_main: bool,
+    names: &[u8; 16],
     at: usize,
-    frame: [Location; 32],
+    frame: &[u8; 32],
     free: &[u64; 4],
 ) -> usize
-    requires { ⌜ StatementAt (now s) (now bodies) (now quiet) g names at × (byte (now s) at ≡ 11) ⌝ }
-    requires { ⌜ length (now free) ≡ 4 ⌝ }
-    ensures { λ r. ⌜ StatementWalked (now (s .entry)) (now (bodies .entry)) (now (quiet .entry)) (now (rows .entry)) g names at frame (setOf (now (free .entry))) (leaves r (now (free .entry))) ⌝ }
+    requires { ⌜ StatementAt (now s) (now bodies) (now quiet) g (namesOf in_main (now names)) at × (byte (now s) at ≡ 11) ⌝ }
+    requires { ⌜ (length (now free) ≡ 4) × (length (now frame) ≡ 32) ⌝ }
+    ensures { λ r. ⌜ StatementWalked (now (s .entry)) (now (bodies .entry)) (now (quiet .entry)) (now (rows .entry)) g (namesOf in_main (now (names .entry))) at (now (frame .entry)) (setOf (now (free .entry))) (leaves r (now (free .entry))) ⌝ }
 {
     let mut inside = *free;
-    walk_block(s, bodies, quiet, rows, g, names, at + 2, frame, &mut inside)
+    let mut inner_frame = *frame;
+    walk_block(
+        s,
+        bodies,
+        quiet,
+        rows,
+        g,
+        in_main,
+        names,
+        at + 2,
+        &mut inner_frame,
+        &mut inside,
+    )
 }
 
 // The callee's body at the call's locations; the caller's frame stays.
@@ -143,26 +174,38 @@ fn walk_call(
     quiet: &[u16; 4096],
     rows: &[u64; 1024],
     g: usize,
-    names: Names,
+    in_main: bool,
+    names: &[u8; 16],
     at: usize,
     free: &mut [u64; 4],
 ) -> usize
-    requires { ⌜ StatementAt (now s) (now bodies) (now quiet) g names at × (byte (now s) at ≡ 12) ⌝ }
+    requires { ⌜ StatementAt (now s) (now bodies) (now quiet) g (namesOf in_main (now names)) at × (byte (now s) at ≡ 12) ⌝ }
     requires { ⌜ length (now free) ≡ 4 ⌝ }
     ensures long { λ _. ⌜ length (now (free .exit)) ≡ 4 ⌝ }
-    ensures walks { λ r. ⌜ CallWalked (now (s .entry)) (now (bodies .entry)) (now (quiet .entry)) (now (rows .entry)) g names at (setOf (now (free .entry))) (leaves r (now (free .exit))) ⌝ }
+    ensures walks { λ r. ⌜ CallWalked (now (s .entry)) (now (bodies .entry)) (now (quiet .entry)) (now (rows .entry)) g (namesOf in_main (now (names .entry))) at (setOf (now (free .entry))) (leaves r (now (free .exit))) ⌝ }
 {
     let f = wide(s[at + 1]);
-    let inner = names.of_call(s, at + 4, wide(s[at + 2]));
+    let mut inner = [0; 16];
+    let mut entry = [0; 32];
+    enter(
+        &mut inner,
+        &mut entry,
+        in_main,
+        names,
+        s,
+        at + 4,
+        wide(s[at + 2]),
+    );
     walk_block(
         s,
         bodies,
         quiet,
         rows,
         f,
-        inner,
+        false,
+        &inner,
         bodies[f],
-        inner.frame(),
+        &mut entry,
         free,
     )
 }

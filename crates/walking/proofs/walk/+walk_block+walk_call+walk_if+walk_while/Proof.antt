@@ -6,7 +6,8 @@ use mathlib.Core.Path.{_≡_, refl, sym, _∙_}
 use Prim.Native.Nat.{_≤_, _+_, _-_, _*_}
 use lib.ListN.{length, length-set}
 use Rattle.program.proofs.In.{statement-view}
-use Rattle.walking.specs.Stands.{setOf, leaves, StatementWalked}
+use Rattle.walking.specs.Stands.{namesOf, setOf, leaves, StatementWalked}
+use Rattle.walking.proofs.NameLaws.{none-placed}
 use Rattle.walking.proofs.Views.{view-init, view-free, view-merge, view-call}
 use Rattle.walking.proofs.Steps.{Rest, rest-start, rest-on, block-refused, block-ended, turn, block-bounds, statement-bounds, place-room}
 use Rattle.walking.proofs.Arms.{on-init, on-free, on-merge, on-quiet, no-path-of, fault-said, kept-on, kept-refused}
@@ -32,9 +33,8 @@ use Rattle.rules.proofs.bytes.wide.Reads as wide-reads
 use Rattle.walking.proofs.free.add.Reads as add-reads
 use Rattle.walking.proofs.free.no_path.Reads as no-path-reads
 use Rattle.walking.proofs.free.remove.Reads as remove-reads
-use Rattle.walking.proofs.names.Names.frame.Reads as frame-reads
-use Rattle.walking.proofs.names.Names.location.Reads as location-reads
-use Rattle.walking.proofs.names.Names.of_call.Reads as of-call-reads
+use Rattle.walking.proofs.names.enter.Reads as enter-reads
+use Rattle.walking.proofs.names.location_of.Reads as location-of-reads
 use Rattle.walking.proofs.positions.block_end.Reads as block-end-reads
 use Rattle.walking.proofs.positions.statement_end.Reads as statement-end-reads
 use Rattle.walking.proofs.quiet.skip.Reads as skip-reads
@@ -42,52 +42,52 @@ use Rattle.walking.proofs.walk.is_inner.Reads as is-inner-reads
 use Rattle.walking.proofs.walk.+walk_block+walk_call+walk_if+walk_while.{statement}
 use Rattle.walking.proofs.walk.+walk_block+walk_call+walk_if+walk_while.Tie.{close}
 
-abbrev μ-walk-block : Measures 5 walk-block-kinds.ps ℕ
-μ-walk-block κs a = 8200 * a .1 .1 .1 .1 .0 + 2 * (length (a .0 .now) - a .1 .1 .1 .1 .1 .1 .0) + 1
+abbrev μ-walk-block : Measures 7 walk-block-kinds.ps ℕ
+μ-walk-block κs a = 8200 * a .1 .1 .1 .1 .0 + 2 * (length (a .0 .now) - a .1 .1 .1 .1 .1 .1 .1 .0) + 1
 
-abbrev μ-walk-call : Measures 5 walk-call-kinds.ps ℕ
-μ-walk-call κs a = 8200 * a .1 .1 .1 .1 .0 + 2 * (length (a .0 .now) - a .1 .1 .1 .1 .1 .1 .0)
+abbrev μ-walk-call : Measures 6 walk-call-kinds.ps ℕ
+μ-walk-call κs a = 8200 * a .1 .1 .1 .1 .0 + 2 * (length (a .0 .now) - a .1 .1 .1 .1 .1 .1 .1 .0)
 
-abbrev μ-walk-if : Measures 5 walk-if-kinds.ps ℕ
-μ-walk-if κs a = 8200 * a .1 .1 .1 .1 .0 + 2 * (length (a .0 .now) - a .1 .1 .1 .1 .1 .1 .0)
+abbrev μ-walk-if : Measures 7 walk-if-kinds.ps ℕ
+μ-walk-if κs a = 8200 * a .1 .1 .1 .1 .0 + 2 * (length (a .0 .now) - a .1 .1 .1 .1 .1 .1 .1 .0)
 
-abbrev μ-walk-while : Measures 5 walk-while-kinds.ps ℕ
-μ-walk-while κs a = 8200 * a .1 .1 .1 .1 .0 + 2 * (length (a .0 .now) - a .1 .1 .1 .1 .1 .1 .0)
+abbrev μ-walk-while : Measures 7 walk-while-kinds.ps ℕ
+μ-walk-while κs a = 8200 * a .1 .1 .1 .1 .0 + 2 * (length (a .0 .now) - a .1 .1 .1 .1 .1 .1 .1 .0)
 
-abbrev walk-block-at : ℕ → In 5 walk-block-kinds.ps
+abbrev walk-block-at : ℕ → In 7 walk-block-kinds.ps
 walk-block-at t =
-    and 5 walk-block-kinds.ps (is 5 walk-block-kinds.ps μ-walk-block t) walk-block.Pre
+    and 7 walk-block-kinds.ps (is 7 walk-block-kinds.ps μ-walk-block t) walk-block.Pre
 
-abbrev walk-block-below : ℕ → In 5 walk-block-kinds.ps
+abbrev walk-block-below : ℕ → In 7 walk-block-kinds.ps
 walk-block-below t =
-    and 5 walk-block-kinds.ps (falls 5 walk-block-kinds.ps _<_ μ-walk-block t) walk-block.Pre
+    and 7 walk-block-kinds.ps (falls 7 walk-block-kinds.ps _<_ μ-walk-block t) walk-block.Pre
 
-abbrev walk-call-at : ℕ → In 5 walk-call-kinds.ps
-walk-call-at t = and 5 walk-call-kinds.ps (is 5 walk-call-kinds.ps μ-walk-call t) walk-call.Pre
+abbrev walk-call-at : ℕ → In 6 walk-call-kinds.ps
+walk-call-at t = and 6 walk-call-kinds.ps (is 6 walk-call-kinds.ps μ-walk-call t) walk-call.Pre
 
-abbrev walk-call-below : ℕ → In 5 walk-call-kinds.ps
+abbrev walk-call-below : ℕ → In 6 walk-call-kinds.ps
 walk-call-below t =
-    and 5 walk-call-kinds.ps (falls 5 walk-call-kinds.ps _<_ μ-walk-call t) walk-call.Pre
+    and 6 walk-call-kinds.ps (falls 6 walk-call-kinds.ps _<_ μ-walk-call t) walk-call.Pre
 
-abbrev walk-if-at : ℕ → In 5 walk-if-kinds.ps
-walk-if-at t = and 5 walk-if-kinds.ps (is 5 walk-if-kinds.ps μ-walk-if t) walk-if.Pre
+abbrev walk-if-at : ℕ → In 7 walk-if-kinds.ps
+walk-if-at t = and 7 walk-if-kinds.ps (is 7 walk-if-kinds.ps μ-walk-if t) walk-if.Pre
 
-abbrev walk-if-below : ℕ → In 5 walk-if-kinds.ps
-walk-if-below t = and 5 walk-if-kinds.ps (falls 5 walk-if-kinds.ps _<_ μ-walk-if t) walk-if.Pre
+abbrev walk-if-below : ℕ → In 7 walk-if-kinds.ps
+walk-if-below t = and 7 walk-if-kinds.ps (falls 7 walk-if-kinds.ps _<_ μ-walk-if t) walk-if.Pre
 
-abbrev walk-while-at : ℕ → In 5 walk-while-kinds.ps
+abbrev walk-while-at : ℕ → In 7 walk-while-kinds.ps
 walk-while-at t =
-    and 5 walk-while-kinds.ps (is 5 walk-while-kinds.ps μ-walk-while t) walk-while.Pre
+    and 7 walk-while-kinds.ps (is 7 walk-while-kinds.ps μ-walk-while t) walk-while.Pre
 
-abbrev walk-while-below : ℕ → In 5 walk-while-kinds.ps
+abbrev walk-while-below : ℕ → In 7 walk-while-kinds.ps
 walk-while-below t =
-    and 5 walk-while-kinds.ps (falls 5 walk-while-kinds.ps _<_ μ-walk-while t) walk-while.Pre
+    and 7 walk-while-kinds.ps (falls 7 walk-while-kinds.ps _<_ μ-walk-while t) walk-while.Pre
 
 abbrev walk-block-calls : ℕ → walk-block-lts.Claims
-walk-block-calls t = (block-end-reads.Asked, block-end-reads.Learnt, skip-reads.Asked, skip-reads.Learnt, statement-end-reads.Asked, statement-end-reads.Learnt, location-reads.Asked, location-reads.Learnt, wide-reads.Asked, wide-reads.Learnt, remove-reads.Asked, remove-reads.Learnt, add-reads.Asked, add-reads.Learnt, no-path-reads.Asked, no-path-reads.Learnt, is-inner-reads.Asked, is-inner-reads.Learnt, walk-if-below t, walk-if.Post, walk-while-below t, walk-while.Post, walk-call-below t, walk-call.Post)
+walk-block-calls t = (block-end-reads.Asked, block-end-reads.Learnt, skip-reads.Asked, skip-reads.Learnt, statement-end-reads.Asked, statement-end-reads.Learnt, location-of-reads.Asked, location-of-reads.Learnt, wide-reads.Asked, wide-reads.Learnt, remove-reads.Asked, remove-reads.Learnt, add-reads.Asked, add-reads.Learnt, no-path-reads.Asked, no-path-reads.Learnt, is-inner-reads.Asked, is-inner-reads.Learnt, walk-if-below t, walk-if.Post, walk-while-below t, walk-while.Post, walk-call-below t, walk-call.Post)
 
 abbrev walk-call-calls : ℕ → walk-call-lts.Claims
-walk-call-calls t = (wide-reads.Asked, wide-reads.Learnt, of-call-reads.Asked, of-call-reads.Learnt, frame-reads.Asked, frame-reads.Learnt, walk-block-below t, walk-block.Post)
+walk-call-calls t = (wide-reads.Asked, wide-reads.Learnt, enter-reads.Asked, enter-reads.Learnt, walk-block-below t, walk-block.Post)
 
 abbrev walk-if-calls : ℕ → walk-if-lts.Claims
 walk-if-calls t = (walk-block-below t, walk-block.Post, block-end-reads.Asked, block-end-reads.Learnt)
@@ -96,10 +96,10 @@ abbrev walk-while-calls : ℕ → walk-while-lts.Claims
 walk-while-calls t = (walk-block-below t, walk-block.Post)
 
 abbrev walk-block-Inv-loop : walk-block-lts.InvT-loop
-walk-block-Inv-loop s bodies quiet rows g names at free₀ frame₀ stop p₀ free frame p = (at + 2 ≤ p) × (p ≤ stop) × (length frame ≡ 32) × Rest s bodies quiet rows g names (at + 2) stop frame₀ (setOf free₀) p frame (setOf free) × (length free ≡ 4)
+walk-block-Inv-loop s bodies quiet rows g in-main names at frame₀ free₀ stop p₀ frame free p = (at + 2 ≤ p) × (p ≤ stop) × (length frame ≡ 32) × Rest s bodies quiet rows g (namesOf in-main names) (at + 2) stop frame₀ (setOf free₀) p frame (setOf free) × (length free ≡ 4)
 
 abbrev walk-block-μ-loop : walk-block-lts.MeasureT-loop
-walk-block-μ-loop s bodies quiet rows g names at free₀ frame₀ stop p₀ free frame p = stop - p
+walk-block-μ-loop s bodies quiet rows g in-main names at frame₀ free₀ stop p₀ frame free p = stop - p
 
 walk-block-block-end-requires : (t : ℕ) → walk-block-lts.Need-block-end-requires (walk-block-calls t) (walk-block-at t) walk-block.Post walk-block-Inv-loop walk-block-μ-loop
 walk-block-block-end-requires t c κs = let k = block-bounds (c .before .pre .1 .0) in (omega arith, k .1)
@@ -113,7 +113,7 @@ walk-block-skip-requires t c κs = let k = block-bounds (c .before .before .pre 
 walk-block-loop-holds : (t : ℕ) → walk-block-lts.Need-loop-holds (walk-block-calls t) (walk-block-at t) walk-block.Post walk-block-Inv-loop walk-block-μ-loop
 walk-block-loop-holds t c =
     let l = run-bounds (c .before .before .before .pre .1 .0) (c .before .block-end .ensures) (c .skip .ensures) (omega (arith, c .before .block-end .ensures)) in
-    (l .0, l .1, c .before .before .before .good .1 .1 .1 .1 .1 .1 .1 .0 .1 .0 .1, rest-run (c .skip .ensures) (omega (arith, c .before .block-end .ensures)) (rest-start _ _ _ _ _ _ _ _ _ _), c .before .before .before .pre .1 .1)
+    (l .0, l .1, c .before .before .before .pre .1 .1 .1, rest-run (c .skip .ensures) (omega (arith, c .before .block-end .ensures)) (rest-start _ _ _ _ _ _ _ _ _ _), c .before .before .before .pre .1 .1 .0)
 
 walk-block-shared-slice-read-op : (t : ℕ) → walk-block-lts.Need-shared-slice-read-op (walk-block-calls t) (walk-block-at t) walk-block.Post walk-block-Inv-loop walk-block-μ-loop
 walk-block-shared-slice-read-op t c = let T = turn (c .before .before .before .before .before .before .pre .1 .0) (c .before .before .before .before .block-end .ensures) (c .before .before .loop .inv .1) (c .before .loop-test .taken) (c .before .before .loop .inv .3) in omega (arith, T .inside, T .within)
@@ -124,17 +124,17 @@ walk-block-statement-end-requires t c κs = let T = turn (c .before .before .bef
 walk-block-skip-requires-2 : (t : ℕ) → walk-block-lts.Need-skip-requires-2 (walk-block-calls t) (walk-block-at t) walk-block.Post walk-block-Inv-loop walk-block-μ-loop
 walk-block-skip-requires-2 t c κs = let T = turn (c .before .before .before .before .before .before .before .pre .1 .0) (c .before .before .before .before .before .block-end .ensures) (c .before .before .before .loop .inv .1) (c .before .before .loop-test .taken) (c .before .before .before .loop .inv .3) in let e = c .statement-end .ensures _ _ _ _ _ (T .here .stands) in (omega (arith, e, T .fits), omega (arith, T .within, T .size))
 
-walk-block-add-location : (t : ℕ) → walk-block-lts.Need-add-location (walk-block-calls t) (walk-block-at t) walk-block.Post walk-block-Inv-loop walk-block-μ-loop
-walk-block-add-location t c = let T = turn (c .before .before .before .before .before .before .before .before .before .pre .1 .0) (c .before .before .before .before .before .before .before .block-end .ensures) (c .before .before .before .before .before .loop .inv .1) (c .before .before .before .before .loop-test .taken) (c .before .before .before .before .before .loop .inv .3) in omega (arith, T .inside, T .within, T .size)
+walk-block-add-location-of : (t : ℕ) → walk-block-lts.Need-add-location-of (walk-block-calls t) (walk-block-at t) walk-block.Post walk-block-Inv-loop walk-block-μ-loop
+walk-block-add-location-of t c = let T = turn (c .before .before .before .before .before .before .before .before .before .pre .1 .0) (c .before .before .before .before .before .before .before .block-end .ensures) (c .before .before .before .before .before .loop .inv .1) (c .before .before .before .before .loop-test .taken) (c .before .before .before .before .before .loop .inv .3) in omega (arith, T .inside, T .within, T .size)
 
-walk-block-shared-slice-read-location : (t : ℕ) → walk-block-lts.Need-shared-slice-read-location (walk-block-calls t) (walk-block-at t) walk-block.Post walk-block-Inv-loop walk-block-μ-loop
-walk-block-shared-slice-read-location t c =
+walk-block-shared-slice-read-location-of : (t : ℕ) → walk-block-lts.Need-shared-slice-read-location-of (walk-block-calls t) (walk-block-at t) walk-block.Post walk-block-Inv-loop walk-block-μ-loop
+walk-block-shared-slice-read-location-of t c =
     let T = turn (c .before .before .before .before .before .before .before .before .before .before .pre .1 .0) (c .before .before .before .before .before .before .before .before .block-end .ensures) (c .before .before .before .before .before .before .loop .inv .1) (c .before .before .before .before .before .loop-test .taken) (c .before .before .before .before .before .before .loop .inv .3) in
     let v = view-init (statement-view (T .here .stands)) (c .before .if1 .taken) in
     omega (arith, v .fits)
 
-walk-block-location-requires : (t : ℕ) → walk-block-lts.Need-location-requires (walk-block-calls t) (walk-block-at t) walk-block.Post walk-block-Inv-loop walk-block-μ-loop
-walk-block-location-requires t c κs =
+walk-block-location-of-requires : (t : ℕ) → walk-block-lts.Need-location-of-requires (walk-block-calls t) (walk-block-at t) walk-block.Post walk-block-Inv-loop walk-block-μ-loop
+walk-block-location-of-requires t c κs =
     let T = turn (c .before .before .before .before .before .before .before .before .before .before .pre .1 .0) (c .before .before .before .before .before .before .before .before .block-end .ensures) (c .before .before .before .before .before .before .loop .inv .1) (c .before .before .before .before .before .loop-test .taken) (c .before .before .before .before .before .before .loop .inv .3) in
     let v = view-init (statement-view (T .here .stands)) (c .before .if1 .taken) in
     place-room (T .here) (v .place)
@@ -151,8 +151,8 @@ walk-block-shared-slice-read-wide t c =
 walk-block-wide-requires : (t : ℕ) → walk-block-lts.Need-wide-requires (walk-block-calls t) (walk-block-at t) walk-block.Post walk-block-Inv-loop walk-block-μ-loop
 walk-block-wide-requires t c κs = tt
 
-walk-block-array-set-from-frame : (t : ℕ) → walk-block-lts.Need-array-set-from-frame (walk-block-calls t) (walk-block-at t) walk-block.Post walk-block-Inv-loop walk-block-μ-loop
-walk-block-array-set-from-frame t c =
+walk-block-element-write-frame : (t : ℕ) → walk-block-lts.Need-element-write-frame (walk-block-calls t) (walk-block-at t) walk-block.Post walk-block-Inv-loop walk-block-μ-loop
+walk-block-element-write-frame t c =
     let T = turn (c .before .before .before .before .before .before .before .before .before .before .before .before .before .pre .1 .0) (c .before .before .before .before .before .before .before .before .before .before .before .block-end .ensures) (c .before .before .before .before .before .before .before .before .before .loop .inv .1) (c .before .before .before .before .before .before .before .before .loop-test .taken) (c .before .before .before .before .before .before .before .before .before .loop .inv .3) in
     let v = view-init (statement-view (T .here .stands)) (c .before .before .before .before .if1 .taken) in
     omega (arith, c .wide .ensures .0, v .slot)
@@ -172,8 +172,8 @@ walk-block-shared-slice-read-wide-2 t c =
 walk-block-wide-requires-2 : (t : ℕ) → walk-block-lts.Need-wide-requires-2 (walk-block-calls t) (walk-block-at t) walk-block.Post walk-block-Inv-loop walk-block-μ-loop
 walk-block-wide-requires-2 t c κs = tt
 
-walk-block-array-copy-out-l : (t : ℕ) → walk-block-lts.Need-array-copy-out-l (walk-block-calls t) (walk-block-at t) walk-block.Post walk-block-Inv-loop walk-block-μ-loop
-walk-block-array-copy-out-l t c =
+walk-block-element-copy-out-l : (t : ℕ) → walk-block-lts.Need-element-copy-out-l (walk-block-calls t) (walk-block-at t) walk-block.Post walk-block-Inv-loop walk-block-μ-loop
+walk-block-element-copy-out-l t c =
     let T = turn (c .before .before .before .before .before .before .before .before .before .before .before .before .pre .1 .0) (c .before .before .before .before .before .before .before .before .before .before .block-end .ensures) (c .before .before .before .before .before .before .before .before .loop .inv .1) (c .before .before .before .before .before .before .before .loop-test .taken) (c .before .before .before .before .before .before .before .before .loop .inv .3) in
     let v = view-free (statement-view (T .here .stands)) (c .before .before .if2 .taken) in
     omega (arith, c .wide2 .ensures .0, v .slot)
@@ -193,8 +193,8 @@ walk-block-shared-slice-read-wide-3 t c =
 walk-block-wide-requires-3 : (t : ℕ) → walk-block-lts.Need-wide-requires-3 (walk-block-calls t) (walk-block-at t) walk-block.Post walk-block-Inv-loop walk-block-μ-loop
 walk-block-wide-requires-3 t c κs = tt
 
-walk-block-array-copy-out-a : (t : ℕ) → walk-block-lts.Need-array-copy-out-a (walk-block-calls t) (walk-block-at t) walk-block.Post walk-block-Inv-loop walk-block-μ-loop
-walk-block-array-copy-out-a t c =
+walk-block-element-copy-out-a : (t : ℕ) → walk-block-lts.Need-element-copy-out-a (walk-block-calls t) (walk-block-at t) walk-block.Post walk-block-Inv-loop walk-block-μ-loop
+walk-block-element-copy-out-a t c =
     let T = turn (c .before .before .before .before .before .before .before .before .before .before .before .before .before .pre .1 .0) (c .before .before .before .before .before .before .before .before .before .before .before .block-end .ensures) (c .before .before .before .before .before .before .before .before .before .loop .inv .1) (c .before .before .before .before .before .before .before .before .loop-test .taken) (c .before .before .before .before .before .before .before .before .before .loop .inv .3) in
     let v = view-merge (statement-view (T .here .stands)) (c .before .before .if3 .taken) in
     omega (arith, c .wide3 .ensures .0, v .first)
@@ -211,8 +211,8 @@ walk-block-shared-slice-read-wide-4 t c =
 walk-block-wide-requires-4 : (t : ℕ) → walk-block-lts.Need-wide-requires-4 (walk-block-calls t) (walk-block-at t) walk-block.Post walk-block-Inv-loop walk-block-μ-loop
 walk-block-wide-requires-4 t c κs = tt
 
-walk-block-array-copy-out-b : (t : ℕ) → walk-block-lts.Need-array-copy-out-b (walk-block-calls t) (walk-block-at t) walk-block.Post walk-block-Inv-loop walk-block-μ-loop
-walk-block-array-copy-out-b t c =
+walk-block-element-copy-out-b : (t : ℕ) → walk-block-lts.Need-element-copy-out-b (walk-block-calls t) (walk-block-at t) walk-block.Post walk-block-Inv-loop walk-block-μ-loop
+walk-block-element-copy-out-b t c =
     let T = turn (c .before .before .before .before .before .before .before .before .before .before .before .before .before .before .before .before .pre .1 .0) (c .before .before .before .before .before .before .before .before .before .before .before .before .before .before .block-end .ensures) (c .before .before .before .before .before .before .before .before .before .before .before .before .loop .inv .1) (c .before .before .before .before .before .before .before .before .before .before .before .loop-test .taken) (c .before .before .before .before .before .before .before .before .before .before .before .before .loop .inv .3) in
     let v = view-merge (statement-view (T .here .stands)) (c .before .before .before .before .before .if3 .taken) in
     omega (arith, c .wide4 .ensures .0, v .second)
@@ -233,10 +233,10 @@ walk-block-is-inner-requires : (t : ℕ) → walk-block-lts.Need-is-inner-requir
 walk-block-is-inner-requires t c κs = tt
 
 walk-block-walk-if-requires : (t : ℕ) → walk-block-lts.Need-walk-if-requires (walk-block-calls t) (walk-block-at t) walk-block.Post walk-block-Inv-loop walk-block-μ-loop
-walk-block-walk-if-requires t c κs = let T = turn (c .before .before .before .before .before .before .before .before .before .before .before .before .before .before .before .pre .1 .0) (c .before .before .before .before .before .before .before .before .before .before .before .before .before .block-end .ensures) (c .before .before .before .before .before .before .before .before .before .before .before .loop .inv .1) (c .before .before .before .before .before .before .before .before .before .before .loop-test .taken) (c .before .before .before .before .before .before .before .before .before .before .before .loop .inv .3) in (omega (arith, T .inside, T .within, c .before .before .before .before .before .before .before .before .before .before .before .loop .inv .0, c .before .before .before .before .before .before .before .before .before .before .before .before .before .before .before .pre .0), ((T .here, c .before .if6 .taken), c .before .before .before .before .before .before .before .before .before .before .before .loop .inv .4))
+walk-block-walk-if-requires t c κs = let T = turn (c .before .before .before .before .before .before .before .before .before .before .before .before .before .before .before .before .pre .1 .0) (c .before .before .before .before .before .before .before .before .before .before .before .before .before .before .block-end .ensures) (c .before .before .before .before .before .before .before .before .before .before .before .before .loop .inv .1) (c .before .before .before .before .before .before .before .before .before .before .before .loop-test .taken) (c .before .before .before .before .before .before .before .before .before .before .before .before .loop .inv .3) in (omega (arith, T .inside, T .within, c .before .before .before .before .before .before .before .before .before .before .before .before .loop .inv .0, c .before .before .before .before .before .before .before .before .before .before .before .before .before .before .before .before .pre .0), ((T .here, c .before .before .if6 .taken), (c .before .before .before .before .before .before .before .before .before .before .before .before .loop .inv .4, c .before .before .before .before .before .before .before .before .before .before .before .before .loop .inv .2)))
 
 walk-block-walk-while-requires : (t : ℕ) → walk-block-lts.Need-walk-while-requires (walk-block-calls t) (walk-block-at t) walk-block.Post walk-block-Inv-loop walk-block-μ-loop
-walk-block-walk-while-requires t c κs = let T = turn (c .before .before .before .before .before .before .before .before .before .before .before .before .before .before .before .before .pre .1 .0) (c .before .before .before .before .before .before .before .before .before .before .before .before .before .before .block-end .ensures) (c .before .before .before .before .before .before .before .before .before .before .before .before .loop .inv .1) (c .before .before .before .before .before .before .before .before .before .before .before .loop-test .taken) (c .before .before .before .before .before .before .before .before .before .before .before .before .loop .inv .3) in (omega (arith, T .inside, T .within, c .before .before .before .before .before .before .before .before .before .before .before .before .loop .inv .0, c .before .before .before .before .before .before .before .before .before .before .before .before .before .before .before .before .pre .0), ((T .here, c .before .if7 .taken), c .before .before .before .before .before .before .before .before .before .before .before .before .loop .inv .4))
+walk-block-walk-while-requires t c κs = let T = turn (c .before .before .before .before .before .before .before .before .before .before .before .before .before .before .before .before .before .pre .1 .0) (c .before .before .before .before .before .before .before .before .before .before .before .before .before .before .before .block-end .ensures) (c .before .before .before .before .before .before .before .before .before .before .before .before .before .loop .inv .1) (c .before .before .before .before .before .before .before .before .before .before .before .before .loop-test .taken) (c .before .before .before .before .before .before .before .before .before .before .before .before .before .loop .inv .3) in (omega (arith, T .inside, T .within, c .before .before .before .before .before .before .before .before .before .before .before .before .before .loop .inv .0, c .before .before .before .before .before .before .before .before .before .before .before .before .before .before .before .before .before .pre .0), ((T .here, c .before .before .if7 .taken), (c .before .before .before .before .before .before .before .before .before .before .before .before .before .loop .inv .4, c .before .before .before .before .before .before .before .before .before .before .before .before .before .loop .inv .2)))
 
 walk-block-walk-call-requires : (t : ℕ) → walk-block-lts.Need-walk-call-requires (walk-block-calls t) (walk-block-at t) walk-block.Post walk-block-Inv-loop walk-block-μ-loop
 walk-block-walk-call-requires t c κs =
@@ -245,12 +245,12 @@ walk-block-walk-call-requires t c κs =
     (omega (arith, T .inside, T .within, c .before .before .before .before .before .before .before .before .before .before .before .before .loop .inv .0, c .before .before .before .before .before .before .before .before .before .before .before .before .before .before .before .before .pre .0), ((T .here, omega (arith, k .0, k .1, c .before .before .if6 .left, c .before .if7 .left)), c .before .before .before .before .before .before .before .before .before .before .before .before .loop .inv .4))
 
 -- however it came about, the inner statement is walked
-walk-block-joined : (t : ℕ) (c : walk-block-lts.Joined6 (walk-block-calls t) (walk-block-at t) walk-block.Post walk-block-Inv-loop walk-block-μ-loop) → StatementWalked (c .before .before .before .before .before .before .before .before .before .before .before .before .before .before .args .s .now) (c .before .before .before .before .before .before .before .before .before .before .before .before .before .before .args .bodies .now) (c .before .before .before .before .before .before .before .before .before .before .before .before .before .before .args .quiet .now) (c .before .before .before .before .before .before .before .before .before .before .before .before .before .before .args .rows .now) (c .before .before .before .before .before .before .before .before .before .before .before .before .before .before .args .g) (c .before .before .before .before .before .before .before .before .before .before .before .before .before .before .args .names) (c .before .before .before .before .before .before .before .before .before .before .loop .p) (c .before .before .before .before .before .before .before .before .before .before .loop .frame) (setOf (c .before .before .before .before .before .before .before .before .before .before .loop .free)) (leaves (c .if6 .fault) (c .if6 .free)) × (length (c .if6 .free) ≡ 4)
+walk-block-joined : (t : ℕ) (c : walk-block-lts.Joined6 (walk-block-calls t) (walk-block-at t) walk-block.Post walk-block-Inv-loop walk-block-μ-loop) → StatementWalked (c .before .before .before .before .before .before .before .before .before .before .before .before .before .before .args .s .now) (c .before .before .before .before .before .before .before .before .before .before .before .before .before .before .args .bodies .now) (c .before .before .before .before .before .before .before .before .before .before .before .before .before .before .args .quiet .now) (c .before .before .before .before .before .before .before .before .before .before .before .before .before .before .args .rows .now) (c .before .before .before .before .before .before .before .before .before .before .before .before .before .before .args .g) (namesOf (c .before .before .before .before .before .before .before .before .before .before .before .before .before .before .args .in-main) (c .before .before .before .before .before .before .before .before .before .before .before .before .before .before .args .names .now)) (c .before .before .before .before .before .before .before .before .before .before .loop .p) (c .before .before .before .before .before .before .before .before .before .before .loop .frame) (setOf (c .before .before .before .before .before .before .before .before .before .before .loop .free)) (leaves (c .if6 .fault) (c .if6 .free)) × (length (c .if6 .free) ≡ 4)
 walk-block-joined t c =
-    let same = walked-as (c .before .before .before .before .before .before .before .before .before .before .before .before .before .before .args .s .now) (c .before .before .before .before .before .before .before .before .before .before .before .before .before .before .args .bodies .now) (c .before .before .before .before .before .before .before .before .before .before .before .before .before .before .args .quiet .now) (c .before .before .before .before .before .before .before .before .before .before .before .before .before .before .args .rows .now) (c .before .before .before .before .before .before .before .before .before .before .before .before .before .before .args .g) (c .before .before .before .before .before .before .before .before .before .before .before .before .before .before .args .names) (c .before .before .before .before .before .before .before .before .before .before .loop .p) (c .before .before .before .before .before .before .before .before .before .before .loop .frame) (setOf (c .before .before .before .before .before .before .before .before .before .before .loop .free)) (c .if6 .fault) (c .if6 .free) in
+    let same = walked-as (c .before .before .before .before .before .before .before .before .before .before .before .before .before .before .args .s .now) (c .before .before .before .before .before .before .before .before .before .before .before .before .before .before .args .bodies .now) (c .before .before .before .before .before .before .before .before .before .before .before .before .before .before .args .quiet .now) (c .before .before .before .before .before .before .before .before .before .before .before .before .before .before .args .rows .now) (c .before .before .before .before .before .before .before .before .before .before .before .before .before .before .args .g) (namesOf (c .before .before .before .before .before .before .before .before .before .before .before .before .before .before .args .in-main) (c .before .before .before .before .before .before .before .before .before .before .before .before .before .before .args .names .now)) (c .before .before .before .before .before .before .before .before .before .before .loop .p) (c .before .before .before .before .before .before .before .before .before .before .loop .frame) (setOf (c .before .before .before .before .before .before .before .before .before .before .loop .free)) (c .if6 .fault) (c .if6 .free) in
     ⊎-elim
-    (λ w. same _ _ (w .3) (w .4) (w .2 .ensures .0) (w .2 .ensures .1))
-    (⊎-elim (λ w. same _ _ (w .4) (w .5) (c .before .before .before .before .before .before .before .before .before .before .loop .inv .4) (w .3 .ensures)) (λ w. same _ _ (w .4) (w .5) (w .3 .ensures .0) (w .3 .ensures .1 (c .before .before .before .before .before .before .before .before .before .before .loop .frame))))
+    (λ w. same _ _ (w .4) (w .5) (w .3 .ensures .0) (w .3 .ensures .1))
+    (⊎-elim (λ w. same _ _ (w .5) (w .6) (c .before .before .before .before .before .before .before .before .before .before .loop .inv .4) (w .4 .ensures)) (λ w. same _ _ (w .4) (w .5) (w .3 .ensures .0) (w .3 .ensures .1 (c .before .before .before .before .before .before .before .before .before .before .loop .frame))))
     (c .if6 .came)
 
 walk-block-returns-2 : (t : ℕ) → walk-block-lts.Need-returns-2 (walk-block-calls t) (walk-block-at t) walk-block.Post walk-block-Inv-loop walk-block-μ-loop
@@ -276,9 +276,9 @@ walk-block-loop-again t c =
     let A = turn-bounds (c .before .before .before .before .before .before .before .before .before .before .before .before .before .before .before .pre .1 .0) (c .before .before .before .before .before .before .before .before .before .before .before .before .before .block-end .ensures) T e (c .before .before .before .before .before .before .before .skip2 .ensures) in (
       omega (arith, A .1, c .before .before .before .before .before .before .before .before .before .before .before .loop .inv .0),
       A .2,
-      length-set (c .before .before .before .before .before .before .before .before .before .before .before .loop .frame) (c .before .before .wide .result) (c .before .before .before .before .location .result) ∙ c .before .before .before .before .before .before .before .before .before .before .before .loop .inv .2,
+      length-set (c .before .before .before .before .before .before .before .before .before .before .before .loop .frame) (c .before .before .wide .result) (c .before .before .before .before .location-of .result .0) ∙ c .before .before .before .before .before .before .before .before .before .before .before .loop .inv .2,
       rest-run (c .before .before .before .before .before .before .before .skip2 .ensures) (A .0) (rest-on _ _ _ _ _ _ _ _ _ _ (c .before .before .before .before .before .before .before .before .before .before .before .loop .inv .3) _ _ _ (T .inside) (λ t. c .before .before .before .before .before .before .before .before .statement-end .ensures _ _ _ _ _ (t .stands)) λ t R W σ o.
-          on-init (c .before .before .before .before .before .before .before .before .before .before .before .loop .frame) (setOf (c .before .before .before .before .before .before .before .before .before .before .before .loop .free)) t R W σ o (c .before .before .before .before .before .before .if1 .taken) _ _ _ _ (c .before .before .wide .ensures .0) (c .before .before .before .before .before .before .before .before .before .before .before .loop .inv .2) (c .before .before .before .before .location .ensures) refl (c .remove .ensures .1)),
+          on-init (c .before .before .before .before .before .before .before .before .before .before .before .loop .frame) (setOf (c .before .before .before .before .before .before .before .before .before .before .before .loop .free)) t R W σ o (c .before .before .before .before .before .before .if1 .taken) _ _ _ _ (c .before .before .wide .ensures .0) (c .before .before .before .before .before .before .before .before .before .before .before .loop .inv .2) (c .before .before .before .before .location-of .ensures) refl (c .remove .ensures .1)),
       c .remove .ensures .0,
     )
 
@@ -376,79 +376,76 @@ walk-call-shared-slice-read-wide t c = let v = view-call (statement-view (c .bef
 walk-call-wide-requires : (t : ℕ) → walk-call-lts.Need-wide-requires (walk-call-calls t) (walk-call-at t) walk-call.Post
 walk-call-wide-requires t c κs = tt
 
-walk-call-add-of-call : (t : ℕ) → walk-call-lts.Need-add-of-call (walk-call-calls t) (walk-call-at t) walk-call.Post
-walk-call-add-of-call t c = let k = statement-bounds (c .before .before .before .pre .1 .0 .0) in omega arith
+walk-call-add-enter : (t : ℕ) → walk-call-lts.Need-add-enter (walk-call-calls t) (walk-call-at t) walk-call.Post
+walk-call-add-enter t c = let k = statement-bounds (c .before .before .before .before .before .pre .1 .0 .0) in omega arith
 
 walk-call-add-wide-2 : (t : ℕ) → walk-call-lts.Need-add-wide-2 (walk-call-calls t) (walk-call-at t) walk-call.Post
-walk-call-add-wide-2 t c = let k = statement-bounds (c .before .before .before .pre .1 .0 .0) in omega arith
+walk-call-add-wide-2 t c = let k = statement-bounds (c .before .before .before .before .before .pre .1 .0 .0) in omega arith
 
 walk-call-shared-slice-read-wide-2 : (t : ℕ) → walk-call-lts.Need-shared-slice-read-wide-2 (walk-call-calls t) (walk-call-at t) walk-call.Post
-walk-call-shared-slice-read-wide-2 t c = let v = view-call (statement-view (c .before .before .before .before .pre .1 .0 .0 .stands)) (c .before .before .before .before .pre .1 .0 .1) in omega (arith, v .fits)
+walk-call-shared-slice-read-wide-2 t c = let v = view-call (statement-view (c .before .before .before .before .before .before .pre .1 .0 .0 .stands)) (c .before .before .before .before .before .before .pre .1 .0 .1) in omega (arith, v .fits)
 
 walk-call-wide-requires-2 : (t : ℕ) → walk-call-lts.Need-wide-requires-2 (walk-call-calls t) (walk-call-at t) walk-call.Post
 walk-call-wide-requires-2 t c κs = tt
 
-walk-call-of-call-requires : (t : ℕ) → walk-call-lts.Need-of-call-requires (walk-call-calls t) (walk-call-at t) walk-call.Post
-walk-call-of-call-requires t c κs =
-    let v = view-call (statement-view (c .before .before .before .before .before .pre .1 .0 .0 .stands)) (c .before .before .before .before .before .pre .1 .0 .1) in
-    let k = callee-known (c .before .before .before .before .before .pre .1 .0 .1) _ (c .before .before .wide .ensures .0) (c .before .before .before .before .before .pre .1 .0 .0) in
+walk-call-enter-requires : (t : ℕ) → walk-call-lts.Need-enter-requires (walk-call-calls t) (walk-call-at t) walk-call.Post
+walk-call-enter-requires t c κs =
+    let v = view-call (statement-view (c .before .before .before .before .before .before .before .pre .1 .0 .0 .stands)) (c .before .before .before .before .before .before .before .pre .1 .0 .1) in
+    let k = callee-known (c .before .before .before .before .before .before .before .pre .1 .0 .1) _ (c .before .before .before .before .wide .ensures .0) (c .before .before .before .before .before .before .before .pre .1 .0 .0) in
     let e = c .wide2 .ensures .0 in
-    (omega (arith, k .4, e), omega (arith, v .fits, e), λ i l h. place-room (c .before .before .before .before .before .pre .1 .0 .0) (v .places i (omega (arith, l, e))) h)
+    ((omega (arith, k .4, e), omega (arith, v .fits, e), λ i l h. place-room (c .before .before .before .before .before .before .before .pre .1 .0 .0) (v .places i (omega (arith, l, e))) h), (refl, refl))
 
 walk-call-mul-walk-block : (t : ℕ) → walk-call-lts.Need-mul-walk-block (walk-call-calls t) (walk-call-at t) walk-call.Post
-walk-call-mul-walk-block t c = let k = callee-known (c .before .before .before .before .before .before .pre .1 .0 .1) _ (c .before .before .before .wide .ensures .0) (c .before .before .before .before .before .before .pre .1 .0 .0) in omega (arith, k .2)
+walk-call-mul-walk-block t c = let k = callee-known (c .before .before .before .before .before .before .before .before .before .pre .1 .0 .1) _ (c .before .before .before .before .before .before .wide .ensures .0) (c .before .before .before .before .before .before .before .before .before .pre .1 .0 .0) in omega (arith, k .2)
 
 walk-call-element-copy-out-walk-block : (t : ℕ) → walk-call-lts.Need-element-copy-out-walk-block (walk-call-calls t) (walk-call-at t) walk-call.Post
-walk-call-element-copy-out-walk-block t c = callee-known (c .before .before .before .before .before .before .pre .1 .0 .1) _ (c .before .before .before .wide .ensures .0) (c .before .before .before .before .before .before .pre .1 .0 .0) .2
-
-walk-call-frame-requires : (t : ℕ) → walk-call-lts.Need-frame-requires (walk-call-calls t) (walk-call-at t) walk-call.Post
-walk-call-frame-requires t c κs = tt
+walk-call-element-copy-out-walk-block t c = callee-known (c .before .before .before .before .before .before .before .before .before .pre .1 .0 .1) _ (c .before .before .before .before .before .before .wide .ensures .0) (c .before .before .before .before .before .before .before .before .before .pre .1 .0 .0) .2
 
 walk-call-walk-block-requires : (t : ℕ) → walk-call-lts.Need-walk-block-requires (walk-call-calls t) (walk-call-at t) walk-call.Post
 walk-call-walk-block-requires t c κs =
-    let k = callee-known (c .before .before .before .before .before .before .before .before .before .pre .1 .0 .1) _ (c .before .before .before .before .before .before .wide .ensures .0) (c .before .before .before .before .before .before .before .before .before .pre .1 .0 .0) in
-    let z = statement-bounds (c .before .before .before .before .before .before .before .before .before .pre .1 .0 .0) in
-    (omega (arith, c .before .before .before .before .before .before .before .before .before .pre .0, k .0, z .1), (calleeBlock (c .before .before .before .before .before .before .before .before .before .pre .1 .0 .1) _ (c .before .before .before .before .before .before .wide .ensures .0) (c .before .before .before .before .before .before .before .before .before .pre .1 .0 .0) (c .before .before .before .of-call .result), c .before .before .before .before .before .before .before .before .before .pre .1 .1))
+    let k = callee-known (c .before .before .before .before .before .before .before .before .before .before .before .before .pre .1 .0 .1) _ (c .before .before .before .before .before .before .before .before .before .wide .ensures .0) (c .before .before .before .before .before .before .before .before .before .before .before .before .pre .1 .0 .0) in
+    let z = statement-bounds (c .before .before .before .before .before .before .before .before .before .before .before .before .pre .1 .0 .0) in
+    (omega (arith, c .before .before .before .before .before .before .before .before .before .before .before .before .pre .0, k .0, z .1), (calleeBlock (c .before .before .before .before .before .before .before .before .before .before .before .before .pre .1 .0 .1) _ (c .before .before .before .before .before .before .before .before .before .wide .ensures .0) (c .before .before .before .before .before .before .before .before .before .before .before .before .pre .1 .0 .0) _, (c .before .before .before .before .before .before .before .before .before .before .before .before .pre .1 .1, c .before .before .before .before .enter .ensures .0)))
 
 walk-call-returns : (t : ℕ) → walk-call-lts.Need-returns (walk-call-calls t) (walk-call-at t) walk-call.Post
 walk-call-returns t c = (
   c .walk-block .ensures .0,
-  λ fr. call-walked fr (setOf (c .before .before .before .before .before .before .before .before .before .before .args .free .now)) (c .before .before .before .before .before .before .before .before .before .before .pre .1 .0 .1) _ _ (c .before .before .before .before .before .before .before .wide .ensures .0) (c .before .before .before .before .before .wide2 .ensures .0) (c .before .before .before .before .of-call .result) (c .before .before .frame .result) (leaves (c .walk-block .result) _)
-      (c .before .before .before .before .of-call .ensures .0) (c .before .before .before .before .of-call .ensures .1) (c .before .before .before .before .of-call .ensures .2) (c .before .before .frame .ensures .0) (c .before .before .frame .ensures .1) (c .walk-block .ensures .1),
+  λ fr. call-walked fr (setOf (c .before .before .before .before .before .before .before .before .before .before .before .before .before .args .free .now)) (c .before .before .before .before .before .before .before .before .before .before .before .before .before .pre .1 .0 .1) _ _ (c .before .before .before .before .before .before .before .before .before .before .wide .ensures .0) (c .before .before .before .before .before .before .wide2 .ensures .0) (namesOf false (c .before .before .before .before .before .enter .last .0)) (c .before .before .before .before .before .enter .last .1 .0) (leaves (c .walk-block .result) _) refl
+      (c .before .before .before .before .before .enter .ensures .1 .0) (c .before .before .before .before .before .enter .ensures .1 .1 .0) (λ i l. c .before .before .before .before .before .enter .ensures .1 .1 .1 i l ∙ none-placed 32 i) (c .walk-block .ensures .1),
 )
 
 walk-if-add-walk-block : (t : ℕ) → walk-if-lts.Need-add-walk-block (walk-if-calls t) (walk-if-at t) walk-if.Post
-walk-if-add-walk-block t c = let k = statement-bounds (c .before .before .pre .1 .0 .0) in omega arith
+walk-if-add-walk-block t c = let k = statement-bounds (c .before .before .before .pre .1 .0 .0) in omega arith
 
 walk-if-walk-block-requires : (t : ℕ) → walk-if-lts.Need-walk-block-requires (walk-if-calls t) (walk-if-at t) walk-if.Post
-walk-if-walk-block-requires t c κs = let k = statement-bounds (c .before .before .before .pre .1 .0 .0) in (omega (arith, c .before .before .before .pre .0), (thenBlock (c .before .before .before .pre .1 .0 .1) (c .before .before .before .pre .1 .0 .0), c .before .before .before .pre .1 .1))
+walk-if-walk-block-requires t c κs = let k = statement-bounds (c .before .before .before .before .before .pre .1 .0 .0) in (omega (arith, c .before .before .before .before .before .pre .0), (thenBlock (c .before .before .before .before .before .pre .1 .0 .1) (c .before .before .before .before .before .pre .1 .0 .0), c .before .before .before .before .before .pre .1 .1))
 
 walk-if-returns : (t : ℕ) → walk-if-lts.Need-returns (walk-if-calls t) (walk-if-at t) walk-if.Post
-walk-if-returns t c = (c .before .walk-block .ensures .0, if-refused (c .before .before .before .before .before .args .frame) (setOf (c .before .before .before .before .before .args .free .now)) (c .before .before .before .before .before .pre .1 .0 .1) (leaves (c .before .walk-block .result) _) (c .before .walk-block .ensures .1) (c .if1 .taken))
+walk-if-returns t c = (c .before .walk-block .ensures .0, if-refused (c .before .before .before .before .before .before .before .args .frame .now) (setOf (c .before .before .before .before .before .before .before .args .free .now)) (c .before .before .before .before .before .before .before .pre .1 .0 .1) (leaves (c .before .walk-block .result) _) (c .before .walk-block .ensures .1) (c .if1 .taken))
 
 walk-if-add-block-end : (t : ℕ) → walk-if-lts.Need-add-block-end (walk-if-calls t) (walk-if-at t) walk-if.Post
-walk-if-add-block-end t c = let k = statement-bounds (c .before .before .before .before .before .pre .1 .0 .0) in omega arith
+walk-if-add-block-end t c = let k = statement-bounds (c .before .before .before .before .before .before .before .before .pre .1 .0 .0) in omega arith
 
 walk-if-block-end-requires : (t : ℕ) → walk-if-lts.Need-block-end-requires (walk-if-calls t) (walk-if-at t) walk-if.Post
-walk-if-block-end-requires t c κs = let k = statement-bounds (c .before .before .before .before .before .pre .1 .0 .0) in let e = if-ends _ (c .before .before .before .before .before .pre .1 .0 .0 .stands) (c .before .before .before .before .before .pre .1 .0 .1) refl in (omega (arith, e .0, e .1), k .1)
+walk-if-block-end-requires t c κs = let k = statement-bounds (c .before .before .before .before .before .before .before .before .pre .1 .0 .0) in let e = if-ends _ (c .before .before .before .before .before .before .before .before .pre .1 .0 .0 .stands) (c .before .before .before .before .before .before .before .before .pre .1 .0 .1) refl in (omega (arith, e .0, e .1), k .1)
 
 walk-if-walk-block-requires-2 : (t : ℕ) → walk-if-lts.Need-walk-block-requires-2 (walk-if-calls t) (walk-if-at t) walk-if.Post
 walk-if-walk-block-requires-2 t c κs =
-    let k = statement-bounds (c .before .before .before .before .before .before .before .pre .1 .0 .0) in
-    let e = if-ends _ (c .before .before .before .before .before .before .before .pre .1 .0 .0 .stands) (c .before .before .before .before .before .before .before .pre .1 .0 .1) (c .before .block-end .ensures) in
-    (omega (arith, c .before .before .before .before .before .before .before .pre .0, e .0, e .1), (elseBlock _ (c .before .before .before .before .before .before .before .pre .1 .0 .1) (c .before .block-end .ensures) (c .before .before .before .before .before .before .before .pre .1 .0 .0), c .before .before .before .before .before .before .before .pre .1 .1))
+    let k = statement-bounds (c .before .before .before .before .before .before .before .before .before .before .before .pre .1 .0 .0) in
+    let e = if-ends _ (c .before .before .before .before .before .before .before .before .before .before .before .pre .1 .0 .0 .stands) (c .before .before .before .before .before .before .before .before .before .before .before .pre .1 .0 .1) (c .before .before .block-end .ensures) in
+    (omega (arith, c .before .before .before .before .before .before .before .before .before .before .before .pre .0, e .0, e .1), (elseBlock _ (c .before .before .before .before .before .before .before .before .before .before .before .pre .1 .0 .1) (c .before .before .block-end .ensures) (c .before .before .before .before .before .before .before .before .before .before .before .pre .1 .0 .0), c .before .before .before .before .before .before .before .before .before .before .before .pre .1 .1))
 
 walk-if-returns-2 : (t : ℕ) → walk-if-lts.Need-returns-2 (walk-if-calls t) (walk-if-at t) walk-if.Post
 walk-if-returns-2 t c = (
-  c .before .before .before .before .walk-block .ensures .0,
-  if-walked (c .before .before .before .before .before .before .before .before .args .frame) (setOf (c .before .before .before .before .before .before .before .before .args .free .now)) (c .before .before .before .before .before .before .before .before .pre .1 .0 .1) _ (c .before .before .block-end .ensures) (leaves (c .before .before .before .before .walk-block .result) _) (leaves (c .walk-block2 .result) _) (c .before .before .before .before .walk-block .ensures .1) (c .before .before .before .if1 .left) (c .walk-block2 .ensures .1),
+  c .before .before .before .before .before .before .walk-block .ensures .0,
+  if-walked (c .before .before .before .before .before .before .before .before .before .before .before .before .args .frame .now) (setOf (c .before .before .before .before .before .before .before .before .before .before .before .before .args .free .now)) (c .before .before .before .before .before .before .before .before .before .before .before .before .pre .1 .0 .1) _ (c .before .before .before .block-end .ensures) (leaves (c .before .before .before .before .before .before .walk-block .result) _) (leaves (c .walk-block2 .result) _) (c .before .before .before .before .before .before .walk-block .ensures .1) (c .before .before .before .before .before .if1 .left) (c .walk-block2 .ensures .1),
 )
 
 walk-while-add-walk-block : (t : ℕ) → walk-while-lts.Need-add-walk-block (walk-while-calls t) (walk-while-at t) walk-while.Post
-walk-while-add-walk-block t c = let k = statement-bounds (c .before .before .pre .1 .0 .0) in omega arith
+walk-while-add-walk-block t c = let k = statement-bounds (c .before .before .before .pre .1 .0 .0) in omega arith
 
 walk-while-walk-block-requires : (t : ℕ) → walk-while-lts.Need-walk-block-requires (walk-while-calls t) (walk-while-at t) walk-while.Post
-walk-while-walk-block-requires t c κs = let k = statement-bounds (c .before .before .before .pre .1 .0 .0) in (omega (arith, c .before .before .before .pre .0), (loopBlock (c .before .before .before .pre .1 .0 .1) (c .before .before .before .pre .1 .0 .0), c .before .before .before .pre .1 .1))
+walk-while-walk-block-requires t c κs = let k = statement-bounds (c .before .before .before .before .before .pre .1 .0 .0) in (omega (arith, c .before .before .before .before .before .pre .0), (loopBlock (c .before .before .before .before .before .pre .1 .0 .1) (c .before .before .before .before .before .pre .1 .0 .0), c .before .before .before .before .before .pre .1 .1))
 
 walk-while-returns :
     (t : ℕ) →
@@ -456,7 +453,7 @@ walk-while-returns :
     (walk-block-below t, walk-block.Post)
     (walk-while-at t)
     walk-while.Post
-walk-while-returns t c = while-walked (c .before .before .before .before .args .frame) (setOf (c .before .before .before .before .args .free .now)) (c .before .before .before .before .pre .1 .0 .1) (leaves (c .walk-block .result) _) (c .walk-block .ensures .1)
+walk-while-returns t c = while-walked (c .before .before .before .before .before .before .args .frame .now) (setOf (c .before .before .before .before .before .before .args .free .now)) (c .before .before .before .before .before .before .pre .1 .0 .1) (leaves (c .walk-block .result) _) (c .walk-block .ensures .1)
 
 pub +walk-block+walk-call+walk-if+walk-while-spec : {M : Type 1} → statement M
 +walk-block+walk-call+walk-if+walk-while-spec =
@@ -471,27 +468,27 @@ pub +walk-block+walk-call+walk-if+walk-while-spec : {M : Type 1} → statement M
     (walk-block-shared-slice-read-op t)
     (walk-block-statement-end-requires t)
     (walk-block-skip-requires-2 t)
-    (walk-block-add-location t)
-    (walk-block-shared-slice-read-location t)
-    (walk-block-location-requires t)
+    (walk-block-add-location-of t)
+    (walk-block-shared-slice-read-location-of t)
+    (walk-block-location-of-requires t)
     (walk-block-add-wide t)
     (walk-block-shared-slice-read-wide t)
     (walk-block-wide-requires t)
-    (walk-block-array-set-from-frame t)
+    (walk-block-element-write-frame t)
     (walk-block-remove-requires t)
     (walk-block-add-wide-2 t)
     (walk-block-shared-slice-read-wide-2 t)
     (walk-block-wide-requires-2 t)
-    (walk-block-array-copy-out-l t)
+    (walk-block-element-copy-out-l t)
     (walk-block-add-requires t)
     (walk-block-add-wide-3 t)
     (walk-block-shared-slice-read-wide-3 t)
     (walk-block-wide-requires-3 t)
-    (walk-block-array-copy-out-a t)
+    (walk-block-element-copy-out-a t)
     (walk-block-add-wide-4 t)
     (walk-block-shared-slice-read-wide-4 t)
     (walk-block-wide-requires-4 t)
-    (walk-block-array-copy-out-b t)
+    (walk-block-element-copy-out-b t)
     (walk-block-no-path-requires t)
     (walk-block-returns t)
     (walk-block-is-inner-requires t)
@@ -515,14 +512,13 @@ pub +walk-block+walk-call+walk-if+walk-while-spec : {M : Type 1} → statement M
     (walk-call-add-wide t)
     (walk-call-shared-slice-read-wide t)
     (walk-call-wide-requires t)
-    (walk-call-add-of-call t)
+    (walk-call-add-enter t)
     (walk-call-add-wide-2 t)
     (walk-call-shared-slice-read-wide-2 t)
     (walk-call-wide-requires-2 t)
-    (walk-call-of-call-requires t)
+    (walk-call-enter-requires t)
     (walk-call-mul-walk-block t)
     (walk-call-element-copy-out-walk-block t)
-    (walk-call-frame-requires t)
     (walk-call-walk-block-requires t)
     (walk-call-returns t))
     (λ t. walk-if-lts.spec (walk-if-calls t) (walk-if-at t)

@@ -410,7 +410,7 @@ walk-call-walk-block-requires t c κs =
 walk-call-returns : (t : ℕ) → walk-call-lts.Need-returns (walk-call-calls t) (walk-call-at t) walk-call.Post
 walk-call-returns t c = (
   c .walk-block .ensures .0,
-  λ fr. call-walked fr (setOf (c .before .before .before .before .before .before .before .before .before .before .before .before .before .args .free .now)) (c .before .before .before .before .before .before .before .before .before .before .before .before .before .pre .1 .0 .1) _ _ (c .before .before .before .before .before .before .before .before .before .before .wide .ensures .0) (c .before .before .before .before .before .before .wide2 .ensures .0) (namesOf false (c .before .before .before .before .before .enter .last .0)) (c .before .before .before .before .before .enter .last .1 .0) (leaves (c .walk-block .result) _) refl
+  λ fr. call-walked fr (setOf (c .before .before .before .before .before .before .before .before .before .before .before .before .before .args .free .now)) (c .before .before .before .before .before .before .before .before .before .before .before .before .before .pre .1 .0 .1) _ _ (c .before .before .before .before .before .before .before .before .before .before .wide .ensures .0) (c .before .before .before .before .before .before .wide2 .ensures .0) _ (c .before .before .before .before .before .enter .last .1 .0) (leaves (c .walk-block .result) _) refl
       (c .before .before .before .before .before .enter .ensures .1 .0) (c .before .before .before .before .before .enter .ensures .1 .1 .0) (λ i l. c .before .before .before .before .before .enter .ensures .1 .1 .1 i l ∙ none-placed 32 i) (c .walk-block .ensures .1),
 )
 

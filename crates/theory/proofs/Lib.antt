@@ -1,6 +1,10 @@
 pub mod Base
 pub mod Places
 pub mod WellRead
+pub mod Rows
+pub mod ReadingOrder
+pub mod TypingOrder
+pub mod WalkOrder
 pub mod FirstRefusal
 pub mod Pigeon
 pub mod Routes
@@ -18,3 +22,8 @@ pub mod Neat
 pub mod Tidy
 pub mod Counts
 pub mod TheRun
+pub mod Records
+pub mod StuckRuns
+pub mod FromBytes
+pub mod OccupiedRuns
+pub mod Bounds

@@ -5,5 +5,10 @@ pub mod Exact
 pub mod NeverStuck
 pub mod Counts
 pub mod Tidy
+pub mod Tests
+pub mod ReadingOrder
+pub mod TypingOrder
+pub mod WalkOrder
 pub mod FirstRefusal
 pub mod TheRun
+pub mod Bounds

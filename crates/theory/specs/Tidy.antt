@@ -65,9 +65,22 @@ pub record Holds-once (M : Machine) : Type 0 where
 abbrev pub HeldOnce : Type 0
 HeldOnce = (D : Device) (programs : ℕ → Program) → Readable programs → (ts : List Turn) → Holds-once (final D programs ts (started D programs))
 
--- a stuck job stays stuck with the same record, whatever steps and outcomes follow
+-- Stuck: nothing changes, now and at each later step of that job, whatever steps and outcomes follow. The step itself leaves the map and every job's state;
+-- after it the job's record, its state and the map's bytes of its locations stay.
+module _ (D : Device) (programs : ℕ → Program) (M : Machine) (j : ℕ) (v : Bool) where
+  abbrev atFirst : Turn
+  atFirst = record { job = j; outcome = v }
+
+  pub record Stuck : Type 0 where
+    pub map-stays : after D programs atFirst M .occupancy ≡ M .occupancy
+    pub jobs-stay : after D programs atFirst M .jobs ≡ M .jobs
+    pub later-record : (us : List Turn) (w : Bool)
+        → stepOf D programs (record { job = j; outcome = w }) (final D programs us (after D programs atFirst M)) .answer ≡ stepOf D programs atFirst M .answer
+    pub later-state : (us : List Turn) → final D programs us (after D programs atFirst M) .jobs j ≡ M .jobs j
+    pub later-map : (us : List Turn) (l : ℕ) → getD (D .owners) l 0 ≡ j
+        → getD (final D programs us (after D programs atFirst M) .occupancy) l 0 ≡ getD (M .occupancy) l 0
+
 abbrev pub StuckStays : Type 0
-StuckStays = (D : Device) (programs : ℕ → Program) (ts us : List Turn) (j : ℕ) (v w : Bool)
+StuckStays = (D : Device) (programs : ℕ → Program) (ts : List Turn) (j : ℕ) (v : Bool)
     → 2 ≤ stepOf D programs (record { job = j; outcome = v }) (final D programs ts (started D programs)) .answer .code
-    → stepOf D programs (record { job = j; outcome = w }) (final D programs us (after D programs (record { job = j; outcome = v }) (final D programs ts (started D programs)))) .answer
-    ≡ stepOf D programs (record { job = j; outcome = v }) (final D programs ts (started D programs)) .answer
+    → Stuck D programs (final D programs ts (started D programs)) j v

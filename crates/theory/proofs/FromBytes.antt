@@ -1,7 +1,7 @@
--- What a job steps over stands in its program file. A statement is read at the byte that its row in the table belongs to, so the byte at an init's offset is 1 or 2,
--- that at a free's is 3, and no other statement has one of these: for each reading function one lemma says so of what it gives. A job's items to come are
--- statements of the file and returns, which stand at their calls; every step keeps this. So a moved step is an init or a free exactly where the byte at
--- its record's offset says so.
+-- What a job steps over stands in its program file. A statement is read at the byte that its row in the table belongs to, so the byte at an init's offset is
+-- 1 or 2, that at a free's is 3, and no other statement has one of these: for each reading function one lemma says so of what it gives. A job's items to
+-- come are statements of the file and returns, which stand at their calls; every step keeps this. So a moved step is an init or a free exactly where the
+-- byte at its record's offset says so.
 use mathlib.Core.Bool.{Bool, true, false, not, _&&_}
 use mathlib.Core.List.{List, [], _∷_, _++_, map}
 use mathlib.Core.Path.{_≡_, refl, sym, ap, subst, _∙_}
@@ -21,12 +21,13 @@ use Rattle.rules.specs.Syntax.{Statement, op, if, while, call, Statements, done
 use Rattle.rules.specs.Table.{Meaning, simple, branches, loops, calls, Row, table, rowOf, size}
 use Rattle.rules.specs.Program.{Read, Scope, known, operands, meant, statement, statements, readBlock, functionHeader, programHeader, functionsAt, readProgram}
 use Rattle.rules.specs.Slots.{Slot, slot, needQubit, needBool, needRef, Setting, Act, quiet, perform, callable}
-use Rattle.rules.specs.Machine.{Frame, Actual, themselves, locations, locate, Item, run, return, Job, statementsBefore, blockBefore, fresh, Move, floor, edgesOf, move, itemOffset}
+use Rattle.rules.specs.Machine.{Frame, Actual, themselves, locations, locate, Item, run, return, Job, statementsBefore, blockBefore, fresh}
+use Rattle.rules.specs.Machine.{Move, floor, edgesOf, move, itemOffset}
 use Rattle.rules.specs.Machine.{Stepped, stepped, stepItems, step}
 use Rattle.theory.specs.Tidy.{isInit, isFree}
 use Rattle.theory.specs.TheRun.{initByte, freeByte}
 use Rattle.theory.proofs.Base.{eqb-other, chosen-has}
-use Rattle.theory.proofs.Reasons.{Reasoned, reason-of, move-reasoned}
+use Rattle.theory.proofs.Reasons.{reason-above, Reasoned, reason-of, move-reasoned}
 
 abbrev pub initOp : {s : Side} → Op s → Bool
 initOp (init q x l) = true
@@ -289,13 +290,13 @@ module _ (s : List ℕ) where
     step-said : (J : Job) (i : Item) (m : Check Move) → Reasoned m → ItemsStand (J .items) → Holds (Moves i) m → Steps (stepped J (itemOffset i) m)
     step-said J i (ok m) q k (by h) = record { inits = h .0 .0; frees = h .0 .1; stand = h .1 }
     step-said J i (refused r) q k h =
-        let two : 2 ≤ r .number = reason-of q refl in
-        let no : eqb (r .number) 0 ≡ false = eqb-other (r .number) 0 (λ e. omega arith) in
+        let no : eqb (r .number) 0 ≡ false = eqb-other (r .number) 0 (λ e. let z = reason-above (reason-of q refl) in omega arith) in
         record { inits = rw no refl; frees = rw no refl; stand = k }
 
     items-stand : (φ : Frame) (φs : List Frame) (is : List Item) → ItemsStand is → Steps (stepItems R fs v open′ φ φs is)
     items-stand φ φs [] k = record { inits = refl; frees = refl; stand = tt }
-    items-stand φ φs (i ∷ is) k = step-said _ i (move R fs v open′ φ φs i is) (move-reasoned R fs v open′ φ φs i is) k (moves φ φs i is (k .0) (k .1))
+    items-stand φ φs (i ∷ is) k =
+        step-said _ i (move R fs v open′ φ φs i is) (move-reasoned R fs v open′ φ φs i is) k (moves φ φs i is (k .0) (k .1))
 
     pub step-stands : (J : Job) → ItemsStand (J .items) → Steps (step R fs v open′ J)
     step-stands J k = items-stand (J .top) (J .below) (J .items) k

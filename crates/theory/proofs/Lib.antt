@@ -24,6 +24,7 @@ pub mod Counts
 pub mod TheRun
 pub mod Records
 pub mod StuckRuns
+pub mod Reasons
 pub mod FromBytes
 pub mod OccupiedRuns
 pub mod Bounds

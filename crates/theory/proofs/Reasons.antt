@@ -1,7 +1,8 @@
--- Why a step is stuck: what it is refused with is one of document 01's reasons, 11 to 16 or 21. So a record's first byte tells moved (0), finished (1) and the reason
--- apart. Every refusal of a step is one of a few checks, and a row of checks refuses with what one of them refuses with.
+-- Why a step is stuck: what it is refused with is one of the document's reasons, 11 to 16 or 21, so that a record's first byte tells moved (0), finished (1)
+-- and the reason apart. A step is a row of a few checks, and a row refuses with what one of its checks refuses with.
 use mathlib.Core.Bool.{Bool, true, false, not, _&&_}
 use mathlib.Core.List.{List, [], _∷_, map}
+use mathlib.Core.Logic.{inl, inr}
 use mathlib.Core.Option.{Option, none, some}
 use mathlib.Core.Path.{_≡_, refl, sym, ap, subst, _∙_}
 use native.Mathlib.Omega.{arith}
@@ -15,14 +16,42 @@ use Rattle.rules.specs.Basics.{all, distinct}
 use Rattle.rules.specs.Region.{Region}
 use Rattle.rules.specs.Path.{route}
 use Rattle.rules.specs.Syntax.{Side, device, Place, Op, init, free, gate, measure, merge, newRef, getRef, setRef, constant, op, if, while, call, Function}
-use Rattle.rules.specs.Slots.{Slot, unbound, qubit, bool, ref, slot, needQubit, needBool, needRef, Setting, Act, quiet, takes, gives, merges, perform, argumentsAt, callable}
+use Rattle.rules.specs.Slots.{Slot, unbound, qubit, bool, ref, slot, needQubit, needBool, needRef, Setting}
+use Rattle.rules.specs.Slots.{Act, quiet, takes, gives, merges, perform, argumentsAt, callable}
 use Rattle.rules.specs.Commands.{needRoute}
 use Rattle.rules.specs.Machine.{Frame, locate, Item, run, return, floor, edgesOf, move}
+use Rattle.theory.specs.TheRun.{Reason}
 
--- A number that is a reason: above 1
+-- a reason is neither moved nor finished
+pub reason-above : {n : ℕ} → Reason n → 2 ≤ n
+reason-above (inl h) = let z = h .0 in omega arith
+reason-above (inr h) = omega arith
+
 pub data Reasoned {A : Type 0} : Check A → Type 0 where
   gives-value : {a : A} → Reasoned (ok a)
-  reason : {r : Refusal} → 2 ≤ r .number → Reasoned (refused r)
+  reason : {r : Refusal} → Reason (r .number) → Reasoned (refused r)
+
+-- the reasons, by the words of their numbers
+kind : Reason 11
+kind = inl (omega arith, omega arith)
+
+bound : Reason 12
+bound = inl (omega arith, omega arith)
+
+outside : Reason 13
+outside = inl (omega arith, omega arith)
+
+taken : Reason 14
+taken = inl (omega arith, omega arith)
+
+twice : Reason 15
+twice = inl (omega arith, omega arith)
+
+elsewhere : Reason 16
+elsewhere = inl (omega arith, omega arith)
+
+no-path : Reason 21
+no-path = inr refl
 
 then-row : {A B : Type 0} {m : Check A} {n : Check B} → Reasoned m → Reasoned n → Reasoned (m >> n)
 unfolding _>>_
@@ -34,59 +63,59 @@ unfolding _>>=_
 bind-row (gives-value {a = a}) k = k a
 bind-row (reason h) k = reason h
 
-need-row : (b : Bool) (n o : ℕ) → 2 ≤ n → Reasoned (need b n o)
+need-row : (b : Bool) (n o : ℕ) → Reason n → Reasoned (need b n o)
 need-row true n o h = gives-value
 need-row false n o h = reason h
 
-refuses : {A : Type 0} (n o : ℕ) → 2 ≤ n → Reasoned {A = A} (refused (refusal n o))
+refuses : {A : Type 0} (n o : ℕ) → Reason n → Reasoned {A = A} (refused (refusal n o))
 refuses n o h = reason h
 
 number-of : {A : Type 0} → Check A → ℕ
 number-of (ok a) = 0
 number-of (refused r) = r .number
 
-pub reason-of : {A : Type 0} {m : Check A} {r : Refusal} → Reasoned m → m ≡ refused r → 2 ≤ r .number
+pub reason-of : {A : Type 0} {m : Check A} {r : Refusal} → Reasoned m → m ≡ refused r → Reason (r .number)
 unfolding number-of
 reason-of gives-value e = ok-not-refused e
-reason-of (reason h) e = subst (λ (n : ℕ). 2 ≤ n) (ap number-of e) h
+reason-of (reason h) e = subst Reason (ap number-of e) h
 
 module _ {t : Side} {B : Type 0} where
   qubit-row : (v : Slot t B) (o : ℕ) → Reasoned (needQubit v o)
-  qubit-row unbound o = refuses 11 o (omega arith)
+  qubit-row unbound o = refuses 11 o kind
   qubit-row (qubit l) o = gives-value
-  qubit-row (bool b) o = refuses 11 o (omega arith)
-  qubit-row (ref b) o = refuses 11 o (omega arith)
+  qubit-row (bool b) o = refuses 11 o kind
+  qubit-row (ref b) o = refuses 11 o kind
 
   bool-row : (v : Slot t B) (o : ℕ) → Reasoned (needBool v o)
-  bool-row unbound o = refuses 11 o (omega arith)
-  bool-row (qubit l) o = refuses 11 o (omega arith)
+  bool-row unbound o = refuses 11 o kind
+  bool-row (qubit l) o = refuses 11 o kind
   bool-row (bool b) o = gives-value
-  bool-row (ref b) o = refuses 11 o (omega arith)
+  bool-row (ref b) o = refuses 11 o kind
 
   ref-row : (v : Slot t B) (o : ℕ) → Reasoned (needRef v o)
-  ref-row unbound o = refuses 11 o (omega arith)
-  ref-row (qubit l) o = refuses 11 o (omega arith)
-  ref-row (bool b) o = refuses 11 o (omega arith)
+  ref-row unbound o = refuses 11 o kind
+  ref-row (qubit l) o = refuses 11 o kind
+  ref-row (bool b) o = refuses 11 o kind
   ref-row (ref b) o = gives-value
 
 route-row : (p : Option (List ℕ)) (o : ℕ) → Reasoned (needRoute p o)
-route-row none o = refuses 21 o (omega arith)
+route-row none o = refuses 21 o no-path
 route-row (some p) o = gives-value
 
 module _ {s t : Side} {B : Type 0} (W : Setting s t B) (o : ℕ) (φ : List (Slot t B)) where
   bindable : (x : ℕ) → Reasoned (need (W .mayBind (slot φ x)) 12 o)
-  bindable x = need-row (W .mayBind (slot φ x)) 12 o (omega arith)
+  bindable x = need-row (W .mayBind (slot φ x)) 12 o bound
 
   perform-row : (a : Op s) → Reasoned (perform W o φ a)
   perform-row (init q x l) =
       then-row (bindable x)
-      (then-row (need-row (W .inside (W .named l)) 13 o (omega arith)) (then-row (need-row (W .isFree (W .named l)) 14 o (omega arith)) gives-value))
+      (then-row (need-row (W .inside (W .named l)) 13 o outside) (then-row (need-row (W .isFree (W .named l)) 14 o taken) gives-value))
   perform-row (free x) = bind-row (qubit-row (slot φ x) o) λ l. gives-value
   perform-row (gate g x) = bind-row (qubit-row (slot φ x) o) λ l. gives-value
   perform-row (measure y b x) = then-row (bindable y) (bind-row (qubit-row (slot φ x) o) λ l. gives-value)
   perform-row (merge y b x e z) =
       then-row (bindable y)
-      (bind-row (qubit-row (slot φ x) o) λ l. bind-row (qubit-row (slot φ z) o) λ k. then-row (need-row (not (eqb x z)) 15 o (omega arith)) gives-value)
+      (bind-row (qubit-row (slot φ x) o) λ l. bind-row (qubit-row (slot φ z) o) λ k. then-row (need-row (not (eqb x z)) 15 o twice) gives-value)
   perform-row (newRef r y) = then-row (bindable r) (bind-row (bool-row (slot φ y) o) λ v. gives-value)
   perform-row (getRef y r) = then-row (bindable y) (bind-row (ref-row (slot φ r) o) λ v. gives-value)
   perform-row (setRef r y) = bind-row (ref-row (slot φ r) o) λ old. bind-row (bool-row (slot φ y) o) λ v. gives-value
@@ -96,13 +125,13 @@ module _ {s t : Side} {B : Type 0} (W : Setting s t B) (o : ℕ) (φ : List (Slo
   arguments-row [] ls = gives-value
   arguments-row (x ∷ xs) [] = gives-value
   arguments-row (x ∷ xs) (l ∷ ls) =
-      bind-row (qubit-row (slot φ x) o) λ k. then-row (need-row (eqb (k .no) (l .no)) 16 o (omega arith)) (arguments-row xs ls)
+      bind-row (qubit-row (slot φ x) o) λ k. then-row (need-row (eqb (k .no) (l .no)) 16 o elsewhere) (arguments-row xs ls)
 
   callable-row : (ls : List (Place t)) (xs : List ℕ) → Reasoned (callable W o φ ls xs)
   callable-row ls xs =
-      then-row (need-row (all (W .inside) ls) 13 o (omega arith))
-      (then-row (need-row (distinct (map (λ l. l .no) ls) && distinct xs) 15 o (omega arith))
-      (then-row (arguments-row xs ls) (need-row (all (W .isFree) (drop (length xs) ls)) 14 o (omega arith))))
+      then-row (need-row (all (W .inside) ls) 13 o outside)
+      (then-row (need-row (distinct (map (λ l. l .no) ls) && distinct xs) 15 o twice)
+      (then-row (arguments-row xs ls) (need-row (all (W .isFree) (drop (length xs) ls)) 14 o taken)))
 
 module _ (R : Region) (fs : List Function) (v : Bool) (free′ : ℕ → Bool) where
   edges-row : (a : Act device) (o : ℕ) → Reasoned (edgesOf R fs v free′ a o)

@@ -74,6 +74,10 @@ pub data OffsetOf : Item → ℕ → Type 0 where
   of-call : {s : Side} {σ : Actual s} {o f : ℕ} {ls : List (Place s)} {xs : List ℕ} → OffsetOf (run σ (call o f ls xs)) o
   of-return : {o : ℕ} {ls : List (Place trees.device)} {xs : List ℕ} → OffsetOf (return o ls xs) o
 
+-- why a step is stuck: kinds (11), a qubit in the slot to be bound (12), locations (13 to 16) or path (21)
+abbrev pub Reason : ℕ → Type 0
+Reason n = ((11 ≤ n) × (n ≤ 16)) ⊎ (n ≡ 21)
+
 abbrev pub isMerge : Act trees.device → Bool
 isMerge quiet = false
 isMerge (takes q l) = false
@@ -106,7 +110,7 @@ module _ (D : Device) (programs : ℕ → Program) (t : Turn) (M : Machine) wher
     merged : {i : Item} {rest : List Item} {o : ℕ} {m : Move} {b e edges : ℕ} {l k : Place trees.device} {p : List ℕ}
         → Next i rest o → moveOf i rest ≡ ok m → m .act ≡ merges b l e k → Route theRegion isOpen (l .no) (k .no) p → length p ≡ suc edges
         → Tells (0 ∷ edges ∷ o / 256 ∷ o % 256 ∷ [])
-    stuck : {i : Item} {rest : List Item} {o : ℕ} {r : Refusal} → Next i rest o → moveOf i rest ≡ refused r → 2 ≤ r .number
+    stuck : {i : Item} {rest : List Item} {o : ℕ} {r : Refusal} → Next i rest o → moveOf i rest ≡ refused r → Reason (r .number)
         → Tells (r .number ∷ 0 ∷ o / 256 ∷ o % 256 ∷ [])
 
 -- ---- a run that is answered

@@ -44,12 +44,14 @@ module _ (D : Device) (programs : ℕ → Program) where
 -- for each job, locations occupied equal moved inits less moved frees
 abbrev pub Occupied : Type 0
 Occupied = (D : Device) (programs : ℕ → Program) → Readable programs → (j : ℕ) → 1 ≤ j → (ts : List Turn)
-    → bytesOf j (final D programs ts (started D programs) .occupancy) + acts D programs isFree j ts (started D programs) ≡ acts D programs isInit j ts (started D programs)
+    → bytesOf j (final D programs ts (started D programs) .occupancy) + acts D programs isFree j ts (started D programs)
+    ≡ acts D programs isInit j ts (started D programs)
 
 -- a map byte is 0 or the job that owns the location
 abbrev pub MapByte : Type 0
 MapByte = (D : Device) (programs : ℕ → Program) (ts : List Turn) (l : ℕ)
-    → (getD (final D programs ts (started D programs) .occupancy) l 0 ≡ 0) ⊎ (getD (final D programs ts (started D programs) .occupancy) l 0 ≡ getD (D .owners) l 0)
+    → (getD (final D programs ts (started D programs) .occupancy) l 0 ≡ 0)
+    ⊎ (getD (final D programs ts (started D programs) .occupancy) l 0 ≡ getD (D .owners) l 0)
 
 -- the frames of a job, the top one first
 abbrev pub frame : Job → ℕ → Frame
@@ -58,8 +60,10 @@ frame J i = getD (J .top ∷ J .below) i []
 -- No two slots of one frame of a job hold one location, and no two jobs do. (A caller's slot and the callee's for the same argument both hold it.)
 -- A qubit of the top frame sits on a location that the map gives to the job.
 pub record Holds-once (M : Machine) : Type 0 where
-  pub one-slot : (j i x y : ℕ) (l k : Place device) → 1 ≤ j → slot (frame (M .jobs j) i) x ≡ qubit l → slot (frame (M .jobs j) i) y ≡ qubit k → l .no ≡ k .no → x ≡ y
-  pub one-job : (i j a b x y : ℕ) (l k : Place device) → slot (frame (M .jobs i) a) x ≡ qubit l → slot (frame (M .jobs j) b) y ≡ qubit k → l .no ≡ k .no → i ≡ j
+  pub one-slot : (j i x y : ℕ) (l k : Place device) → 1 ≤ j → slot (frame (M .jobs j) i) x ≡ qubit l → slot (frame (M .jobs j) i) y ≡ qubit k
+      → l .no ≡ k .no → x ≡ y
+  pub one-job : (i j a b x y : ℕ) (l k : Place device) → slot (frame (M .jobs i) a) x ≡ qubit l → slot (frame (M .jobs j) b) y ≡ qubit k
+      → l .no ≡ k .no → i ≡ j
   pub on-map : (j x : ℕ) (l : Place device) → slot (M .jobs j .top) x ≡ qubit l → getD (M .occupancy) (l .no) 0 ≡ j
 
 abbrev pub HeldOnce : Type 0
@@ -75,7 +79,8 @@ module _ (D : Device) (programs : ℕ → Program) (M : Machine) (j : ℕ) (v : 
     pub map-stays : after D programs atFirst M .occupancy ≡ M .occupancy
     pub jobs-stay : after D programs atFirst M .jobs ≡ M .jobs
     pub later-record : (us : List Turn) (w : Bool)
-        → stepOf D programs (record { job = j; outcome = w }) (final D programs us (after D programs atFirst M)) .answer ≡ stepOf D programs atFirst M .answer
+        → stepOf D programs (record { job = j; outcome = w }) (final D programs us (after D programs atFirst M)) .answer
+        ≡ stepOf D programs atFirst M .answer
     pub later-state : (us : List Turn) → final D programs us (after D programs atFirst M) .jobs j ≡ M .jobs j
     pub later-map : (us : List Turn) (l : ℕ) → getD (D .owners) l 0 ≡ j
         → getD (final D programs us (after D programs atFirst M) .occupancy) l 0 ≡ getD (M .occupancy) l 0

@@ -24,7 +24,7 @@ use Rattle.rules.specs.Promises.{needJob, judged, checkOf, over, Finished, ran,
 use Rattle.theory.specs.Counts.{beginWithZero}
 use Rattle.theory.specs.Interleaving.{turnsOf, recordsOf, Alike}
 use Rattle.theory.specs.TheRun.{isTurn, turnOf, bytesFor, recordsFor, codesFor, ofJob}
-use Rattle.theory.specs.TheRun.{CountsMoved, NotStuck, jobByJob, RunAlike, MovedInRuns, NeverStuckInRuns, RunsInOrder}
+use Rattle.theory.specs.TheRun.{Files, CountsMoved, NotStuck, jobByJob, RunAlike, MovedInRuns, NeverStuckInRuns, RunsInOrder}
 use Rattle.theory.proofs.Base.{and-left, and-right, and-both}
 use Rattle.theory.proofs.Accepted.{never-stuck}
 use Rattle.theory.proofs.Counts.{moved-count}
@@ -238,6 +238,22 @@ module _ (device first second schedule buffer map′ : List ℕ) (m : Moved) (e 
   abbrev B : Bytewise device first second schedule (length buffer) (length map′)
   B = bytewise
 
+  pub files : Files device first second schedule buffer map′ (bytewise .D) (bytewise .p) (bytewise .q)
+  files = record { device-reads = B .device-reads; first-reads = B .first-reads; second-reads = B .second-reads }
+
+  -- a schedule of turns that is no longer runs on the same files and buffers
+  pub run-with : (D : rules.Device) (p q : syntax.Program) → Files device first second schedule buffer map′ D p q
+      → (s : List ℕ) → length s ≤ length schedule → all isTurn s ≡ true
+      → runOf device first second s buffer map′ ≡ runWritten buffer map′ (ok (ranBy D (ofJob p q) s))
+  run-with D p q F s l u =
+      let same-device : B .D ≡ D = same-value (B .device-reads) (F .device-reads) in
+      let few : length schedule ≤ 4096 = leb-true (length schedule) 4096 (B .short) in
+      let enough : 4 * length schedule ≤ length buffer = leb-true (4 * length schedule) (length buffer) (and-left _ _ (B .room)) in
+      let for-map : leb (length (D .owners)) (length map′) ≡ true =
+      rw same-device at (and-right (leb (4 * length schedule) (length buffer)) _ (B .room)) in
+      run-of device first second D p q (F .device-reads) (F .first-reads) (F .second-reads) buffer map′ s
+      (le-leb (length s) 4096 (omega arith)) (and-both _ _ (le-leb (4 * length s) (length buffer) (omega arith)) for-map) u
+
   -- each job's program
   abbrev P : ℕ → syntax.Program
   P = ofJob (B .p) (B .q)
@@ -245,19 +261,8 @@ module _ (device first second schedule buffer map′ : List ℕ) (m : Moved) (e 
   abbrev f : Finished
   f = ranBy (B .D) P schedule
 
-  -- another schedule of turns, no longer, runs on the same files and buffers
-  pub run-with : (s : List ℕ) → length s ≤ length schedule → all isTurn s ≡ true
-      → runOf device first second s buffer map′ ≡ runWritten buffer map′ (ok (ranBy (bytewise .D) (ofJob (bytewise .p) (bytewise .q)) s))
-  run-with s l u =
-      let few : length schedule ≤ 4096 = leb-true (length schedule) 4096 (B .short) in
-      let enough : 4 * length schedule ≤ length buffer = leb-true (4 * length schedule) (length buffer) (and-left _ _ (B .room)) in
-      let for-map : leb (length (B .D .owners)) (length map′) ≡ true = and-right (leb (4 * length schedule) (length buffer)) _ (B .room) in
-      run-of device first second (B .D) (B .p) (B .q) (B .device-reads) (B .first-reads) (B .second-reads) buffer map′ s
-      (le-leb (length s) 4096 (omega arith)) (and-both _ _ (le-leb (4 * length s) (length buffer) (omega arith)) for-map) u
-
-  pub ran-as : runOf device first second schedule buffer map′
-      ≡ runWritten buffer map′ (ok (ranBy (bytewise .D) (ofJob (bytewise .p) (bytewise .q)) schedule))
-  ran-as = run-with schedule (omega arith) (B .all-turns)
+  ran-as : runOf device first second schedule buffer map′ ≡ runWritten buffer map′ (ok f)
+  ran-as = run-with (B .D) (B .p) (B .q) files schedule (omega arith) (B .all-turns)
 
   -- a job's record bytes are those of its records, and its codes theirs
   its-records : (j : ℕ) → recordsFor j schedule (runOf device first second schedule buffer map′ .records) ≡ recordBytes (recordsOf j (f .records))
@@ -314,7 +319,7 @@ module _ (device first second schedule buffer map′ : List ℕ) (m : Moved) (e 
 
   ran-in-order : runOf device first second s buffer map′ ≡ runWritten buffer map′ (ok g)
   ran-in-order =
-      run-with s (omega (arith, length-append (bytesFor 1 schedule) (bytesFor 2 schedule), sizes-for schedule (B .all-turns)))
+      run-with (B .D) (B .p) (B .q) files s (omega (arith, length-append (bytesFor 1 schedule) (bytesFor 2 schedule), sizes-for schedule (B .all-turns)))
       (all-append isTurn (bytesFor 1 schedule) (bytesFor 2 schedule) (all-for 1 schedule (B .all-turns)) (all-for 2 schedule (B .all-turns)))
 
   moved-alike : (j : ℕ) → movedBy j (g .records) ≡ movedBy j (f .records)

@@ -22,9 +22,10 @@ pub mod Neat
 pub mod Tidy
 pub mod Counts
 pub mod TheRun
+pub mod OwnerBytes
+pub mod Reasons
 pub mod Records
 pub mod StuckRuns
-pub mod Reasons
 pub mod FromBytes
 pub mod OccupiedRuns
 pub mod Bounds

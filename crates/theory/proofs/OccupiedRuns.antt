@@ -3,18 +3,16 @@
 -- the acts.
 use mathlib.Core.Bool.{Bool, true, false, _&&_, _||_, false≢true}
 use mathlib.Core.List.{List, [], _∷_, _++_, map}
-use mathlib.Core.Option.{none}
 use mathlib.Core.Path.{_≡_, refl, sym, ap, ap₂, _∙_}
 use native.Mathlib.Decide.{ℕ-discrete}
 use native.Mathlib.Omega.{arith}
 use Prim.Native.Nat.{ℕ, zero, suc, _+_, _*_, _/_, _%_, _≤_}
-use lib.Dec.{eqb, leb}
+use lib.Dec.{eqb}
 use lib.ListN.{length, take, drop}
-use Rattle.answers.specs.Check.{Check, ok, need}
-use Rattle.answers.proofs.Laws.{Holds, by, holds-bind, holds-then, holds-any, holds-at}
+use Rattle.answers.specs.Check.{ok}
 use Rattle.answers.specs.declared.Moved.{Moved}
-use Rattle.rules.specs.Basics.{chosen, byte, word, hasMark}
-use Rattle.rules.specs.Device.{Device, deviceHeader, owners, edges, readDevice}
+use Rattle.rules.specs.Basics.{chosen, byte, word}
+use Rattle.rules.specs.Device.{Device}
 use Rattle.rules.specs.Region.{Region, regionOf, freeIn}
 use Rattle.rules.specs.Syntax as trees
 use Rattle.rules.specs.Syntax.{function, Program}
@@ -22,14 +20,15 @@ use Rattle.rules.specs.Program.{readProgram}
 use Rattle.rules.specs.Slots.{Act}
 use Rattle.rules.specs.Machine.{Job, Stepped, step}
 use Rattle.rules.specs.Run.{Turn, Machine, started, stepOf, after, final, records, recordBytes}
-use Rattle.rules.specs.Promises.{over, Ran, runOf}
+use Rattle.rules.specs.Promises.{over, Ran, runWritten, runOf}
 use Rattle.theory.specs.Tidy.{isInit, isFree, bytesOf, Readable, acts}
-use Rattle.theory.specs.TheRun.{turnOf, movedAt, initByte, freeByte, ofJob, OccupiedAtEnd, OccupiedInRuns}
+use Rattle.theory.specs.TheRun.{turnOf, movedAt, initByte, freeByte, ofJob, Files, OccupiedAtEnd, OccupiedInRuns}
 use Rattle.theory.proofs.Base.{eqb-true, eqb-same, eqb-other}
 use Rattle.theory.proofs.WellRead.{well-read}
 use Rattle.theory.proofs.Isolation.{sound-started, sound-final}
 use Rattle.theory.proofs.Tidy.{occupied}
-use Rattle.theory.proofs.TheRun.{bytewise, ran-as, file-of}
+use Rattle.theory.proofs.TheRun.{job-reads, ranBy, bytewise, files, run-with}
+use Rattle.theory.proofs.OwnerBytes.{owner-bytes}
 use Rattle.theory.proofs.FromBytes.{ProgramStands, program-stands, ItemsStand, fresh-stands, Steps, step-stands}
 
 -- an offset is what its two bytes say
@@ -79,28 +78,6 @@ module _ (D : Device) (programs : ℕ → Program) (j : ℕ) (file : List ℕ) (
         go (yes e) q = let a = agree t (turn-steps (turnOf b) M e h) in rw (offset-back o, a, q) refl
         go (no n) q = rw (eqb-other (b / 16) j n, q) refl
 
--- ---- the device's n
-owners-many : (s : List ℕ) (i m : ℕ) → Holds (λ ws. length ws ≡ m) (owners s i m)
-owners-many s i zero = by refl
-owners-many s i (suc m) = holds-then (holds-any (need (leb (byte s i) 2) 6 i)) λ u a. holds-bind (owners-many s (suc i) m) λ ws h. by (ap suc h)
-
-device-long : (s : List ℕ) → Holds (λ D. length (D .owners) ≡ word s 5) (readDevice s)
-device-long s =
-    holds-then (holds-any (need (leb 9 (length s)) 1 0)) λ u₁ a₁.
-    holds-then (holds-any (need (hasMark s 0x47) 2 0)) λ u₂ a₂.
-    holds-then (holds-any (need (eqb (word s 3) 1) 3 3)) λ u₃ a₃.
-    holds-bind (header-long (word s 5) (word s 7)) λ h k.
-    holds-then (holds-any (need (eqb (length s) (9 + h .locations + 2 * h .edges)) 5 0)) λ u₄ a₄.
-    holds-bind (owners-many s 9 (h .locations)) λ ws w.
-    holds-bind (holds-any (edges s (h .locations) none (9 + h .locations) (h .edges))) λ es x.
-    by (w ∙ k)
-  where
-    header-long : (n e : ℕ) → Holds (λ h. h .locations ≡ n) (deviceHeader n e)
-    header-long n e = holds-then (holds-any (need (leb 1 n && leb n 256) 4 5)) λ u a. holds-then (holds-any (need (leb e 1024) 4 7)) λ v b. by refl
-
-owners-long : (s : List ℕ) (D : Device) → readDevice s ≡ ok D → length (D .owners) ≡ word s 5
-owners-long s D e = holds-at (device-long s) e
-
 -- ---- the run's map
 take-all : (xs ys : List ℕ) → take (length xs) (xs ++ ys) ≡ xs
 take-all [] ys = refl
@@ -110,12 +87,10 @@ positive : (j : ℕ) → (eqb j 1 || eqb j 2) ≡ true → 1 ≤ j
 positive zero h = absurd (false≢true h)
 positive (suc j) h = omega arith
 
-module _ (device first second schedule buffer map′ : List ℕ) (m : Moved) (e : runOf device first second schedule buffer map′ .answer ≡ ok m) where
-  abbrev D : Device
-  D = bytewise device first second schedule buffer map′ m e .D
-
+module _ (device first second schedule buffer map′ : List ℕ) (m : Moved) (e : runOf device first second schedule buffer map′ .answer ≡ ok m)
+    (D : Device) (p q : Program) (F : Files device first second schedule buffer map′ D p q) where
   abbrev P : ℕ → Program
-  P = ofJob (bytewise device first second schedule buffer map′ m e .p) (bytewise device first second schedule buffer map′ m e .q)
+  P = ofJob p q
 
   abbrev ts : List Turn
   ts = map turnOf schedule
@@ -123,18 +98,21 @@ module _ (device first second schedule buffer map′ : List ℕ) (m : Moved) (e 
   abbrev end : Machine
   end = final D P ts (started D P)
 
+  ran-as : runOf device first second schedule buffer map′ ≡ runWritten buffer map′ (ok (ranBy D P schedule))
+  ran-as = run-with device first second schedule buffer map′ m e D p q F schedule (omega arith) (bytewise device first second schedule buffer map′ m e .all-turns)
+
   reads : (j : ℕ) → readProgram (ofJob first second j) ≡ ok (P j)
-  reads j = file-of device first second schedule buffer map′ m e (eqb j 1)
+  reads j = job-reads first second p q (F .first-reads) (F .second-reads) j
 
   readable : Readable P
   readable j = (length (ofJob first second j), well-read (ofJob first second j) (P j) (reads j))
 
   map-bytes : take (word device 5) (runOf device first second schedule buffer map′ .map) ≡ end .occupancy
   map-bytes =
-      let n : length (D .owners) ≡ word device 5 = owners-long device D (bytewise device first second schedule buffer map′ m e .device-reads) in
-      let long : length (end .occupancy) ≡ word device 5 = sym (sound-final D P ts (started D P) (sound-started D P) .fits) ∙ n in
-      ap (λ (w : Ran). take (word device 5) (w .map)) (ran-as device first second schedule buffer map′ m e)
-      ∙ ap (λ (n : ℕ). take n (over (end .occupancy) map′)) (sym long) ∙ take-all (end .occupancy) _
+      let fits : length (D .owners) ≡ length (end .occupancy) = sound-final D P ts (started D P) (sound-started D P) .fits in
+      let long : word device 5 ≡ length (end .occupancy) = sym (owner-bytes device D (F .device-reads) .many) ∙ fits in
+      ap (λ (w : Ran). take (word device 5) (w .map)) ran-as
+      ∙ ap (λ (n : ℕ). take n (over (end .occupancy) map′)) long ∙ take-all (end .occupancy) _
 
   -- the acts of job j by the records written
   counted : (j : ℕ) (act : Act trees.device → Bool) (test : ℕ → Bool) → Agrees (ofJob first second j) act test
@@ -143,7 +121,7 @@ module _ (device first second schedule buffer map′ : List ℕ) (m : Moved) (e 
       let file : List ℕ = ofJob first second j in
       let stands : ProgramStands file (P j) = program-stands file (P j) (reads j) in
       acts-by-bytes D P j file stands _ act test agree schedule (started D P) (fresh-stands file (P j) stands)
-      ∙ sym (ap (λ (w : Ran). movedAt test file j schedule (w .records)) (ran-as device first second schedule buffer map′ m e))
+      ∙ sym (ap (λ (w : Ran). movedAt test file j schedule (w .records)) ran-as)
 
   occupied-at-end : OccupiedAtEnd device first second schedule buffer map′
   occupied-at-end j h =
@@ -152,4 +130,6 @@ module _ (device first second schedule buffer map′ : List ℕ) (m : Moved) (e 
       ap₂ (λ (bs : List ℕ) (n : ℕ). bytesOf j bs + n) map-bytes (sym frees) ∙ occupied D P readable j (positive j h) ts ∙ inits
 
 pub occupied-in-runs : OccupiedInRuns
-occupied-in-runs device first second schedule buffer map′ m e = occupied-at-end device first second schedule buffer map′ m e
+occupied-in-runs device first second schedule buffer map′ m e =
+    let B = bytewise device first second schedule buffer map′ m e in
+    occupied-at-end device first second schedule buffer map′ m e (B .D) (B .p) (B .q) (files device first second schedule buffer map′ m e)

@@ -1,35 +1,31 @@
 -- Record i of a run that is answered tells the turn of schedule byte i. The records stand four bytes each, in the turns' order, so record i is what the
 -- i-th step answers; and a step answers by its cases: no item is to come, or the first one moved, or it is stuck. A moved merge has the edges of the route
--- that its last test found; and a stuck step's number is that of a test that refused, none of which has number 0 or 1.
-use mathlib.Core.Bool.{Bool, true, false, not, _&&_}
+-- that its last test found; and a stuck step has a reason (Reasons).
+use mathlib.Core.Bool.{Bool, true, false}
 use mathlib.Core.List.{List, [], _∷_, _++_, map}
 use mathlib.Core.Option.{Option, none, some}
 use mathlib.Core.Path.{_≡_, refl, sym, ap, _∙_, subst}
 use native.Mathlib.Omega.{arith}
-use Prim.Native.Nat.{ℕ, zero, suc, _-_, _*_, _/_, _%_, _≤_, _<_}
-use lib.Dec.{eqb, leb}
+use Prim.Native.Nat.{ℕ, zero, suc, _-_, _*_, _/_, _%_, _<_}
 use lib.ListN.{length, take, drop}
-use Rattle.answers.specs.Check.{Check, ok, refused, refusal, _>>=_, _>>_, need}
+use Rattle.answers.specs.Check.{Check, ok, refused, _>>=_}
 use Rattle.answers.specs.declared.Moved.{Moved}
-use Rattle.answers.specs.declared.Refusal.{Refusal}
 use Rattle.answers.proofs.Laws.{Holds, by, holds-bind, holds-then, holds-any, holds-at}
-use Rattle.rules.specs.Basics.{all, distinct, byte}
+use Rattle.rules.specs.Basics.{byte}
 use Rattle.rules.specs.Device.{Device}
 use Rattle.rules.specs.Region.{Region, regionOf, freeIn}
 use Rattle.rules.specs.Path.{Along, last, then, Route, route}
 use Rattle.rules.specs.Commands.{needRoute}
 use Rattle.rules.specs.Syntax as trees
-use Rattle.rules.specs.Syntax.{Side, Place, Op, init, free, gate, measure, merge, newRef, getRef, setRef, constant}
-use Rattle.rules.specs.Syntax.{op, if, while, call, Function, Program}
-use Rattle.rules.specs.Slots.{Slot, unbound, qubit, bool, ref, slot, needQubit, needBool, needRef, Setting, Act, quiet, takes, gives, merges}
-use Rattle.rules.specs.Slots.{perform, argumentsAt, callable}
-use Rattle.rules.specs.Machine.{Frame, locate, floor, Item, run, return, Job, Move, edgesOf, move, itemOffset, Record, stepped, stepItems}
+use Rattle.rules.specs.Syntax.{Place, op, if, while, call, Function, Program}
+use Rattle.rules.specs.Slots.{Act, quiet, takes, gives, merges}
+use Rattle.rules.specs.Machine.{Frame, Item, run, return, Job, Move, edgesOf, move, itemOffset, Record, stepped, stepItems}
 use Rattle.rules.specs.Run.{Turn, Machine, started, stepOf, after, final, records, recordBytes}
 use Rattle.rules.specs.Promises.{Ran, runOf}
 use Rattle.theory.specs.TheRun.{turnOf, recordAt, ofJob, OffsetOf, of-operation, of-if, of-while, of-call, of-return, isMerge}
 use Rattle.theory.specs.TheRun.{Tells, finished, moved, merged, stuck, Files, RecordsInRuns}
-use Rattle.theory.proofs.Base.{at-most}
 use Rattle.theory.proofs.Routes.{the-route}
+use Rattle.theory.proofs.Reasons.{reason-of, move-reasoned}
 use Rattle.theory.proofs.TheRun.{bytewise, run-with}
 
 -- ---- where record i stands
@@ -84,105 +80,6 @@ module _ (R : Region) (fs : List Function) (v : Bool) (isOpen : ℕ → Bool) wh
   move-edges φ [] (return o ls xs) rest = by (no-merge refl)
   move-edges φ (χ ∷ φs) (return o ls xs) rest = by (no-merge refl)
 
--- ---- the number of a refusal
--- a check gives something, or refuses with a number from 2 on
-data Reasons {A : Type 0} : Check A → Type 0 where
-  gives-one : {a : A} → Reasons (ok a)
-  reason : {r : Refusal} → 2 ≤ r .number → Reasons (refused r)
-
-reasons-bind : {A B : Type 0} {m : Check A} {f : A → Check B} → Reasons m → ((a : A) → Reasons (f a)) → Reasons (m >>= f)
-unfolding _>>=_
-reasons-bind (gives-one {a = a}) g = g a
-reasons-bind (reason h) g = reason h
-
-reasons-then : {A B : Type 0} {m : Check A} {n : Check B} → Reasons m → Reasons n → Reasons (m >> n)
-unfolding _>>_
-reasons-then gives-one g = g
-reasons-then (reason h) g = reason h
-
-reasons-refused : {A : Type 0} (n o : ℕ) → leb 2 n ≡ true → Reasons {A = A} (refused (refusal n o))
-reasons-refused n o h = reason {r = refusal n o} (at-most 2 n h)
-
-reasons-need : (b : Bool) (n o : ℕ) → leb 2 n ≡ true → Reasons (need b n o)
-reasons-need true n o h = gives-one
-reasons-need false n o h = reasons-refused n o h
-
-reason-at : {A : Type 0} {m : Check A} {r : Refusal} → Reasons m → m ≡ refused r → 2 ≤ r .number
-reason-at {A = A} {r = r} h e = given (subst (λ (c : Check A). Reasons c) e h)
-  where
-    given : {r : Refusal} → Reasons {A = A} (refused r) → 2 ≤ r .number
-    given (reason k) = k
-
-module _ {s : Side} {B : Type 0} where
-  reasons-qubit : (v : Slot s B) (o : ℕ) → Reasons (needQubit v o)
-  reasons-qubit unbound o = reasons-refused 11 o refl
-  reasons-qubit (qubit l) o = gives-one
-  reasons-qubit (bool b) o = reasons-refused 11 o refl
-  reasons-qubit (ref b) o = reasons-refused 11 o refl
-
-  reasons-bool : (v : Slot s B) (o : ℕ) → Reasons (needBool v o)
-  reasons-bool unbound o = reasons-refused 11 o refl
-  reasons-bool (qubit l) o = reasons-refused 11 o refl
-  reasons-bool (bool b) o = gives-one
-  reasons-bool (ref b) o = reasons-refused 11 o refl
-
-  reasons-ref : (v : Slot s B) (o : ℕ) → Reasons (needRef v o)
-  reasons-ref unbound o = reasons-refused 11 o refl
-  reasons-ref (qubit l) o = reasons-refused 11 o refl
-  reasons-ref (bool b) o = reasons-refused 11 o refl
-  reasons-ref (ref b) o = gives-one
-
-module _ {s t : Side} {B : Type 0} (W : Setting s t B) where
-  reasons-bound : (o : ℕ) (φ : List (Slot t B)) (x : ℕ) → Reasons (need (W .mayBind (slot φ x)) 12 o)
-  reasons-bound o φ x = reasons-need (W .mayBind (slot φ x)) 12 o refl
-
-  reasons-perform : (o : ℕ) (φ : List (Slot t B)) (a : Op s) → Reasons (perform W o φ a)
-  reasons-perform o φ (init q x l) =
-      reasons-then (reasons-bound o φ x) (reasons-then (reasons-need (W .inside (W .named l)) 13 o refl)
-      (reasons-then (reasons-need (W .isFree (W .named l)) 14 o refl) gives-one))
-  reasons-perform o φ (free x) = reasons-bind (reasons-qubit (slot φ x) o) λ l. gives-one
-  reasons-perform o φ (gate g x) = reasons-bind (reasons-qubit (slot φ x) o) λ l. gives-one
-  reasons-perform o φ (measure y b x) = reasons-then (reasons-bound o φ y) (reasons-bind (reasons-qubit (slot φ x) o) λ l. gives-one)
-  reasons-perform o φ (merge y b x c z) =
-      reasons-then (reasons-bound o φ y) (reasons-bind (reasons-qubit (slot φ x) o) λ l.
-      reasons-bind (reasons-qubit (slot φ z) o) λ k. reasons-then (reasons-need (not (eqb x z)) 15 o refl) gives-one)
-  reasons-perform o φ (newRef r y) = reasons-then (reasons-bound o φ r) (reasons-bind (reasons-bool (slot φ y) o) λ v. gives-one)
-  reasons-perform o φ (getRef y r) = reasons-then (reasons-bound o φ y) (reasons-bind (reasons-ref (slot φ r) o) λ v. gives-one)
-  reasons-perform o φ (setRef r y) = reasons-bind (reasons-ref (slot φ r) o) λ u. reasons-bind (reasons-bool (slot φ y) o) λ v. gives-one
-  reasons-perform o φ (constant y v) = reasons-then (reasons-bound o φ y) gives-one
-
-  reasons-arguments : (o : ℕ) (φ : List (Slot t B)) (xs : List ℕ) (ls : List (Place t)) → Reasons (argumentsAt W o φ xs ls)
-  reasons-arguments o φ [] ls = gives-one
-  reasons-arguments o φ (x ∷ xs) [] = gives-one
-  reasons-arguments o φ (x ∷ xs) (l ∷ ls) =
-      reasons-bind (reasons-qubit (slot φ x) o) λ k. reasons-then (reasons-need (eqb (k .no) (l .no)) 16 o refl) (reasons-arguments o φ xs ls)
-
-  reasons-callable : (o : ℕ) (φ : List (Slot t B)) (ls : List (Place t)) (xs : List ℕ) → Reasons (callable W o φ ls xs)
-  reasons-callable o φ ls xs =
-      reasons-then (reasons-need (all (W .inside) ls) 13 o refl)
-      (reasons-then (reasons-need (distinct (map (λ l. l .no) ls) && distinct xs) 15 o refl)
-      (reasons-then (reasons-arguments o φ xs ls) (reasons-need (all (W .isFree) (drop (length xs) ls)) 14 o refl)))
-
-module _ (R : Region) (fs : List Function) (v : Bool) (isOpen : ℕ → Bool) where
-  reasons-route : (r : Option (List ℕ)) (o : ℕ) → Reasons (needRoute r o)
-  reasons-route none o = reasons-refused 21 o refl
-  reasons-route (some p) o = gives-one
-
-  reasons-edges : (a : Act trees.device) (o : ℕ) → Reasons (edgesOf R fs v isOpen a o)
-  reasons-edges quiet o = gives-one
-  reasons-edges (takes q l) o = gives-one
-  reasons-edges (gives l) o = gives-one
-  reasons-edges (merges b l e k) o = reasons-bind (reasons-route (route R isOpen (l .no) (k .no)) o) λ p. gives-one
-
-  reasons-move : (φ : Frame) (φs : List Frame) (i : Item) (rest : List Item) → Reasons (move R fs v isOpen φ φs i rest)
-  reasons-move φ φs (run σ (op o a)) rest =
-      reasons-bind (reasons-perform (floor R fs v isOpen σ) o φ a) λ d. reasons-bind (reasons-edges (d .act) o) λ e. gives-one
-  reasons-move φ φs (run σ (if o y b c)) rest = reasons-bind (reasons-bool (slot φ y) o) λ u. gives-one
-  reasons-move φ φs (run σ (while o r b)) rest = reasons-bind (reasons-ref (slot φ r) o) λ u. gives-one
-  reasons-move φ φs (run σ (call o f ls xs)) rest = reasons-then (reasons-callable (floor R fs v isOpen σ) o φ (map (locate σ) ls) xs) gives-one
-  reasons-move φ [] (return o ls xs) rest = gives-one
-  reasons-move φ (χ ∷ φs) (return o ls xs) rest = gives-one
-
 -- ---- what a step answers
 offset-of : (i : Item) → OffsetOf i (itemOffset i)
 offset-of (run σ (op o a)) = of-operation
@@ -220,7 +117,7 @@ module _ (D : Device) (P : ℕ → Program) (t : Turn) (M : Machine) where
       → Tells D P t M (fourBytes (stepped (record { top = J .top; below = J .below; items = i ∷ rest }) (itemOffset i) m .answer))
   tells-item i rest (ok m) e f = tells-move i rest m e f
   tells-item i rest (refused r) e f =
-      stuck (e, offset-of i) f (reason-at (reasons-move R (P (t .job) .functions) (t .outcome) isOpen (J .top) (J .below) i rest) f)
+      stuck (e, offset-of i) f (reason-of (move-reasoned R (P (t .job) .functions) (t .outcome) isOpen (J .top) (J .below) i rest) f)
 
   tells-items : (is : List Item) → J .items ≡ is
       → Tells D P t M (fourBytes (stepItems R (P (t .job) .functions) (t .outcome) isOpen (J .top) (J .below) is .answer))

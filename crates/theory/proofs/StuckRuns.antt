@@ -8,55 +8,23 @@ use mathlib.Core.Path.{_≡_, refl, sym, ap, _∙_, subst}
 use native.Mathlib.Omega.{arith}
 use native.Mathlib.Nat.{add-zero}
 use Prim.Native.Nat.{ℕ, zero, suc, _+_, _-_, _*_, _/_, _≤_, _<_}
-use lib.Dec.{leb}
 use lib.ListN.{length, take, drop, getD, List·getD-append}
 use lib.Seq.{length-take-le, take-add, drop-cons, split-at, getD-drop, getD-take}
 use Rattle.answers.specs.Check.{ok}
 use Rattle.answers.specs.declared.Moved.{Moved}
-use Rattle.answers.proofs.Laws.{Holds, by, holds-bind, holds-then, holds-need, holds-any, holds-at}
 use Rattle.rules.specs.Basics.{all, byte, word}
-use Rattle.rules.specs.Device.{Device, deviceHeader, owners, readDevice}
+use Rattle.rules.specs.Device.{Device}
 use Rattle.rules.specs.Syntax.{Program}
 use Rattle.rules.specs.Run.{Turn, Machine, started, stepOf, after, final}
 use Rattle.rules.specs.Promises.{Ran, runOf}
 use Rattle.theory.specs.Tidy.{Stuck}
 use Rattle.theory.specs.TheRun.{isTurn, turnOf, recordAt, ofJob, Files, MapBytes, StuckFrom, MapInRuns, StuckInRuns}
 use Rattle.theory.proofs.Base.{and-left, and-right, and-both}
+use Rattle.theory.proofs.OwnerBytes.{BytesFrom, owner-bytes}
 use Rattle.theory.proofs.Isolation.{sound-started, sound-final}
 use Rattle.theory.proofs.Tidy.{map-byte, stuck-stays}
 use Rattle.theory.proofs.TheRun.{bytewise, files, run-with}
 use Rattle.theory.proofs.Records.{fourBytes, machineAt, record-in-run}
-
--- ---- the device's owners
--- m bytes from i on
-record BytesFrom (s : List ℕ) (i m : ℕ) (ws : List ℕ) : Type 0 where
-  many : length ws ≡ m
-  each : (l : ℕ) → l < m → getD ws l 0 ≡ byte s (i + l)
-
-bytes-from : (s : List ℕ) (i m : ℕ) → Holds (BytesFrom s i m) (owners s i m)
-bytes-from s i zero = by (record { many = refl; each = λ l h. absurd (omega arith) })
-bytes-from s i (suc m) =
-    holds-then (holds-need (leb (byte s i) 2) 6 i) λ _ _.
-    holds-bind (bytes-from s (suc i) m) λ ws B.
-    by (record { many = ap suc (B .many); each = λ l h. at l h B })
-  where
-    at : (l : ℕ) {ws : List ℕ} → l < suc m → BytesFrom s (suc i) m ws → getD (byte s i ∷ ws) l 0 ≡ byte s (i + l)
-    at zero h B = ap (byte s) (sym (add-zero i))
-    at (suc l) h B = B .each l (omega arith) ∙ ap (byte s) (omega arith)
-
-header-says : (n e : ℕ) → Holds (λ h. h .locations ≡ n) (deviceHeader n e)
-header-says n e = holds-then (holds-any _) λ _ _. holds-then (holds-any _) λ _ _. by refl
-
-owner-bytes : (s : List ℕ) → Holds (λ D. BytesFrom s 9 (word s 5) (D .owners)) (readDevice s)
-owner-bytes s =
-    holds-then (holds-any _) λ _ _.
-    holds-then (holds-any _) λ _ _.
-    holds-then (holds-any _) λ _ _.
-    holds-bind (header-says (word s 5) (word s 7)) λ h n.
-    holds-then (holds-any _) λ _ _.
-    holds-bind (bytes-from s 9 (h .locations)) λ ws B.
-    holds-bind (holds-any _) λ es _.
-    by (subst (λ (m : ℕ). BytesFrom s 9 m ws) n B)
 
 -- ---- a schedule in parts
 -- the first k bytes, where k is past i
@@ -87,7 +55,7 @@ module _ (device first second schedule buffer map′ : List ℕ) (m : Moved) (e 
   at i = machineAt D P schedule i (started D P)
 
   its-owners : BytesFrom device 9 (word device 5) (D .owners)
-  its-owners = holds-at (owner-bytes device) (F .device-reads)
+  its-owners = owner-bytes device D (F .device-reads)
 
   its-turns : all isTurn schedule ≡ true
   its-turns = bytewise device first second schedule buffer map′ m e .all-turns

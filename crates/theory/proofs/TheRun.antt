@@ -228,6 +228,15 @@ checked device program j =
         → judged (regionOf D j) p ≡ ok n → Checked device program j n
     made D p n a b e = record { D = D; p = p; device-reads = a; program-reads = b; accepted = e }
 
+-- each job's file reads as its program
+pub job-reads : (first second : List ℕ) (p q : syntax.Program) → readProgram first ≡ ok p → readProgram second ≡ ok q
+    → (j : ℕ) → readProgram (ofJob first second j) ≡ ok (ofJob p q j)
+job-reads first second p q a b j = go (eqb j 1)
+  where
+    go : (t : Bool) → readProgram (chosen t first second) ≡ ok (chosen t p q)
+    go true = a
+    go false = b
+
 -- what a run that is answered answers and writes, its turns being those of the bytes
 module _ (device first second schedule buffer map′ : List ℕ) (m : Moved) (e : runOf device first second schedule buffer map′ .answer ≡ ok m) where
   pub bytewise : Bytewise device first second schedule (length buffer) (length map′)
@@ -285,14 +294,10 @@ module _ (device first second schedule buffer map′ : List ℕ) (m : Moved) (e 
       }
 
   -- ---- never stuck
-  file-of : (t : Bool) → readProgram (chosen t first second) ≡ ok (chosen t (B .p) (B .q))
-  file-of true = B .first-reads
-  file-of false = B .second-reads
-
   not-stuck : NotStuck device first second schedule buffer map′
   not-stuck j n h k =
       let C = holds-at (checked device (ofJob first second j) j) k in
-      let reads : readProgram (ofJob first second j) ≡ ok (P j) = file-of (eqb j 1) in
+      let reads : readProgram (ofJob first second j) ≡ ok (P j) = job-reads first second (B .p) (B .q) (B .first-reads) (B .second-reads) j in
       let same-program : C .p ≡ P j = same-value (C .program-reads) reads in
       let same-device : C .D ≡ B .D = same-value (C .device-reads) (B .device-reads) in
       let there : judged (regionOf (C .D) j) (P j) ≡ ok n = rw same-program at (C .accepted) in

@@ -99,7 +99,9 @@ module _ (device first second schedule buffer map′ : List ℕ) (m : Moved) (e 
   end = final D P ts (started D P)
 
   ran-as : runOf device first second schedule buffer map′ ≡ runWritten buffer map′ (ok (ranBy D P schedule))
-  ran-as = run-with device first second schedule buffer map′ m e D p q F schedule (omega arith) (bytewise device first second schedule buffer map′ m e .all-turns)
+  ran-as =
+      let B = bytewise device first second schedule buffer map′ m e in
+      run-with device first second schedule buffer map′ m e D p q F schedule (omega arith) (B .all-turns)
 
   reads : (j : ℕ) → readProgram (ofJob first second j) ≡ ok (P j)
   reads j = job-reads first second p q (F .first-reads) (F .second-reads) j

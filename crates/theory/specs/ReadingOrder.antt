@@ -44,10 +44,10 @@ module _ (s : List ℕ) where
   operandTests S i n [] = []
   operandTests S i n (o ∷ os) = test (inRange S (byte s (i + 1)) o (byte s (i + n))) 10 (i + n) ∷ operandTests S i (suc n) os
 
-  -- a call's list 8 and its operands 10
-  abbrev pub listTests : Scope → ℕ → ℕ → List Test
-  listTests S i e =
-      test (leb (i + 4 + byte s (i + 2) + byte s (i + 3)) e) 8 i
+  -- a call's list, which starts at p: 8, and its operands 10
+  abbrev pub listTests : Scope → ℕ → ℕ → ℕ → List Test
+  listTests S i p e =
+      test (leb (p + byte s (i + 2) + byte s (i + 3)) e) 8 i
       ∷ operandTests S i 4 (replicate (byte s (i + 2)) ALocation ++ replicate (byte s (i + 3)) ASlot)
 
   -- where the block whose length word is at i ends
@@ -63,7 +63,7 @@ module _ (s : List ℕ) where
   followingTests S inner (simple f) i p e = []
   followingTests S inner branches i p e = inner p e ++ inner (afterBlock p) e
   followingTests S inner loops i p e = inner p e
-  followingTests S inner calls i p e = listTests S i e
+  followingTests S inner calls i p e = listTests S i p e
 
   abbrev pub afterFollowing : Meaning → ℕ → ℕ → ℕ
   afterFollowing (simple f) i p = p

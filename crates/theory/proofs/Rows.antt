@@ -6,7 +6,7 @@ use mathlib.Core.List.{List, [], _∷_, _++_, map}
 use mathlib.Core.Path.{_≡_, refl, sym, ap, subst, _∙_}
 use Prim.Native.Nat.{ℕ}
 use Rattle.answers.specs.Check.{Check, ok, refused, refusal, _>>=_, _>>_, need}
-use Rattle.answers.proofs.Laws.{Holds, not-ok, by, holds-any, bind-assoc}
+use Rattle.answers.proofs.Laws.{Holds, not-ok, by, holds-bind, holds-then, holds-any, bind-assoc}
 use Rattle.rules.specs.Basics.{all}
 use Rattle.theory.specs.Tests.{Test, test, firstOf, refusalOf}
 
@@ -29,6 +29,13 @@ firstOf-append [] us = refl
 firstOf-append (t ∷ ts) us =
     let first : Check (Unit {0}) = need (t .passes) (t .number) (t .place) in
     ap (λ (m : Check (Unit {0})). first >> m) (firstOf-append ts us) ∙ sym (then-assoc first (firstOf ts) (firstOf us))
+
+-- what holds of a row's value, whatever its first check gave
+pub past : {A B : Type 0} {P : B → Type 0} (m : Check A) {k : Check B} → Holds P k → Holds P (m >> k)
+past m h = holds-then (holds-any m) λ a e. h
+
+pub past-any : {A B : Type 0} {P : B → Type 0} (m : Check A) {f : A → Check B} → ((a : A) → Holds P (f a)) → Holds P (m >>= f)
+past-any m h = holds-bind (holds-any m) λ a e. h a
 
 pub record AsFirst {A : Type 0} (m : Check A) (ts : List Test) : Type 0 where
   pub same : refusalOf m ≡ firstOf ts

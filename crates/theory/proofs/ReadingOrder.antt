@@ -10,7 +10,7 @@ use Prim.Native.Nat.{ℕ, zero, suc, _+_, _*_, _-_}
 use lib.Dec.{eqb, ltb, leb, eqb·suc-zero}
 use lib.ListN.{length, length-map, List·getD-map, replicate}
 use Rattle.answers.specs.Check.{Check, ok, _>>=_, _>>_, need}
-use Rattle.answers.proofs.Laws.{Holds, not-ok, by, holds-bind, holds-then, holds-any}
+use Rattle.answers.proofs.Laws.{Holds, not-ok, by, holds-bind}
 use Rattle.rules.specs.declared.statements.Operand.{Operand}
 use Rattle.rules.specs.declared.statements.Operand.the-variants.{Slot, Location, Gate, Basis, Value, Callee, CalleeK, CalleeM, Nothing}
 use Rattle.rules.specs.Basics.{upTo, byte, word, hasMark}
@@ -21,7 +21,8 @@ use Rattle.rules.specs.Program.{Scope, Read, inRange, known, operands, meant, s
 use Rattle.theory.specs.Tests.{Test, test}
 use Rattle.theory.specs.ReadingOrder.{headed, edgePasses, deviceTests, operandTests, afterBlock, followingTests, afterFollowing}
 use Rattle.theory.specs.ReadingOrder.{statementTests, afterStatement, statementsTests, blockTests, bodiesTests, programTests, DeviceOrder, ProgramOrder}
-use Rattle.theory.proofs.Rows.{AsFirst, end, next, passed, fails, made, gives, after-having, after, then, next-in, value-in, row-in, choice}
+use Rattle.theory.proofs.Rows.{past, past-any, AsFirst, end, next, passed, fails, made, gives}
+use Rattle.theory.proofs.Rows.{after-having, after, then, next-in, value-in, row-in, choice}
 
 -- Device
 module _ (s : List ℕ) where
@@ -90,12 +91,8 @@ device-order s = device-row s .same
 -- Program. A block ends where its length word says.
 module _ (s : List ℕ) (S : Scope) (d : Side) where
   block-end : (n i limit : ℕ) → Holds (λ b. b .next ≡ afterBlock s i) (readBlock s d S n i limit)
-  block-end zero i limit = holds-then (holds-any (need (leb (i + 2) limit) 8 i)) λ u a. not-ok
-  block-end (suc n) i limit =
-      holds-then (holds-any (need (leb (i + 2) limit) 8 i)) λ u a.
-      holds-then (holds-any (need (leb (afterBlock s i) limit) 8 i)) λ v b.
-      holds-bind (holds-any (statements s d S (readBlock s d S n) (word s i) (i + 2) (afterBlock s i))) λ ts c.
-      by refl
+  block-end zero i limit = past _ not-ok
+  block-end (suc n) i limit = past _ (past _ (past-any _ λ ts. by refl))
 
 -- Two scopes with which the same operands are in range: the reader's, and the list's.
 abbrev Agree : Scope → Scope → Type 0
@@ -127,10 +124,7 @@ module _ (s : List ℕ) (S S′ : Scope) (agree : Agree S S′) where
         meant-end branches i p e =
             holds-bind (inner-end p e) λ b q. holds-bind (inner-end (b .next) e) λ c r. by (r ∙ ap (afterBlock s) q)
         meant-end loops i p e = holds-bind (inner-end p e) λ b q. by q
-        meant-end calls i p e =
-            holds-then (holds-any (need (leb (p + byte s (i + 2) + byte s (i + 3)) e) 8 i)) λ u a.
-            holds-then (holds-any (operands s S i 4 (replicate (byte s (i + 2)) Location ++ replicate (byte s (i + 3)) Slot))) λ v b.
-            by refl
+        meant-end calls i p e = past _ (past _ (by refl))
 
         -- the statement at i, of the row that its byte has
         abbrev statementOf : ℕ → ℕ → Option Row → Check (Read (Statement d))
@@ -149,10 +143,7 @@ module _ (s : List ℕ) (S S′ : Scope) (agree : Agree S S′) where
         statement-end : (i e : ℕ) (row : Option Row) → Holds (λ t. t .next ≡ afterStatement s i row) (statementOf i e row)
         unfolding _>>=_
         statement-end i e none = not-ok
-        statement-end i e (some r) =
-            holds-then (holds-any (need (leb (i + size r) e) 8 i)) λ u a.
-            holds-then (holds-any (operands s S i 1 (r .operands))) λ v b.
-            meant-end (r .meaning) i (i + size r) e
+        statement-end i e (some r) = past _ (past _ (meant-end (r .meaning) i (i + size r) e))
 
         statements-row : (more i e : ℕ) → AsFirst (statements s d S inner more i e) (statementsTests s S′ innerTests more i e)
         statements-row zero i e = end done

@@ -28,4 +28,7 @@ pub mod Records
 pub mod StuckRuns
 pub mod FromBytes
 pub mod OccupiedRuns
+pub mod BoundsLaws
+pub mod BoundsRead
+pub mod BoundsTyped
 pub mod Bounds

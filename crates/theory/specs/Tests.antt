@@ -3,7 +3,7 @@
 use mathlib.Core.Bool.{Bool}
 use mathlib.Core.List.{List, [], _∷_}
 use Prim.Native.Nat.{ℕ}
-use Rattle.answers.specs.Check.{Check, ok, refused, _>>_, need}
+use Rattle.answers.specs.Check.{Check, ok, _>>_, need}
 
 pub record Test : Type 0 where
   pub passes : Bool

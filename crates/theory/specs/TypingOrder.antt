@@ -12,13 +12,13 @@ use Rattle.answers.specs.Check.{Check, ok, refused}
 use Rattle.rules.specs.Basics.{distinct}
 use Rattle.rules.specs.Region.{Region}
 use Rattle.rules.specs.Path.{route}
-use Rattle.rules.specs.Syntax.{Side, device, parameter, Place, Op, init, free, gate, measure, merge, newRef, getRef, setRef, constant}
+use Rattle.rules.specs.Syntax.{Side, device, Place, Op, init, free, gate, measure, merge, newRef, getRef, setRef, constant}
 use Rattle.rules.specs.Syntax.{Statement, op, if, while, call, Statements, done, _⨾_, Block, block, Function, Program}
 use Rattle.rules.specs.Slots.{Slot, unbound, qubit, bool, ref, slot, isQubitAt, Setting, perform, callable}
 use Rattle.rules.specs.Commands.{ε}
 use Rattle.rules.specs.Typing.{Env, Typed, Signature, Context, kinds, allStay, sameEnv, typeStatement, typeStatements, typeBlock}
 use Rattle.rules.specs.Typing.{entry, bodyContext, signatureOf, mainContext, start, typeProgram}
-use Rattle.rules.specs.Machine.{Frame, Actual, locate, Item, run, return, floor, move}
+use Rattle.rules.specs.Machine.{Frame, locate, Item, run, return, floor, move}
 use Rattle.theory.specs.Tests.{Test, test, firstOf, refusalOf}
 
 module _ {t : Side} {B : Type 0} where

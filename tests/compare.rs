@@ -1,7 +1,8 @@
 //! Compares the library, over its exports, with the reference on generated cases.
 //!
-//! Usage: compare [cases] [seed] [first case]. Stops with 1 at the first difference, or at the
-//! end if some number never came up in a call that can answer it.
+//! Usage: compare [random] [cases] [seed] [first case]. Stops with 1 at the first difference, or
+//! at the end if some number never came up in a call that can answer it. With `random` all cases
+//! are of random bytes, which need not bring up every number.
 
 mod files;
 mod generator;
@@ -20,20 +21,6 @@ const EXPORTS: [Export; 5] =
 
 fn name(export: Export) -> &'static str {
     CALLS[export as usize]
-}
-
-fn call_of(case: &Case) -> Call<'_> {
-    match case {
-        Case::ReadDevice { device } => Call::read_device(device),
-        Case::ReadProgram { program } => Call::read_program(program),
-        Case::Check { device, program, job, .. } => Call::check(device, program, *job),
-        Case::Route { device, job, occupancy, first, second, buffer } => {
-            Call::route(device, *job, occupancy, *first, *second, buffer)
-        }
-        Case::Run { device, one, two, schedule, records, map } => {
-            Call::run(device, one, two, schedule, records, map)
-        }
-    }
 }
 
 fn by_reference(call: &Call) -> Outcome {
@@ -256,7 +243,7 @@ fn compare_interleaving(call: &Call, outcome: &Outcome, index: u64) {
 }
 
 fn compare(case: &Case, index: u64, tally: &mut Tally) {
-    let call = call_of(case);
+    let call = case.call();
     let expected = by_reference(&call);
     let expected_line = || line(&call, &expected);
     if let Case::Check { claim: Some(claim), .. } = case {
@@ -292,21 +279,26 @@ fn compare(case: &Case, index: u64, tally: &mut Tally) {
 }
 
 fn main() {
-    let mut arguments = std::env::args().skip(1).map(|argument| {
-        argument.parse::<u64>().expect("cases, seed and first case are decimal numbers")
-    });
-    let cases = arguments.next().unwrap_or(20_000);
-    let seed = arguments.next().unwrap_or(1);
-    let first = arguments.next().unwrap_or(0);
+    let mut words: Vec<String> = std::env::args().skip(1).collect();
+    let random_only = words.first().is_some_and(|word| word == "random");
+    if random_only {
+        words.remove(0);
+    }
+    let number = |i: usize, otherwise: u64| match words.get(i) {
+        Some(word) => word.parse().expect("cases, seed and first case are decimal numbers"),
+        None => otherwise,
+    };
+    let (cases, seed, first) = (number(0, 20_000), number(1, 1), number(2, 0));
+    let make = if random_only { generator::random_case } else { generator::case };
     let mut tally = Tally::default();
     for index in first..first + cases {
-        let case = generator::case(&mut Random::new(seed, index));
+        let case = make(&mut Random::new(seed, index));
         compare(&case, index, &mut tally);
     }
     let missing = tally.print();
-    println!("{cases} cases, 0 differences");
+    println!("{cases} cases{}, 0 differences", if random_only { " of random bytes" } else { "" });
     for line in &missing {
         println!("{line}");
     }
-    std::process::exit(if missing.is_empty() { 0 } else { 1 });
+    std::process::exit(if missing.is_empty() || random_only { 0 } else { 1 });
 }

@@ -8,7 +8,17 @@
 //! number of the one fault that was put in on purpose. The reference serves as a guide in two
 //! places only: to thin out merges that have no path, and to know a route's length when the
 //! length of a buffer is chosen.
+//!
+//! One case in five is of random bytes, which `random.rs` makes.
 
+#![allow(dead_code)]
+
+#[path = "random.rs"]
+mod random;
+
+pub use random::case as random_case;
+
+use crate::library::Call;
 use crate::reference;
 use std::collections::BTreeSet;
 
@@ -2028,7 +2038,26 @@ pub enum Case {
     },
 }
 
+impl Case {
+    pub fn call(&self) -> Call<'_> {
+        match self {
+            Case::ReadDevice { device } => Call::read_device(device),
+            Case::ReadProgram { program } => Call::read_program(program),
+            Case::Check { device, program, job, .. } => Call::check(device, program, *job),
+            Case::Route { device, job, occupancy, first, second, buffer } => {
+                Call::route(device, *job, occupancy, *first, *second, buffer)
+            }
+            Case::Run { device, one, two, schedule, records, map } => {
+                Call::run(device, one, two, schedule, records, map)
+            }
+        }
+    }
+}
+
 pub fn case(random: &mut Random) -> Case {
+    if random.one_in(5) {
+        return random_case(random);
+    }
     let size = size(random);
     let plan = device(random, size);
     match random.below(20) {

@@ -6,18 +6,8 @@
 mod files;
 mod reference;
 
-use files::hex;
+use files::{hex, unhex};
 use reference::{Refusal, FILE_DEVICE, FILE_NONE, FILE_PROGRAM, FILE_SCHEDULE};
-
-fn bytes(text: &str) -> Vec<u8> {
-    if text == "-" {
-        return Vec::new();
-    }
-    assert!(text.len() % 2 == 0, "odd number of hex digits");
-    (0..text.len() / 2)
-        .map(|i| u8::from_str_radix(&text[2 * i..2 * i + 2], 16).expect("hex"))
-        .collect()
-}
 
 fn number(text: &str) -> u64 {
     text.parse().expect("a decimal number")
@@ -39,7 +29,7 @@ fn refusal(refusal: Refusal, of_check: bool) -> String {
 fn answer(call: &str, input: &[&str]) -> String {
     match call {
         "check" => {
-            let (device, program) = (bytes(input[0]), bytes(input[1]));
+            let (device, program) = (unhex(input[0]), unhex(input[1]));
             match reference::check(&device, &program, number(input[2])) {
                 Ok(count) => format!("ok {count}"),
                 Err(no) => {
@@ -51,7 +41,7 @@ fn answer(call: &str, input: &[&str]) -> String {
             }
         }
         "route" => {
-            let (device, occupancy) = (bytes(input[0]), bytes(input[2]));
+            let (device, occupancy) = (unhex(input[0]), unhex(input[2]));
             let mut buffer = vec![0xAA; number(input[5]) as usize];
             let (job, first, second) = (number(input[1]), number(input[3]), number(input[4]));
             let result = reference::route(&device, job, &occupancy, first, second, &mut buffer);
@@ -62,8 +52,8 @@ fn answer(call: &str, input: &[&str]) -> String {
             }
         }
         "run" => {
-            let (device, one, two) = (bytes(input[0]), bytes(input[1]), bytes(input[2]));
-            let schedule = bytes(input[3]);
+            let (device, one, two) = (unhex(input[0]), unhex(input[1]), unhex(input[2]));
+            let schedule = unhex(input[3]);
             let mut records = vec![0xAA; number(input[4]) as usize];
             let mut map = vec![0xAA; number(input[5]) as usize];
             let result =
@@ -74,7 +64,7 @@ fn answer(call: &str, input: &[&str]) -> String {
                 Err(no) => format!("{} {records} {map}", refusal(no, false)),
             }
         }
-        "print" => hex(&reference::print_check(&bytes(input[0]))),
+        "print" => hex(&reference::print_check(&unhex(input[0]))),
         _ => panic!("unknown call {call}"),
     }
 }

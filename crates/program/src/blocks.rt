@@ -79,7 +79,9 @@ fn read_statement(
     let statement = s[at];
     match statement {
         0 => refused(9, at),
-        1..=9 => operands::fixed_part(s, at, end, t, places),
+        // The init kinds stand apart, as in typing and step; here the table reads them like the others.
+        1..=2 => operands::fixed_part(s, at, end, t, places),
+        3..=9 => operands::fixed_part(s, at, end, t, places),
         10 => read_if(s, at, end, depths, t, places),
         11 => match operands::fixed_part(s, at, end, t, places) {
             Past::At(p) => read_block(s, p, end, depths, t, places),

@@ -255,6 +255,9 @@ read-statement-fixed-part-requires-3 t c κs = search needs
 read-statement-fixed-part-requires-4 : (t : ℕ) → read-statement-lts.Need-fixed-part-requires-4 (refused-reads.Asked, refused-reads.Learnt, read-if-below t, read-if.Post, fixed-part-reads.Asked, fixed-part-reads.Learnt, read-block-below t, read-block.Post, call-list-reads.Asked, call-list-reads.Learnt) (read-statement-at t) read-statement.Post
 read-statement-fixed-part-requires-4 t c κs = search needs
 
+read-statement-fixed-part-requires-5 : (t : ℕ) → read-statement-lts.Need-fixed-part-requires-5 (refused-reads.Asked, refused-reads.Learnt, read-if-below t, read-if.Post, fixed-part-reads.Asked, fixed-part-reads.Learnt, read-block-below t, read-block.Post, call-list-reads.Asked, call-list-reads.Learnt) (read-statement-at t) read-statement.Post
+read-statement-fixed-part-requires-5 t c κs = search needs
+
 read-statement-refused-requires-2 : (t : ℕ) → read-statement-lts.Need-refused-requires-2 (refused-reads.Asked, refused-reads.Learnt, read-if-below t, read-if.Post, fixed-part-reads.Asked, fixed-part-reads.Learnt, read-block-below t, read-block.Post, call-list-reads.Asked, call-list-reads.Learnt) (read-statement-at t) read-statement.Post
 read-statement-refused-requires-2 t c κs = search needs
 
@@ -296,7 +299,11 @@ read-statement-returns-8 t c =
     ((λ d S h. c .fixed-part4 .ensures .0 S h ∙ sym (st-simple _ _ _ _ _ _ (omega arith) (omega arith))), fixed-between _ _ _ _ (c .fixed-part4 .ensures .1) (omega arith) (omega arith))
 
 read-statement-returns-9 : (t : ℕ) → read-statement-lts.Need-returns-9 (refused-reads.Asked, refused-reads.Learnt, read-if-below t, read-if.Post, fixed-part-reads.Asked, fixed-part-reads.Learnt, read-block-below t, read-block.Post, call-list-reads.Asked, call-list-reads.Learnt) (read-statement-at t) read-statement.Post
-read-statement-returns-9 t c = ((λ d S h. said-refused _ _ _ (c .refused2 .ensures) (st-high _ _ _ _ _ _ (omega arith))), between-refused _ _ _ _ (c .refused2 .ensures))
+read-statement-returns-9 t c =
+    ((λ d S h. c .fixed-part5 .ensures .0 S h ∙ sym (st-simple _ _ _ _ _ _ (omega arith) (omega arith))), fixed-between _ _ _ _ (c .fixed-part5 .ensures .1) (omega arith) (omega arith))
+
+read-statement-returns-10 : (t : ℕ) → read-statement-lts.Need-returns-10 (refused-reads.Asked, refused-reads.Learnt, read-if-below t, read-if.Post, fixed-part-reads.Asked, fixed-part-reads.Learnt, read-block-below t, read-block.Post, call-list-reads.Asked, call-list-reads.Learnt) (read-statement-at t) read-statement.Post
+read-statement-returns-10 t c = ((λ d S h. said-refused _ _ _ (c .refused2 .ensures) (st-high _ _ _ _ _ _ (omega arith))), between-refused _ _ _ _ (c .refused2 .ensures))
 
 pub +read-block+read-if+read-statement-spec : {M : Type 1} → statement M
 +read-block+read-if+read-statement-spec =
@@ -377,6 +384,7 @@ pub +read-block+read-if+read-statement-spec : {M : Type 1} → statement M
     (read-statement-enum-known-x-2 t)
     (read-statement-fixed-part-requires-3 t)
     (read-statement-fixed-part-requires-4 t)
+    (read-statement-fixed-part-requires-5 t)
     (read-statement-refused-requires-2 t)
     (read-statement-returns t)
     (read-statement-returns-2 t)
@@ -387,3 +395,4 @@ pub +read-block+read-if+read-statement-spec : {M : Type 1} → statement M
     (read-statement-returns-7 t)
     (read-statement-returns-8 t)
     (read-statement-returns-9 t)
+    (read-statement-returns-10 t)

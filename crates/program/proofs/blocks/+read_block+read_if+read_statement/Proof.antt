@@ -9,9 +9,10 @@ use Rattle.rules.specs.Syntax.{Side}
 use Rattle.rules.specs.Program.{Scope}
 use Rattle.program.specs.Reader.{Behind, blockPast}
 use Rattle.program.proofs.PastLaws.{said-refused, said-at, said-no, between-refused, between-none, between-at, between-past, between-wider}
-use Rattle.program.proofs.StatementLaws.{st-zero, st-high, st-refused, st-simple, st-bool, st-while, st-if, st-if-refused, st-call, fixed-between, fixed-past, call-fits}
+use Rattle.program.proofs.StatementLaws.{st-zero, st-high, st-refused, st-simple, st-bool, st-while, st-if, st-if-refused, st-call}
+use Rattle.program.proofs.StatementLaws.{fixed-between, fixed-past, call-fits}
 use Rattle.program.proofs.BlockLaws.{restPast, block-short, block-deep, block-long, block-enter, rest-end, rest-more, rest-refused}
-use borrow.Fn.Kinds.{In}
+use borrow.Fn.Kinds.{In, Out}
 use borrow.Fn.PlainCycle.{Measures, is, falls, and}
 use Rattle.program.proofs.blocks.read_block.Reads as read-block
 use Rattle.program.proofs.blocks.read_block.Kinds as read-block-kinds
@@ -68,6 +69,34 @@ read-statement-below t =
     (falls 1 read-statement-kinds.ps _<_ μ-read-statement t)
     read-statement.Pre
 
+-- what the functions that each of them calls ask and give
+abbrev read-block-claims : ℕ → read-block-lts.Claims
+read-block-claims t = (
+  refused-reads.Asked,
+  refused-reads.Learnt,
+  word-at-reads.Asked,
+  word-at-reads.Learnt,
+  read-statement-below t,
+  read-statement.Post,
+)
+
+abbrev read-if-claims : ℕ → read-if-lts.Claims
+read-if-claims t = (fixed-part-reads.Asked, fixed-part-reads.Learnt, read-block-below t, read-block.Post)
+
+abbrev read-statement-claims : ℕ → read-statement-lts.Claims
+read-statement-claims t = (
+  refused-reads.Asked,
+  refused-reads.Learnt,
+  read-if-below t,
+  read-if.Post,
+  fixed-part-reads.Asked,
+  fixed-part-reads.Learnt,
+  read-block-below t,
+  read-block.Post,
+  call-list-reads.Asked,
+  call-list-reads.Learnt,
+)
+
 abbrev read-block-Inv-loop : read-block-lts.InvT-loop
 read-block-Inv-loop s at limit depths t places len first end p₀ p =
     (at + 2 ≤ p) × (p ≤ end) × ((more : ℕ) × (end - p ≤ more)
@@ -76,59 +105,83 @@ read-block-Inv-loop s at limit depths t places len first end p₀ p =
 abbrev read-block-μ-loop : read-block-lts.MeasureT-loop
 read-block-μ-loop s at limit depths t places len first end p₀ p = end - p
 
-read-block-sub-if1 : (t : ℕ) → read-block-lts.Need-sub-if1 (refused-reads.Asked, refused-reads.Learnt, word-at-reads.Asked, word-at-reads.Learnt, read-statement-below t, read-statement.Post) (read-block-at t) read-block.Post read-block-Inv-loop read-block-μ-loop
+-- a need of each of them, at these claims and at every measure
+abbrev Block-need : (read-block-lts.Claims → In 1 read-block-kinds.ps → Out 1 read-block-kinds.ps read-block-kinds.r
+    → read-block-lts.InvT-loop → read-block-lts.MeasureT-loop → Type 0) → Type 0
+Block-need need = (t : ℕ) → need (read-block-claims t) (read-block-at t) read-block.Post read-block-Inv-loop read-block-μ-loop
+
+abbrev If-need : (read-if-lts.Claims → In 1 read-if-kinds.ps → Out 1 read-if-kinds.ps read-if-kinds.r → Type 0) → Type 0
+If-need need = (t : ℕ) → need (read-if-claims t) (read-if-at t) read-if.Post
+
+abbrev Statement-need : (read-statement-lts.Claims → In 1 read-statement-kinds.ps → Out 1 read-statement-kinds.ps read-statement-kinds.r
+    → Type 0) → Type 0
+Statement-need need = (t : ℕ) → need (read-statement-claims t) (read-statement-at t) read-statement.Post
+
+read-block-sub-if1 : Block-need read-block-lts.Need-sub-if1
 read-block-sub-if1 t c = search needs
 
-read-block-refused-requires : (t : ℕ) → read-block-lts.Need-refused-requires (refused-reads.Asked, refused-reads.Learnt, word-at-reads.Asked, word-at-reads.Learnt, read-statement-below t, read-statement.Post) (read-block-at t) read-block.Post read-block-Inv-loop read-block-μ-loop
+read-block-refused-requires : Block-need read-block-lts.Need-refused-requires
 read-block-refused-requires t c κs = search needs
 
-read-block-returns : (t : ℕ) → read-block-lts.Need-returns (refused-reads.Asked, refused-reads.Learnt, word-at-reads.Asked, word-at-reads.Learnt, read-statement-below t, read-statement.Post) (read-block-at t) read-block.Post read-block-Inv-loop read-block-μ-loop
-read-block-returns t c = ((λ d S h. said-refused _ _ _ (c .refused .ensures) (block-short _ _ _ _ _ _ (omega arith))), between-refused _ _ _ _ (c .refused .ensures))
+read-block-returns : Block-need read-block-lts.Need-returns
+read-block-returns t c =
+    let r = c .refused .ensures in
+    ((λ d S h. said-refused _ _ _ r (block-short _ _ _ _ _ _ (omega arith))), between-refused _ _ _ _ r)
 
-read-block-refused-requires-2 : (t : ℕ) → read-block-lts.Need-refused-requires-2 (refused-reads.Asked, refused-reads.Learnt, word-at-reads.Asked, word-at-reads.Learnt, read-statement-below t, read-statement.Post) (read-block-at t) read-block.Post read-block-Inv-loop read-block-μ-loop
+read-block-refused-requires-2 : Block-need read-block-lts.Need-refused-requires-2
 read-block-refused-requires-2 t c κs = search needs
 
-read-block-returns-2 : (t : ℕ) → read-block-lts.Need-returns-2 (refused-reads.Asked, refused-reads.Learnt, word-at-reads.Asked, word-at-reads.Learnt, read-statement-below t, read-statement.Post) (read-block-at t) read-block.Post read-block-Inv-loop read-block-μ-loop
-read-block-returns-2 t c = ((λ d S h. said-refused _ _ _ (c .refused2 .ensures) (block-deep _ _ _ _ _ (omega arith) _ (c .before .if2 .taken))), between-refused _ _ _ _ (c .refused2 .ensures))
+read-block-returns-2 : Block-need read-block-lts.Need-returns-2
+read-block-returns-2 t c =
+    let r = c .refused2 .ensures in
+    ((λ d S h. said-refused _ _ _ r (block-deep _ _ _ _ _ (omega arith) _ (c .before .if2 .taken))), between-refused _ _ _ _ r)
 
-read-block-word-at-requires : (t : ℕ) → read-block-lts.Need-word-at-requires (refused-reads.Asked, refused-reads.Learnt, word-at-reads.Asked, word-at-reads.Learnt, read-statement-below t, read-statement.Post) (read-block-at t) read-block.Post read-block-Inv-loop read-block-μ-loop
+read-block-word-at-requires : Block-need read-block-lts.Need-word-at-requires
 read-block-word-at-requires t c κs = search needs
 
-read-block-add-first : (t : ℕ) → read-block-lts.Need-add-first (refused-reads.Asked, refused-reads.Learnt, word-at-reads.Asked, word-at-reads.Learnt, read-statement-below t, read-statement.Post) (read-block-at t) read-block.Post read-block-Inv-loop read-block-μ-loop
+read-block-add-first : Block-need read-block-lts.Need-add-first
 read-block-add-first t c = search needs
 
-read-block-sub-if3 : (t : ℕ) → read-block-lts.Need-sub-if3 (refused-reads.Asked, refused-reads.Learnt, word-at-reads.Asked, word-at-reads.Learnt, read-statement-below t, read-statement.Post) (read-block-at t) read-block.Post read-block-Inv-loop read-block-μ-loop
+read-block-sub-if3 : Block-need read-block-lts.Need-sub-if3
 read-block-sub-if3 t c = search needs
 
-read-block-refused-requires-3 : (t : ℕ) → read-block-lts.Need-refused-requires-3 (refused-reads.Asked, refused-reads.Learnt, word-at-reads.Asked, word-at-reads.Learnt, read-statement-below t, read-statement.Post) (read-block-at t) read-block.Post read-block-Inv-loop read-block-μ-loop
+read-block-refused-requires-3 : Block-need read-block-lts.Need-refused-requires-3
 read-block-refused-requires-3 t c κs = search needs
 
-read-block-returns-3 : (t : ℕ) → read-block-lts.Need-returns-3 (refused-reads.Asked, refused-reads.Learnt, word-at-reads.Asked, word-at-reads.Learnt, read-statement-below t, read-statement.Post) (read-block-at t) read-block.Post read-block-Inv-loop read-block-μ-loop
-read-block-returns-3 t c = (
-  (λ d S h. said-refused _ _ _ (c .refused3 .ensures) (block-long _ _ _ _ _ (omega arith) _ (c .before .before .word-at .ensures .0) _ (c .before .before .before .if2 .left) (omega arith))),
-  between-refused _ _ _ _ (c .refused3 .ensures),
-)
+read-block-returns-3 : Block-need read-block-lts.Need-returns-3
+read-block-returns-3 t c =
+    let r = c .refused3 .ensures in
+    let b = c .before .before in
+    let len = b .word-at .ensures .0 in (
+      (λ d S h. said-refused _ _ _ r (block-long _ _ _ _ _ (omega arith) _ len _ (b .before .if2 .left) (omega arith))),
+      between-refused _ _ _ _ r,
+    )
 
-read-block-add-end : (t : ℕ) → read-block-lts.Need-add-end (refused-reads.Asked, refused-reads.Learnt, word-at-reads.Asked, word-at-reads.Learnt, read-statement-below t, read-statement.Post) (read-block-at t) read-block.Post read-block-Inv-loop read-block-μ-loop
+read-block-add-end : Block-need read-block-lts.Need-add-end
 read-block-add-end t c = search needs
 
-read-block-loop-holds : (t : ℕ) → read-block-lts.Need-loop-holds (refused-reads.Asked, refused-reads.Learnt, word-at-reads.Asked, word-at-reads.Learnt, read-statement-below t, read-statement.Post) (read-block-at t) read-block.Post read-block-Inv-loop read-block-μ-loop
+read-block-loop-holds : Block-need read-block-lts.Need-loop-holds
 read-block-loop-holds t c =
-    (search needs, search needs, (c .before .word-at .result, omega arith, λ d S h. block-enter _ _ _ _ _ (omega arith) _ (c .before .word-at .ensures .0) _ (c .before .before .if2 .left) (omega arith)))
+    let b = c .before in
+    let len = b .word-at .ensures .0 in (
+      search needs,
+      search needs,
+      (b .word-at .result, omega arith, λ d S h. block-enter _ _ _ _ _ (omega arith) _ len _ (b .before .if2 .left) (omega arith)),
+    )
 
-read-block-sub-read-statement : (t : ℕ) → read-block-lts.Need-sub-read-statement (refused-reads.Asked, refused-reads.Learnt, word-at-reads.Asked, word-at-reads.Learnt, read-statement-below t, read-statement.Post) (read-block-at t) read-block.Post read-block-Inv-loop read-block-μ-loop
+read-block-sub-read-statement : Block-need read-block-lts.Need-sub-read-statement
 read-block-sub-read-statement t c = search needs
 
-read-block-read-statement-requires : (t : ℕ) → read-block-lts.Need-read-statement-requires (refused-reads.Asked, refused-reads.Learnt, word-at-reads.Asked, word-at-reads.Learnt, read-statement-below t, read-statement.Post) (read-block-at t) read-block.Post read-block-Inv-loop read-block-μ-loop
+read-block-read-statement-requires : Block-need read-block-lts.Need-read-statement-requires
 read-block-read-statement-requires t c κs = search needs
 
-read-block-enum-known-q : (t : ℕ) → read-block-lts.Need-enum-known-q (refused-reads.Asked, refused-reads.Learnt, word-at-reads.Asked, word-at-reads.Learnt, read-statement-below t, read-statement.Post) (read-block-at t) read-block.Post read-block-Inv-loop read-block-μ-loop
+read-block-enum-known-q : Block-need read-block-lts.Need-enum-known-q
 read-block-enum-known-q t c = search needs
 
-read-block-loop-less : (t : ℕ) → read-block-lts.Need-loop-less (refused-reads.Asked, refused-reads.Learnt, word-at-reads.Asked, word-at-reads.Learnt, read-statement-below t, read-statement.Post) (read-block-at t) read-block.Post read-block-Inv-loop read-block-μ-loop
+read-block-loop-less : Block-need read-block-lts.Need-loop-less
 read-block-loop-less t c = let w = between-past _ _ _ _ (c .before .q .given .1) (c .before .before .before .read-statement .ensures .1) in omega arith
 
-read-block-loop-again : (t : ℕ) → read-block-lts.Need-loop-again (refused-reads.Asked, refused-reads.Learnt, word-at-reads.Asked, word-at-reads.Learnt, read-statement-below t, read-statement.Post) (read-block-at t) read-block.Post read-block-Inv-loop read-block-μ-loop
+read-block-loop-again : Block-need read-block-lts.Need-loop-again
 read-block-loop-again t c =
     let w = between-past _ _ _ _ (c .before .q .given .1) (c .before .before .before .read-statement .ensures .1) in
     let l = c .before .before .before .before .before .loop .inv in (
@@ -142,10 +195,10 @@ read-block-loop-again t c =
       ),
     )
 
-read-block-enum-known-x : (t : ℕ) → read-block-lts.Need-enum-known-x (refused-reads.Asked, refused-reads.Learnt, word-at-reads.Asked, word-at-reads.Learnt, read-statement-below t, read-statement.Post) (read-block-at t) read-block.Post read-block-Inv-loop read-block-μ-loop
+read-block-enum-known-x : Block-need read-block-lts.Need-enum-known-x
 read-block-enum-known-x t c = search needs
 
-read-block-returns-4 : (t : ℕ) → read-block-lts.Need-returns-4 (refused-reads.Asked, refused-reads.Learnt, word-at-reads.Asked, word-at-reads.Learnt, read-statement-below t, read-statement.Post) (read-block-at t) read-block.Post read-block-Inv-loop read-block-μ-loop
+read-block-returns-4 : Block-need read-block-lts.Need-returns-4
 read-block-returns-4 t c =
     let l = c .before .before .before .before .before .loop .inv in (
       (λ d S h. sym (l .2 .2 d S h ∙ rest-refused _ _ _ _ _ _ _ (c .before .before .before .before .loop-test .taken) (l .2 .1) _
@@ -153,168 +206,180 @@ read-block-returns-4 t c =
       between-none _ _ _,
     )
 
-read-block-returns-5 : (t : ℕ) → read-block-lts.Need-returns-5 (refused-reads.Asked, refused-reads.Learnt, word-at-reads.Asked, word-at-reads.Learnt, read-statement-below t, read-statement.Post) (read-block-at t) read-block.Post read-block-Inv-loop read-block-μ-loop
+read-block-returns-5 : Block-need read-block-lts.Need-returns-5
 read-block-returns-5 t c =
     let l = c .before .loop .inv in
     ((λ d S h. sym (l .2 .2 d S h ∙ rest-end _ _ _ _ _ _ _ (l .1) (c .loop-test .left))), between-at _ _ _ (omega arith) (omega arith))
 
-read-if-fixed-part-requires : (t : ℕ) → read-if-lts.Need-fixed-part-requires (fixed-part-reads.Asked, fixed-part-reads.Learnt, read-block-below t, read-block.Post) (read-if-at t) read-if.Post
+read-if-fixed-part-requires : If-need read-if-lts.Need-fixed-part-requires
 read-if-fixed-part-requires t c κs = search needs
 
-read-if-enum-known-p : (t : ℕ) → read-if-lts.Need-enum-known-p (fixed-part-reads.Asked, fixed-part-reads.Learnt, read-block-below t, read-block.Post) (read-if-at t) read-if.Post
+read-if-enum-known-p : If-need read-if-lts.Need-enum-known-p
 read-if-enum-known-p t c = search needs
 
-read-if-read-block-requires : (t : ℕ) → read-if-lts.Need-read-block-requires (fixed-part-reads.Asked, fixed-part-reads.Learnt, read-block-below t, read-block.Post) (read-if-at t) read-if.Post
-read-if-read-block-requires t c κs = let w = fixed-past _ _ _ _ (c .before .before .before .fixed-part .ensures .1) _ (omega arith) (omega arith) (c .before .p .given .1) in omega arith
+read-if-read-block-requires : If-need read-if-lts.Need-read-block-requires
+read-if-read-block-requires t c κs =
+    let b = c .before in
+    let w = fixed-past _ _ _ _ (b .before .before .fixed-part .ensures .1) _ (omega arith) (omega arith) (b .p .given .1) in omega arith
 
-read-if-enum-known-q : (t : ℕ) → read-if-lts.Need-enum-known-q (fixed-part-reads.Asked, fixed-part-reads.Learnt, read-block-below t, read-block.Post) (read-if-at t) read-if.Post
+read-if-enum-known-q : If-need read-if-lts.Need-enum-known-q
 read-if-enum-known-q t c = search needs
 
-read-if-read-block-requires-2 : (t : ℕ) → read-if-lts.Need-read-block-requires-2 (fixed-part-reads.Asked, fixed-part-reads.Learnt, read-block-below t, read-block.Post) (read-if-at t) read-if.Post
+read-if-read-block-requires-2 : If-need read-if-lts.Need-read-block-requires-2
 read-if-read-block-requires-2 t c κs =
-    let w = fixed-past _ _ _ _ (c .before .before .before .before .before .before .before .fixed-part .ensures .1) _ (omega arith) (omega arith) (c .before .before .before .before .before .p .given .1) in
+    let b = c .before .before .before .before .before in
+    let w = fixed-past _ _ _ _ (b .before .before .fixed-part .ensures .1) _ (omega arith) (omega arith) (b .p .given .1) in
     let v = between-past _ _ _ _ (c .before .q .given .1) (c .before .before .before .read-block .ensures .1) in omega arith
 
-read-if-enum-known-x : (t : ℕ) → read-if-lts.Need-enum-known-x (fixed-part-reads.Asked, fixed-part-reads.Learnt, read-block-below t, read-block.Post) (read-if-at t) read-if.Post
+read-if-enum-known-x : If-need read-if-lts.Need-enum-known-x
 read-if-enum-known-x t c = search needs
 
-read-if-enum-known-x-2 : (t : ℕ) → read-if-lts.Need-enum-known-x-2 (fixed-part-reads.Asked, fixed-part-reads.Learnt, read-block-below t, read-block.Post) (read-if-at t) read-if.Post
+read-if-enum-known-x-2 : If-need read-if-lts.Need-enum-known-x-2
 read-if-enum-known-x-2 t c = search needs
 
-read-if-returns : (t : ℕ) → read-if-lts.Need-returns (fixed-part-reads.Asked, fixed-part-reads.Learnt, read-block-below t, read-block.Post) (read-if-at t) read-if.Post
+read-if-returns : If-need read-if-lts.Need-returns
 read-if-returns t c =
-    let b = c .before .before .before .before .before .before .before .before in
-    let w = fixed-past _ _ _ _ (b .fixed-part .ensures .1) _ (omega arith) (omega arith) (c .before .before .before .before .before .before .p .given .1) in
-    let v = between-past _ _ _ _ (c .before .before .q .given .1) (c .before .before .before .before .read-block .ensures .1) in (
-      (λ d S h. c .read-block2 .ensures .0 d S h ∙ sym (st-if _ _ _ _ _ _ _ _ (b .before .before .pre .1 .2) (said-at _ _ _ (c .before .before .before .before .before .before .p .given .1) (b .fixed-part .ensures .0 S h))
-          (said-at _ _ _ (c .before .before .q .given .1) (c .before .before .before .before .read-block .ensures .0 d S h)))),
+    let then = c .before .before in
+    let fixed = then .before .before .before .before in
+    let b = fixed .before .before in
+    let w = fixed-past _ _ _ _ (b .fixed-part .ensures .1) _ (omega arith) (omega arith) (fixed .p .given .1) in
+    let v = between-past _ _ _ _ (then .q .given .1) (then .before .before .read-block .ensures .1) in (
+      (λ d S h. c .read-block2 .ensures .0 d S h ∙ sym (st-if _ _ _ _ _ _ _ _ (b .before .before .pre .1 .2)
+          (said-at _ _ _ (fixed .p .given .1) (b .fixed-part .ensures .0 S h))
+          (said-at _ _ _ (then .q .given .1) (then .before .before .read-block .ensures .0 d S h)))),
       between-wider _ _ _ _ _ (omega arith) (omega arith) (c .read-block2 .ensures .1),
     )
 
-read-if-returns-2 : (t : ℕ) → read-if-lts.Need-returns-2 (fixed-part-reads.Asked, fixed-part-reads.Learnt, read-block-below t, read-block.Post) (read-if-at t) read-if.Post
+read-if-returns-2 : If-need read-if-lts.Need-returns-2
 read-if-returns-2 t c =
-    let b = c .before .before .before .before .before .before .before in (
-      (λ d S h. sym (st-if-refused _ _ _ _ _ _ _ _ (b .before .before .pre .1 .2) (said-at _ _ _ (c .before .before .before .before .before .p .given .1) (b .fixed-part .ensures .0 S h))
+    let fixed = c .before .before .before .before .before in
+    let b = fixed .before .before in (
+      (λ d S h. sym (st-if-refused _ _ _ _ _ _ _ _ (b .before .before .pre .1 .2)
+          (said-at _ _ _ (fixed .p .given .1) (b .fixed-part .ensures .0 S h))
           (said-no _ _ _ (c .before .x .given .1) (c .before .before .before .read-block .ensures .0 d S h)))),
       between-none _ _ _,
     )
 
-read-if-returns-3 : (t : ℕ) → read-if-lts.Need-returns-3 (fixed-part-reads.Asked, fixed-part-reads.Learnt, read-block-below t, read-block.Post) (read-if-at t) read-if.Post
+read-if-returns-3 : If-need read-if-lts.Need-returns-3
 read-if-returns-3 t c =
-    ((λ d S h. sym (st-refused _ _ _ _ _ _ _ (omega arith) (omega arith) (said-no _ _ _ (c .before .x2 .given .1) (c .before .before .before .fixed-part .ensures .0 S h)))), between-none _ _ _)
+    let b = c .before .before .before in (
+      (λ d S h. sym (st-refused _ _ _ _ _ _ _ (omega arith) (omega arith)
+          (said-no _ _ _ (c .before .x2 .given .1) (b .fixed-part .ensures .0 S h)))),
+      between-none _ _ _,
+    )
 
-read-statement-shared-slice-read-statement :
-    (t : ℕ) → read-statement-lts.Need-shared-slice-read-statement (
-      refused-reads.Asked,
-      refused-reads.Learnt,
-      read-if-below t,
-      read-if.Post,
-      fixed-part-reads.Asked,
-      fixed-part-reads.Learnt,
-      read-block-below t,
-      read-block.Post,
-      call-list-reads.Asked,
-      call-list-reads.Learnt,
-    ) (read-statement-at t) read-statement.Post
+read-statement-shared-slice-read-statement : Statement-need read-statement-lts.Need-shared-slice-read-statement
 read-statement-shared-slice-read-statement t c = search needs
 
-read-statement-refused-requires : (t : ℕ) → read-statement-lts.Need-refused-requires (refused-reads.Asked, refused-reads.Learnt, read-if-below t, read-if.Post, fixed-part-reads.Asked, fixed-part-reads.Learnt, read-block-below t, read-block.Post, call-list-reads.Asked, call-list-reads.Learnt) (read-statement-at t) read-statement.Post
+read-statement-refused-requires : Statement-need read-statement-lts.Need-refused-requires
 read-statement-refused-requires t c κs = search needs
 
-read-statement-read-if-requires : (t : ℕ) → read-statement-lts.Need-read-if-requires (refused-reads.Asked, refused-reads.Learnt, read-if-below t, read-if.Post, fixed-part-reads.Asked, fixed-part-reads.Learnt, read-block-below t, read-block.Post, call-list-reads.Asked, call-list-reads.Learnt) (read-statement-at t) read-statement.Post
+read-statement-read-if-requires : Statement-need read-statement-lts.Need-read-if-requires
 read-statement-read-if-requires t c κs = search needs
 
-read-statement-fixed-part-requires : (t : ℕ) → read-statement-lts.Need-fixed-part-requires (refused-reads.Asked, refused-reads.Learnt, read-if-below t, read-if.Post, fixed-part-reads.Asked, fixed-part-reads.Learnt, read-block-below t, read-block.Post, call-list-reads.Asked, call-list-reads.Learnt) (read-statement-at t) read-statement.Post
+read-statement-fixed-part-requires : Statement-need read-statement-lts.Need-fixed-part-requires
 read-statement-fixed-part-requires t c κs = search needs
 
-read-statement-enum-known-p : (t : ℕ) → read-statement-lts.Need-enum-known-p (refused-reads.Asked, refused-reads.Learnt, read-if-below t, read-if.Post, fixed-part-reads.Asked, fixed-part-reads.Learnt, read-block-below t, read-block.Post, call-list-reads.Asked, call-list-reads.Learnt) (read-statement-at t) read-statement.Post
+read-statement-enum-known-p : Statement-need read-statement-lts.Need-enum-known-p
 read-statement-enum-known-p t c = search needs
 
-read-statement-read-block-requires : (t : ℕ) → read-statement-lts.Need-read-block-requires (refused-reads.Asked, refused-reads.Learnt, read-if-below t, read-if.Post, fixed-part-reads.Asked, fixed-part-reads.Learnt, read-block-below t, read-block.Post, call-list-reads.Asked, call-list-reads.Learnt) (read-statement-at t) read-statement.Post
-read-statement-read-block-requires t c κs = let w = fixed-past _ _ _ _ (c .before .before .before .fixed-part .ensures .1) _ (omega arith) (omega arith) (c .before .p .given .1) in omega arith
+read-statement-read-block-requires : Statement-need read-statement-lts.Need-read-block-requires
+read-statement-read-block-requires t c κs =
+    let b = c .before in
+    let w = fixed-past _ _ _ _ (b .before .before .fixed-part .ensures .1) _ (omega arith) (omega arith) (b .p .given .1) in omega arith
 
-read-statement-enum-known-x : (t : ℕ) → read-statement-lts.Need-enum-known-x (refused-reads.Asked, refused-reads.Learnt, read-if-below t, read-if.Post, fixed-part-reads.Asked, fixed-part-reads.Learnt, read-block-below t, read-block.Post, call-list-reads.Asked, call-list-reads.Learnt) (read-statement-at t) read-statement.Post
+read-statement-enum-known-x : Statement-need read-statement-lts.Need-enum-known-x
 read-statement-enum-known-x t c = search needs
 
-read-statement-fixed-part-requires-2 : (t : ℕ) → read-statement-lts.Need-fixed-part-requires-2 (refused-reads.Asked, refused-reads.Learnt, read-if-below t, read-if.Post, fixed-part-reads.Asked, fixed-part-reads.Learnt, read-block-below t, read-block.Post, call-list-reads.Asked, call-list-reads.Learnt) (read-statement-at t) read-statement.Post
+read-statement-fixed-part-requires-2 : Statement-need read-statement-lts.Need-fixed-part-requires-2
 read-statement-fixed-part-requires-2 t c κs = search needs
 
-read-statement-enum-told : (t : ℕ) → read-statement-lts.Need-enum-told (refused-reads.Asked, refused-reads.Learnt, read-if-below t, read-if.Post, fixed-part-reads.Asked, fixed-part-reads.Learnt, read-block-below t, read-block.Post, call-list-reads.Asked, call-list-reads.Learnt) (read-statement-at t) read-statement.Post
+read-statement-enum-told : Statement-need read-statement-lts.Need-enum-told
 read-statement-enum-told t c = search needs
 
-read-statement-call-list-requires : (t : ℕ) → read-statement-lts.Need-call-list-requires (refused-reads.Asked, refused-reads.Learnt, read-if-below t, read-if.Post, fixed-part-reads.Asked, fixed-part-reads.Learnt, read-block-below t, read-block.Post, call-list-reads.Asked, call-list-reads.Learnt) (read-statement-at t) read-statement.Post
+read-statement-call-list-requires : Statement-need read-statement-lts.Need-call-list-requires
 read-statement-call-list-requires t c κs =
     (call-fits _ _ _ _ (c .before .before .fixed-part2 .ensures .1) _ (c .before .before .before .match .keys4) (c .enum-told .given .1), search needs)
 
-read-statement-enum-known-x-2 : (t : ℕ) → read-statement-lts.Need-enum-known-x-2 (refused-reads.Asked, refused-reads.Learnt, read-if-below t, read-if.Post, fixed-part-reads.Asked, fixed-part-reads.Learnt, read-block-below t, read-block.Post, call-list-reads.Asked, call-list-reads.Learnt) (read-statement-at t) read-statement.Post
+read-statement-enum-known-x-2 : Statement-need read-statement-lts.Need-enum-known-x-2
 read-statement-enum-known-x-2 t c = search needs
 
-read-statement-fixed-part-requires-3 : (t : ℕ) → read-statement-lts.Need-fixed-part-requires-3 (refused-reads.Asked, refused-reads.Learnt, read-if-below t, read-if.Post, fixed-part-reads.Asked, fixed-part-reads.Learnt, read-block-below t, read-block.Post, call-list-reads.Asked, call-list-reads.Learnt) (read-statement-at t) read-statement.Post
+read-statement-fixed-part-requires-3 : Statement-need read-statement-lts.Need-fixed-part-requires-3
 read-statement-fixed-part-requires-3 t c κs = search needs
 
-read-statement-fixed-part-requires-4 : (t : ℕ) → read-statement-lts.Need-fixed-part-requires-4 (refused-reads.Asked, refused-reads.Learnt, read-if-below t, read-if.Post, fixed-part-reads.Asked, fixed-part-reads.Learnt, read-block-below t, read-block.Post, call-list-reads.Asked, call-list-reads.Learnt) (read-statement-at t) read-statement.Post
+read-statement-fixed-part-requires-4 : Statement-need read-statement-lts.Need-fixed-part-requires-4
 read-statement-fixed-part-requires-4 t c κs = search needs
 
-read-statement-fixed-part-requires-5 : (t : ℕ) → read-statement-lts.Need-fixed-part-requires-5 (refused-reads.Asked, refused-reads.Learnt, read-if-below t, read-if.Post, fixed-part-reads.Asked, fixed-part-reads.Learnt, read-block-below t, read-block.Post, call-list-reads.Asked, call-list-reads.Learnt) (read-statement-at t) read-statement.Post
+read-statement-fixed-part-requires-5 : Statement-need read-statement-lts.Need-fixed-part-requires-5
 read-statement-fixed-part-requires-5 t c κs = search needs
 
-read-statement-refused-requires-2 : (t : ℕ) → read-statement-lts.Need-refused-requires-2 (refused-reads.Asked, refused-reads.Learnt, read-if-below t, read-if.Post, fixed-part-reads.Asked, fixed-part-reads.Learnt, read-block-below t, read-block.Post, call-list-reads.Asked, call-list-reads.Learnt) (read-statement-at t) read-statement.Post
+read-statement-refused-requires-2 : Statement-need read-statement-lts.Need-refused-requires-2
 read-statement-refused-requires-2 t c κs = search needs
 
-read-statement-returns : (t : ℕ) → read-statement-lts.Need-returns (refused-reads.Asked, refused-reads.Learnt, read-if-below t, read-if.Post, fixed-part-reads.Asked, fixed-part-reads.Learnt, read-block-below t, read-block.Post, call-list-reads.Asked, call-list-reads.Learnt) (read-statement-at t) read-statement.Post
-read-statement-returns t c = ((λ d S h. said-refused _ _ _ (c .refused .ensures) (st-zero _ _ _ _ _ _ (c .before .match .keys1))), between-refused _ _ _ _ (c .refused .ensures))
+read-statement-returns : Statement-need read-statement-lts.Need-returns
+read-statement-returns t c =
+    let r = c .refused .ensures in
+    ((λ d S h. said-refused _ _ _ r (st-zero _ _ _ _ _ _ (c .before .match .keys1))), between-refused _ _ _ _ r)
 
-read-statement-returns-2 : (t : ℕ) → read-statement-lts.Need-returns-2 (refused-reads.Asked, refused-reads.Learnt, read-if-below t, read-if.Post, fixed-part-reads.Asked, fixed-part-reads.Learnt, read-block-below t, read-block.Post, call-list-reads.Asked, call-list-reads.Learnt) (read-statement-at t) read-statement.Post
+read-statement-returns-2 : Statement-need read-statement-lts.Need-returns-2
 read-statement-returns-2 t c = search needs
 
-read-statement-returns-3 : (t : ℕ) → read-statement-lts.Need-returns-3 (refused-reads.Asked, refused-reads.Learnt, read-if-below t, read-if.Post, fixed-part-reads.Asked, fixed-part-reads.Learnt, read-block-below t, read-block.Post, call-list-reads.Asked, call-list-reads.Learnt) (read-statement-at t) read-statement.Post
+read-statement-returns-3 : Statement-need read-statement-lts.Need-returns-3
 read-statement-returns-3 t c =
     let b = c .before .before .before .before in
     let w = fixed-past _ _ _ _ (b .fixed-part .ensures .1) _ (omega arith) (omega arith) (c .before .before .p .given .1) in (
-      (λ d S h. c .read-block .ensures .0 d S h ∙ sym (st-while _ _ _ _ _ _ _ (b .before .match .keys3) (said-at _ _ _ (c .before .before .p .given .1) (b .fixed-part .ensures .0 S h)))),
+      (λ d S h. c .read-block .ensures .0 d S h ∙ sym (st-while _ _ _ _ _ _ _ (b .before .match .keys3)
+          (said-at _ _ _ (c .before .before .p .given .1) (b .fixed-part .ensures .0 S h)))),
       between-wider _ _ _ _ _ (omega arith) (omega arith) (c .read-block .ensures .1),
     )
 
-read-statement-returns-4 : (t : ℕ) → read-statement-lts.Need-returns-4 (refused-reads.Asked, refused-reads.Learnt, read-if-below t, read-if.Post, fixed-part-reads.Asked, fixed-part-reads.Learnt, read-block-below t, read-block.Post, call-list-reads.Asked, call-list-reads.Learnt) (read-statement-at t) read-statement.Post
+read-statement-returns-4 : Statement-need read-statement-lts.Need-returns-4
 read-statement-returns-4 t c =
-    ((λ d S h. sym (st-refused _ _ _ _ _ _ _ (omega arith) (omega arith) (said-no _ _ _ (c .before .x .given .1) (c .before .before .before .fixed-part .ensures .0 S h)))), between-none _ _ _)
+    let b = c .before .before .before in (
+      (λ d S h. sym (st-refused _ _ _ _ _ _ _ (omega arith) (omega arith)
+          (said-no _ _ _ (c .before .x .given .1) (b .fixed-part .ensures .0 S h)))),
+      between-none _ _ _,
+    )
 
-read-statement-returns-5 : (t : ℕ) → read-statement-lts.Need-returns-5 (refused-reads.Asked, refused-reads.Learnt, read-if-below t, read-if.Post, fixed-part-reads.Asked, fixed-part-reads.Learnt, read-block-below t, read-block.Post, call-list-reads.Asked, call-list-reads.Learnt) (read-statement-at t) read-statement.Post
+read-statement-returns-5 : Statement-need read-statement-lts.Need-returns-5
 read-statement-returns-5 t c =
     let b = c .before .before .before in (
-      (λ d S h. c .call-list .ensures .0 ∙ sym (st-call _ _ _ _ _ _ _ _ (b .before .match .keys4) (said-at _ _ _ (c .before .enum-told .given .1) (b .fixed-part2 .ensures .0 S h)) (h .places-are))),
+      (λ d S h. c .call-list .ensures .0 ∙ sym (st-call _ _ _ _ _ _ _ _ (b .before .match .keys4)
+          (said-at _ _ _ (c .before .enum-told .given .1) (b .fixed-part2 .ensures .0 S h)) (h .places-are))),
       c .call-list .ensures .1,
     )
 
-read-statement-returns-6 : (t : ℕ) → read-statement-lts.Need-returns-6 (refused-reads.Asked, refused-reads.Learnt, read-if-below t, read-if.Post, fixed-part-reads.Asked, fixed-part-reads.Learnt, read-block-below t, read-block.Post, call-list-reads.Asked, call-list-reads.Learnt) (read-statement-at t) read-statement.Post
+read-statement-returns-6 : Statement-need read-statement-lts.Need-returns-6
 read-statement-returns-6 t c =
-    ((λ d S h. sym (st-refused _ _ _ _ _ _ _ (omega arith) (omega arith) (said-no _ _ _ (c .before .x2 .given .1) (c .before .before .before .fixed-part2 .ensures .0 S h)))), between-none _ _ _)
+    let b = c .before .before .before in (
+      (λ d S h. sym (st-refused _ _ _ _ _ _ _ (omega arith) (omega arith)
+          (said-no _ _ _ (c .before .x2 .given .1) (b .fixed-part2 .ensures .0 S h)))),
+      between-none _ _ _,
+    )
 
-read-statement-returns-7 : (t : ℕ) → read-statement-lts.Need-returns-7 (refused-reads.Asked, refused-reads.Learnt, read-if-below t, read-if.Post, fixed-part-reads.Asked, fixed-part-reads.Learnt, read-block-below t, read-block.Post, call-list-reads.Asked, call-list-reads.Learnt) (read-statement-at t) read-statement.Post
+read-statement-returns-7 : Statement-need read-statement-lts.Need-returns-7
 read-statement-returns-7 t c =
-    ((λ d S h. c .fixed-part3 .ensures .0 S h ∙ sym (st-bool _ _ _ _ _ _ (c .before .match .keys5))), fixed-between _ _ _ _ (c .fixed-part3 .ensures .1) (omega arith) (omega arith))
+    let f = c .fixed-part3 .ensures in
+    ((λ d S h. f .0 S h ∙ sym (st-bool _ _ _ _ _ _ (c .before .match .keys5))), fixed-between _ _ _ _ (f .1) (omega arith) (omega arith))
 
-read-statement-returns-8 : (t : ℕ) → read-statement-lts.Need-returns-8 (refused-reads.Asked, refused-reads.Learnt, read-if-below t, read-if.Post, fixed-part-reads.Asked, fixed-part-reads.Learnt, read-block-below t, read-block.Post, call-list-reads.Asked, call-list-reads.Learnt) (read-statement-at t) read-statement.Post
+read-statement-returns-8 : Statement-need read-statement-lts.Need-returns-8
 read-statement-returns-8 t c =
-    ((λ d S h. c .fixed-part4 .ensures .0 S h ∙ sym (st-simple _ _ _ _ _ _ (omega arith) (omega arith))), fixed-between _ _ _ _ (c .fixed-part4 .ensures .1) (omega arith) (omega arith))
+    let f = c .fixed-part4 .ensures in
+    ((λ d S h. f .0 S h ∙ sym (st-simple _ _ _ _ _ _ (omega arith) (omega arith))), fixed-between _ _ _ _ (f .1) (omega arith) (omega arith))
 
-read-statement-returns-9 : (t : ℕ) → read-statement-lts.Need-returns-9 (refused-reads.Asked, refused-reads.Learnt, read-if-below t, read-if.Post, fixed-part-reads.Asked, fixed-part-reads.Learnt, read-block-below t, read-block.Post, call-list-reads.Asked, call-list-reads.Learnt) (read-statement-at t) read-statement.Post
+read-statement-returns-9 : Statement-need read-statement-lts.Need-returns-9
 read-statement-returns-9 t c =
-    ((λ d S h. c .fixed-part5 .ensures .0 S h ∙ sym (st-simple _ _ _ _ _ _ (omega arith) (omega arith))), fixed-between _ _ _ _ (c .fixed-part5 .ensures .1) (omega arith) (omega arith))
+    let f = c .fixed-part5 .ensures in
+    ((λ d S h. f .0 S h ∙ sym (st-simple _ _ _ _ _ _ (omega arith) (omega arith))), fixed-between _ _ _ _ (f .1) (omega arith) (omega arith))
 
-read-statement-returns-10 : (t : ℕ) → read-statement-lts.Need-returns-10 (refused-reads.Asked, refused-reads.Learnt, read-if-below t, read-if.Post, fixed-part-reads.Asked, fixed-part-reads.Learnt, read-block-below t, read-block.Post, call-list-reads.Asked, call-list-reads.Learnt) (read-statement-at t) read-statement.Post
-read-statement-returns-10 t c = ((λ d S h. said-refused _ _ _ (c .refused2 .ensures) (st-high _ _ _ _ _ _ (omega arith))), between-refused _ _ _ _ (c .refused2 .ensures))
+read-statement-returns-10 : Statement-need read-statement-lts.Need-returns-10
+read-statement-returns-10 t c =
+    let r = c .refused2 .ensures in
+    ((λ d S h. said-refused _ _ _ r (st-high _ _ _ _ _ _ (omega arith))), between-refused _ _ _ _ r)
 
 pub +read-block+read-if+read-statement-spec : {M : Type 1} → statement M
 +read-block+read-if+read-statement-spec =
-    close μ-read-block μ-read-if μ-read-statement (λ t. read-block-lts.spec (
-      refused-reads.Asked,
-      refused-reads.Learnt,
-      word-at-reads.Asked,
-      word-at-reads.Learnt,
-      read-statement-below t,
-      read-statement.Post,
-    )
+    close μ-read-block μ-read-if μ-read-statement (λ t. read-block-lts.spec (read-block-claims t)
     (read-block-at t)
     read-block.Post
     read-block-Inv-loop
@@ -339,12 +404,7 @@ pub +read-block+read-if+read-statement-spec : {M : Type 1} → statement M
     (read-block-enum-known-x t)
     (read-block-returns-4 t)
     (read-block-returns-5 t))
-    (λ t. read-if-lts.spec (
-      fixed-part-reads.Asked,
-      fixed-part-reads.Learnt,
-      read-block-below t,
-      read-block.Post,
-    )
+    (λ t. read-if-lts.spec (read-if-claims t)
     (read-if-at t)
     read-if.Post
     (read-if-fixed-part-requires t)
@@ -357,18 +417,7 @@ pub +read-block+read-if+read-statement-spec : {M : Type 1} → statement M
     (read-if-returns t)
     (read-if-returns-2 t)
     (read-if-returns-3 t))
-    λ t. read-statement-lts.spec (
-      refused-reads.Asked,
-      refused-reads.Learnt,
-      read-if-below t,
-      read-if.Post,
-      fixed-part-reads.Asked,
-      fixed-part-reads.Learnt,
-      read-block-below t,
-      read-block.Post,
-      call-list-reads.Asked,
-      call-list-reads.Learnt,
-    )
+    λ t. read-statement-lts.spec (read-statement-claims t)
     (read-statement-at t)
     read-statement.Post
     (read-statement-shared-slice-read-statement t)

@@ -38,7 +38,8 @@ module _ (s : List ℕ) (d : Side) (S : Scope) (i limit : ℕ) where
           let z : leb (i + 2 + word s i) limit ≡ false = lt-leb (i + 2 + word s i) limit (omega arith) in
           rw (le-leb (i + 2) limit h, z)
 
-      pub block-enter : (depths : ℕ) → (depths ≡ 0 → ⊥) → i + 2 + len ≤ limit → blockPast s d S depths i limit ≡ restPast s d S (depths - 1) len (i + 2) (i + 2 + len)
+      pub block-enter : (depths : ℕ) → (depths ≡ 0 → ⊥) → i + 2 + len ≤ limit
+          → blockPast s d S depths i limit ≡ restPast s d S (depths - 1) len (i + 2) (i + 2 + len)
       unfolding blockPast restPast nextOf _>>=_ _>>_
       block-enter zero n l = absurd (n refl)
       block-enter (suc depths) n l =
@@ -46,7 +47,8 @@ module _ (s : List ℕ) (d : Side) (S : Scope) (i limit : ℕ) where
           let m : suc depths - 1 ≡ depths = omega arith in
           rw (le-leb (i + 2) limit h, z, m, el) (go (statements s d S (readBlock s d S depths) (word s i) (i + 2) (i + 2 + word s i)))
         where
-          go : (m : Check (Statements d)) → nextOf {A = Block d} (m >>= λ b. ok (record { it = block i b; next = i + 2 + word s i })) ≡ (m >> ok (i + 2 + word s i))
+          go : (m : Check (Statements d))
+              → nextOf {A = Block d} (m >>= λ b. ok (record { it = block i b; next = i + 2 + word s i })) ≡ (m >> ok (i + 2 + word s i))
           go (ok b) = refl
           go (refused x) = refl
 

@@ -113,7 +113,8 @@ module _ (s : List ℕ) (i : ℕ) (fs : List Function) where
   unfolding _>>_
   main-made t h q e l = let m = main-read q e in go (m .main) (m .at) (m .reads ∙ rw (eq-eqb q (length s) l))
     where
-      go : (b : Block device) → offsetOf b ≡ i → mainAt s i fs ≡ ok (record { functions = fs; main = b }) → ReadAs (mainAt s i fs) (record { answer = Readable; functions = t; main = i })
+      go : (b : Block device) → offsetOf b ≡ i → mainAt s i fs ≡ ok (record { functions = fs; main = b })
+          → ReadAs (mainAt s i fs) (record { answer = Readable; functions = t; main = i })
       go b o f = record { answers = rw f; tables = λ p g. tabled p (sym g ∙ f) }
         where
           tabled : (p : Program) → ok p ≡ ok (record { functions = fs; main = b }) → Tabled p t i
@@ -125,7 +126,8 @@ module _ (s : List ℕ) (n : ℕ) (f : Functions) (h : FunctionsAs (functionsAt 
   unfolding bodyAt _>>=_
   body-refused x e = rw (next-refused (functionsAt s n 6 []) x (said-no (f .past) x _ e (h .answers)))
 
-  pub body-made : (p : ℕ) (r : ReadProgram) → f .past ≡ At p → ((fs : List Function) → Heads fs (f .table) → ReadAs (mainAt s p fs) r) → ReadAs (bodyAt s n) r
+  pub body-made : (p : ℕ) (r : ReadProgram) → f .past ≡ At p
+      → ((fs : List Function) → Heads fs (f .table) → ReadAs (mainAt s p fs) r) → ReadAs (bodyAt s n) r
   unfolding bodyAt _>>=_
   body-made p r e g = let (fs, ef, en) = next-ok (functionsAt s n 6 []) p (said-at (f .past) p _ e (h .answers)) in go fs ef en (h .tables fs ef)
     where
@@ -133,7 +135,8 @@ module _ (s : List ℕ) (n : ℕ) (f : Functions) (h : FunctionsAs (functionsAt 
       go fs ef en hs = rw (ef, en) (g (fs .it) hs)
 
 -- The file: its header, then its bodies.
-after-five : {A B : Type 0} (a b c d : Check (Unit {0})) (e : Check A) (f : A → Check B) → (a >> (b >> (c >> (d >> (e >>= f))))) ≡ ((a >> (b >> (c >> (d >> e)))) >>= f)
+after-five : {A B : Type 0} (a b c d : Check (Unit {0})) (e : Check A) (f : A → Check B)
+    → (a >> (b >> (c >> (d >> (e >>= f))))) ≡ ((a >> (b >> (c >> (d >> e)))) >>= f)
 unfolding _>>=_ _>>_
 after-five (ok u) (ok v) (ok w) (ok x) e f = refl
 after-five (ok u) (ok v) (ok w) (refused x) e f = refl
@@ -157,7 +160,10 @@ module _ (s : List ℕ) (a : ProgramHeaderAnswer) (ea : programHeaderSaid a ≡ 
 
   pub file-made : (h : ProgramHeader) (r : ReadProgram) → a ≡ Made h → ReadAs (bodyAt s (h .functions)) r → ReadAs (readProgram s) r
   unfolding _>>=_
-  file-made h r e b = let g : headOf s ≡ ok h = head-told h e in let q : readProgram s ≡ bodyAt s (h .functions) = by-head s ∙ rw g in subst (λ (m : Check Program). ReadAs m r) (sym q) b
+  file-made h r e b =
+      let g : headOf s ≡ ok h = head-told h e in
+      let q : readProgram s ≡ bodyAt s (h .functions) = by-head s ∙ rw g in
+      subst (λ (m : Check Program). ReadAs m r) (sym q) b
 
 -- The file's name.
 module _ (m : Check Program) (r : ReadProgram) (h : ReadAs m r) where

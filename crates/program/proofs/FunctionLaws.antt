@@ -33,7 +33,8 @@ module _ (s : List ℕ) (i : ℕ) (fs : List Function) where
   unfolding functionAt nextOf _>>=_ _>>_
   fn-short h = rw (lt-leb (i + 2) (length s) h)
 
-  module _ (h : i + 2 ≤ length s) (k m : ℕ) (ek : k ≡ byte s i) (em : m ≡ byte s (i + 1)) (r : FunctionHeaderAnswer) (er : functionHeaderSaid r ≡ functionHeader i k m) where
+  module _ (h : i + 2 ≤ length s) (k m : ℕ) (ek : k ≡ byte s i) (em : m ≡ byte s (i + 1))
+      (r : FunctionHeaderAnswer) (er : functionHeaderSaid r ≡ functionHeader i k m) where
     said : functionHeaderSaid r ≡ functionHeader i (byte s i) (byte s (i + 1))
     said = er ∙ ap (λ (a : ℕ). functionHeader i a m) ek ∙ ap (functionHeader i (byte s i)) em
 
@@ -41,9 +42,12 @@ module _ (s : List ℕ) (i : ℕ) (fs : List Function) where
     unfolding functionAt nextOf _>>=_ _>>_
     fn-head x e = rw (le-leb (i + 2) (length s) h, sym said ∙ ap functionHeaderSaid e)
 
-    pub fn-body : (a : FunctionHeader) → r ≡ Made a → nextOf (functionAt s i fs) ≡ blockPast s parameter (record { places = a .locations; earlier = fs }) 8 (i + 2) (length s)
+    pub fn-body : (a : FunctionHeader) → r ≡ Made a
+        → nextOf (functionAt s i fs) ≡ blockPast s parameter (record { places = a .locations; earlier = fs }) 8 (i + 2) (length s)
     unfolding functionAt blockPast _>>=_ _>>_
-    fn-body a e = rw (le-leb (i + 2) (length s) h, sym said ∙ ap functionHeaderSaid e) (next-map (readBlock s parameter (record { places = a .locations; earlier = fs }) 8 (i + 2) (length s)) _)
+    fn-body a e =
+        let body = readBlock s parameter (record { places = a .locations; earlier = fs }) 8 (i + 2) (length s) in
+        rw (le-leb (i + 2) (length s) h, sym said ∙ ap functionHeaderSaid e) (next-map body _)
 
 -- a block says where its length word stands
 pub block-offset : (s : List ℕ) (d : Side) (S : Scope) (depths i limit : ℕ) → Holds (λ b. offsetOf (b .it) ≡ i) (readBlock s d S depths i limit)
@@ -109,7 +113,8 @@ column F col n v fs f en l ev g old = go (ℕ-discrete g n)
     go (yes e) = rw e (getD-set-same col n v 0 l ∙ sym ev ∙ ap F (sym (getD-at fs f [] _ n (sym en))))
     go (no ne) = getD-set-other col n g v 0 ne ∙ old ne ∙ ap F (sym (other fs f g (λ e. ne (e ∙ sym en))))
 
-module _ (fs : List Function) (t : FunctionTable) (h : Heads fs t) (a : Full t) (u : FunctionTable) (k m body : ℕ) (eu : u ≡ oneMore t k m body) (l : length fs < 15) where
+module _ (fs : List Function) (t : FunctionTable) (h : Heads fs t) (a : Full t) (u : FunctionTable) (k m body : ℕ)
+    (eu : u ≡ oneMore t k m body) (l : length fs < 15) where
   more-heads : (f : Function) → f .k ≡ k → f .m ≡ m → offsetOf (f .body) ≡ body → Heads (fs ++ (f ∷ [])) (oneMore t k m body)
   more-heads f ek em eb =
       let n : length (fs ++ (f ∷ [])) ≡ length fs + 1 = length-append fs (f ∷ []) in
@@ -117,16 +122,20 @@ module _ (fs : List Function) (t : FunctionTable) (h : Heads fs t) (a : Full t) 
       record {
         count = omega arith;
         few = omega arith;
-        ks = λ g. column (λ x. x .k) (t .ks) (t .count) k fs f c (omega (arith, a .ks)) ek g (λ ne. h .ks g);
-        ms = λ g. column (λ x. x .m) (t .ms) (t .count) m fs f c (omega (arith, a .ms)) em g (λ ne. h .ms g);
-        bodies = λ g b. column (λ x. offsetOf (x .body)) (t .bodies) (t .count) body fs f c (omega (arith, a .bodies)) eb g (λ ne. h .bodies g (omega arith));
+        ks = λ g. column (λ x. x .k) (t .ks) (t .count) k fs f c (omega arith) ek g (λ ne. h .ks g);
+        ms = λ g. column (λ x. x .m) (t .ms) (t .count) m fs f c (omega arith) em g (λ ne. h .ms g);
+        bodies = λ g b. column (λ x. offsetOf (x .body)) (t .bodies) (t .count) body fs f c (omega arith) eb g (λ ne. h .bodies g (omega arith));
       }
 
   pub heads-more : (f : Function) → f .k ≡ k → f .m ≡ m → offsetOf (f .body) ≡ body → Heads (fs ++ (f ∷ [])) u
   heads-more f ek em eb = rw eu (more-heads f ek em eb)
 
   pub full-more : Full u
-  full-more = rw eu (record { ks = length-set (t .ks) (t .count) k ∙ a .ks; ms = length-set (t .ms) (t .count) m ∙ a .ms; bodies = length-set (t .bodies) (t .count) body ∙ a .bodies })
+  full-more = rw eu (record {
+    ks = length-set (t .ks) (t .count) k ∙ a .ks;
+    ms = length-set (t .ms) (t .count) m ∙ a .ms;
+    bodies = length-set (t .bodies) (t .count) body ∙ a .bodies;
+  })
 
 -- The functions left.
 
@@ -141,12 +150,14 @@ regroup {B = B} (ok u) (ok a) r f g = go (r a)
 regroup (ok u) (refused x) r f g = refl
 regroup (refused x) h r f g = refl
 
-first-of : (s : List ℕ) (n i : ℕ) (fs : List Function) → functionsAt s (suc n) i fs ≡ (functionAt s i fs >>= λ f. functionsAt s n (f .next) (fs ++ (f .it ∷ [])))
+first-of : (s : List ℕ) (n i : ℕ) (fs : List Function)
+    → functionsAt s (suc n) i fs ≡ (functionAt s i fs >>= λ f. functionsAt s n (f .next) (fs ++ (f .it ∷ [])))
 unfolding functionAt
 first-of s n i fs =
     regroup (need (leb (i + 2) (length s)) 8 i) (functionHeader i (byte s i) (byte s (i + 1)))
     (λ h. readBlock s parameter (record { places = h .locations; earlier = fs }) 8 (i + 2) (length s))
-    (λ h b. record { it = record { k = h .locations; m = h .arguments; body = b .it }; next = b .next }) (λ f. functionsAt s n (f .next) (fs ++ (f .it ∷ [])))
+    (λ h b. record { it = record { k = h .locations; m = h .arguments; body = b .it }; next = b .next })
+    (λ f. functionsAt s n (f .next) (fs ++ (f .it ∷ [])))
 
 -- what a loop over the functions keeps: so many are read, with these heads, and the functions left from the position on give what is asked
 pub record FunctionsLeft (s : List ℕ) (m : Check (Read (List Function))) (n p i : ℕ) (t : FunctionTable) : Type 0 where
@@ -157,7 +168,13 @@ pub record FunctionsLeft (s : List ℕ) (m : Check (Read (List Function))) (n p 
   pub same : m ≡ functionsAt s (n - i) p read
 
 pub left-start : (s : List ℕ) (n p : ℕ) (t : FunctionTable) → t ≡ noFunctions → FunctionsLeft s (functionsAt s n p []) n p 0 t
-left-start s n p t e = record { read = []; heads = heads-none t e; full = full-none t e; many = refl; same = ap (λ (c : ℕ). functionsAt s c p []) (sym (sub-zero n)) }
+left-start s n p t e = record {
+  read = [];
+  heads = heads-none t e;
+  full = full-none t e;
+  many = refl;
+  same = ap (λ (c : ℕ). functionsAt s c p []) (sym (sub-zero n));
+}
 
 module _ (s : List ℕ) (m : Check (Read (List Function))) (n p i : ℕ) (t : FunctionTable) (h : FunctionsLeft s m n p i t) where
   pub left-end : n ≤ i → FunctionsAs m (record { past = At p; table = t })
@@ -171,7 +188,9 @@ module _ (s : List ℕ) (m : Check (Read (List Function))) (n p i : ℕ) (t : Fu
       heads-of fs e = let w : fs ≡ record { it = h .read; next = p } = cc in rw w (h .heads)
 
   by-first : i < n → m ≡ (functionAt s p (h .read) >>= λ f. functionsAt s (n - (i + 1)) (f .next) (h .read ++ (f .it ∷ [])))
-  by-first l = let z : n - i ≡ suc (n - (i + 1)) = omega arith in h .same ∙ ap (λ (c : ℕ). functionsAt s c p (h .read)) z ∙ first-of s (n - (i + 1)) p (h .read)
+  by-first l =
+      let z : n - i ≡ suc (n - (i + 1)) = omega arith in
+      h .same ∙ ap (λ (c : ℕ). functionsAt s c p (h .read)) z ∙ first-of s (n - (i + 1)) p (h .read)
 
   pub left-refused : i < n → (x : Refusal) → nextOf (functionAt s p (h .read)) ≡ refused x → FunctionsAs m (record { past = Refused x; table = t })
   unfolding nextOf _>>=_
@@ -180,7 +199,8 @@ module _ (s : List ℕ) (m : Check (Read (List Function))) (n p i : ℕ) (t : Fu
       given : m ≡ refused x
       given = by-first l ∙ rw (next-refused (functionAt s p (h .read)) x e)
 
-  pub left-more : i < n → n ≤ 15 → (q : ℕ) (u : FunctionTable) → nextOf (functionAt s p (h .read)) ≡ ok q → u ≡ oneMore t (byte s p) (byte s (p + 1)) (p + 2) → FunctionsLeft s m n q (i + 1) u
+  pub left-more : i < n → n ≤ 15 → (q : ℕ) (u : FunctionTable) → nextOf (functionAt s p (h .read)) ≡ ok q
+      → u ≡ oneMore t (byte s p) (byte s (p + 1)) (p + 2) → FunctionsLeft s m n q (i + 1) u
   unfolding _>>=_
   left-more l few q u e eu = let (f, ef, en) = next-ok (functionAt s p (h .read)) q e in go f ef en (holds-at (fn-headed s p (h .read)) ef)
     where

@@ -16,12 +16,15 @@ use Rattle.rules.specs.declared.statements.Operand.the-variants.{Slot, Location
 use Rattle.rules.specs.Basics.{byte, word, hasMark}
 use Rattle.rules.specs.Syntax.{Side, device, parameter, Op, Statement, op, Statements, done, _⨾_, Block, block, Function, function, Program}
 use Rattle.rules.specs.Table.{simple, branches, loops, calls, Row, table, rowOf, size}
-use Rattle.rules.specs.Program.{Read, Scope, inRange, known, operands, meant, statement, statements, readBlock, functionHeader, programHeader, functionsAt, readProgram}
-use Rattle.program.specs.In.{BlockIn, StatementIn, StatementsIn, ProgramIn, View, is-init, is-magic, is-free, is-gate, is-measure, is-merge, is-new, is-get, is-set, is-if, is-while, is-call, is-bool, offsetOf, mainScope}
+use Rattle.rules.specs.Program.{Read, Scope, inRange, known, operands, meant, statement, statements, readBlock}
+use Rattle.rules.specs.Program.{functionHeader, programHeader, functionsAt, readProgram}
+use Rattle.program.specs.In.{BlockIn, StatementIn, StatementsIn, ProgramIn, offsetOf, mainScope}
+use Rattle.program.specs.In.{View, is-init, is-magic, is-free, is-gate, is-measure, is-merge, is-new, is-get, is-set, is-if, is-while, is-call, is-bool}
 use Rattle.program.proofs.Base.{eqb-true, below, at-most, not-below, and-left, and-right}
 
 -- a choice by a test: what holds of what is chosen, with what the test said
-holds-choice : {A : Type 0} {P : A → Type 0} (b : Bool) {x y : Check A} → (b ≡ false → Holds P x) → (b ≡ true → Holds P y) → Holds P (elim b [ false ↦ x | true ↦ y ])
+holds-choice : {A : Type 0} {P : A → Type 0} (b : Bool) {x y : Check A}
+    → (b ≡ false → Holds P x) → (b ≡ true → Holds P y) → Holds P (elim b [ false ↦ x | true ↦ y ])
 holds-choice false f g = f refl
 holds-choice true f g = g refl
 
@@ -31,10 +34,13 @@ holds-with not-ok = not-ok
 holds-with (by h) = by (refl, h)
 
 -- Blocks. What a read block is: there was a depth left, its bytes end within the limit, and its statements are read between.
-abbrev BlockTaken : {d : Side} → List ℕ → Scope → ℕ → ℕ → Block d → ℕ → Type 0
-BlockTaken {d} s S depths at x p = (ts : Statements d) × (inside : ℕ) × (x ≡ block at ts) × (depths ≡ suc inside) × (p ≡ at + 2 + word s at) × (p ≤ length s) × StatementsIn s S inside (at + 2) p ts
+abbrev pub BlockTaken : {d : Side} → List ℕ → Scope → ℕ → ℕ → Block d → ℕ → Type 0
+BlockTaken {d} s S depths at x p =
+    (ts : Statements d) × (inside : ℕ) × (x ≡ block at ts) × (depths ≡ suc inside) × (p ≡ at + 2 + word s at) × (p ≤ length s)
+    × StatementsIn s S inside (at + 2) p ts
 
-block-taken : (s : List ℕ) (d : Side) (S : Scope) (depths at limit : ℕ) → limit ≤ length s → Holds (λ r. BlockTaken s S depths at (r .it) (r .next) × (r .next ≤ limit)) (readBlock s d S depths at limit)
+block-taken : (s : List ℕ) (d : Side) (S : Scope) (depths at limit : ℕ) → limit ≤ length s
+    → Holds (λ r. BlockTaken s S depths at (r .it) (r .next) × (r .next ≤ limit)) (readBlock s d S depths at limit)
 block-taken s d S zero at limit l = holds-then (holds-need (leb (at + 2) limit) 8 at) λ u a. not-ok
 block-taken s d S (suc inside) at limit l =
     holds-then (holds-need (leb (at + 2) limit) 8 at) λ u a.
@@ -44,15 +50,15 @@ block-taken s d S (suc inside) at limit l =
     let q : at + 2 + word s at ≤ length s = omega arith in
     by ((ts, inside, refl, refl, refl, q, record { more = word s at; enough = omega arith; starts = omega arith; within = q; reads = e }), h)
 
-pub block-in : {d : Side} {s : List ℕ} {S : Scope} {depths at p : ℕ} {x : Block d} → BlockIn s S depths at x p
-    → (ts : Statements d) × (inside : ℕ) × (x ≡ block at ts) × (depths ≡ suc inside) × (p ≡ at + 2 + word s at) × (p ≤ length s) × StatementsIn s S inside (at + 2) p ts
+pub block-in : {d : Side} {s : List ℕ} {S : Scope} {depths at p : ℕ} {x : Block d} → BlockIn s S depths at x p → BlockTaken s S depths at x p
 block-in {d} {s} {S} {depths} {at} h = holds-at (block-taken s d S depths at (h .limit) (h .within)) (h .reads) .0
 
 -- a block stands in the file where it is read
 block-read : (s : List ℕ) (d : Side) (S : Scope) (depths at limit : ℕ) → limit ≤ length s
     → Holds (λ r. BlockIn s S depths at (r .it) (r .next) × (at < r .next) × (r .next ≤ limit)) (readBlock s d S depths at limit)
 block-read s d S depths at limit w =
-    holds-map (λ r h. (record { limit = limit; within = w; reads = h .0 }, omega (arith, h .1 .0 .4), h .1 .1)) (holds-with (block-taken s d S depths at limit w))
+    holds-map (λ r h. (record { limit = limit; within = w; reads = h .0 }, omega (arith, h .1 .0 .4), h .1 .1))
+    (holds-with (block-taken s d S depths at limit w))
 
 -- Operands. What an operand byte in range is.
 abbrev Fits : Scope → ℕ → Operand → ℕ → Type 0
@@ -96,7 +102,8 @@ split-fit s S i n (o ∷ os) ps h =
     ((h .0, r .0), subst (λ (m : ℕ). AllFit s S i m ps) (suc-add n (length os) ∙ sym (add-suc n (length os))) (r .1))
 
 -- of k operands of one kind each fits
-each-fits : (s : List ℕ) (S : Scope) (i n k : ℕ) (o : Operand) → AllFit s S i n (replicate k o) → (j : ℕ) → j < k → Fits S (byte s (i + 1)) o (byte s (i + n + j))
+each-fits : (s : List ℕ) (S : Scope) (i n k : ℕ) (o : Operand) → AllFit s S i n (replicate k o)
+    → (j : ℕ) → j < k → Fits S (byte s (i + 1)) o (byte s (i + n + j))
 each-fits s S i n zero o h j l = absurd (not-suc-le-zero l)
 each-fits s S i n (suc k) o h zero l = subst (λ (m : ℕ). Fits S (byte s (i + 1)) o (byte s m)) (sym (add-zero (i + n))) (h .0)
 each-fits s S i n (suc k) o h (suc j) l =
@@ -104,13 +111,17 @@ each-fits s S i n (suc k) o h (suc j) l =
     subst (λ (m : ℕ). Fits S (byte s (i + 1)) o (byte s m)) e (each-fits s S i (suc n) k o (h .1) j (le-of-suc-le-suc l))
 
 -- k places and m slots from operand 4 on: each is in range where it stands
-call-places : (s : List ℕ) (S : Scope) (i k m : ℕ) → AllFit s S i 4 (replicate k Location ++ replicate m Slot) → (j : ℕ) → j < k → byte s (i + 4 + j) < S .places
+call-places : (s : List ℕ) (S : Scope) (i k m : ℕ) → AllFit s S i 4 (replicate k Location ++ replicate m Slot)
+    → (j : ℕ) → j < k → byte s (i + 4 + j) < S .places
 call-places s S i k m h j l = each-fits s S i 4 k Location (split-fit s S i 4 (replicate k Location) (replicate m Slot) h .0) j l
 
-call-slots : (s : List ℕ) (S : Scope) (i k m : ℕ) → AllFit s S i 4 (replicate k Location ++ replicate m Slot) → (j : ℕ) → j < m → byte s (i + 4 + k + j) < 32
+call-slots : (s : List ℕ) (S : Scope) (i k m : ℕ) → AllFit s S i 4 (replicate k Location ++ replicate m Slot)
+    → (j : ℕ) → j < m → byte s (i + 4 + k + j) < 32
 call-slots s S i k m h j l =
-    let e : i + (4 + length (replicate k Location)) + j ≡ i + 4 + k + j = omega (arith, length-replicate k Location) in
-    subst (λ (n : ℕ). byte s n < 32) e (each-fits s S i (4 + length (replicate k Location)) m Slot (split-fit s S i 4 (replicate k Location) (replicate m Slot) h .1) j l)
+    let p : ℕ = 4 + length (replicate k Location) in
+    let e : i + p + j ≡ i + 4 + k + j = omega (arith, length-replicate k Location) in
+    let slots : AllFit s S i p (replicate m Slot) = split-fit s S i 4 (replicate k Location) (replicate m Slot) h .1 in
+    subst (λ (n : ℕ). byte s n < 32) e (each-fits s S i p m Slot slots j l)
 
 -- The table. What an operation's row with statement byte b must show: where the byte stands, the operands fit and the file has them, there is its view.
 abbrev Shows : ℕ → List Operand → ((d : Side) → (ℕ → ℕ) → Op d) → Type 0
@@ -126,7 +137,8 @@ data SeenRow (b : ℕ) : Row → Type 0 where
   seen-calls : b ≡ 12 → SeenRow b (record { operands = Callee ∷ CalleeK ∷ CalleeM ∷ []; meaning = calls })
 
 -- the same as a function, so that the row that is asked for says which operation it is
-simple-row : {b : ℕ} {os : List Operand} {f : (d : Side) → (ℕ → ℕ) → Op d} → Shows b os f → SeenRow b (record { operands = os; meaning = simple f })
+simple-row : {b : ℕ} {os : List Operand} {f : (d : Side) → (ℕ → ℕ) → Op d} → Shows b os f
+    → SeenRow b (record { operands = os; meaning = simple f })
 simple-row h = seen-simple h
 
 -- the rows of a list, from statement byte b on
@@ -160,7 +172,8 @@ table-seen =
 row-among : (n : ℕ) (rs : List Row) → AllSeen n rs → (b i : ℕ) → Holds (SeenRow (n + b)) (known (getElem? rs b) i)
 row-among n [] no-row b i = not-ok
 row-among n (r ∷ rs) (a-row g gs) zero i = by (subst (λ (c : ℕ). SeenRow c r) (sym (add-zero n)) g)
-row-among n (r ∷ rs) (a-row g gs) (suc b) i = holds-map (λ q w. subst (λ (c : ℕ). SeenRow c q) (suc-add n b ∙ sym (add-suc n b)) w) (row-among (suc n) rs gs b i)
+row-among n (r ∷ rs) (a-row g gs) (suc b) i =
+    holds-map (λ q w. subst (λ (c : ℕ). SeenRow c q) (suc-add n b ∙ sym (add-suc n b)) w) (row-among (suc n) rs gs b i)
 
 seen-row : (b i : ℕ) → Holds (SeenRow b) (known (rowOf b) i)
 seen-row zero i = not-ok
@@ -202,10 +215,13 @@ module _ (s : List ℕ) (d : Side) (S : Scope) (depths : ℕ) where
       meant-seen r at end w g (at-most (at + size r) end l) h
 
   -- one statement and the rest, where the block is not at its end
-  abbrev Split : ℕ → ℕ → Statements d → Type 0
-  Split at end ts = (t : Statement d) × (p : ℕ) × (rest : Statements d) × (ts ≡ (t ⨾ rest)) × StatementIn s S depths at t p × StatementsIn s S depths p end rest × (at < p) × (p ≤ end)
+  abbrev pub Split : ℕ → ℕ → Statements d → Type 0
+  Split at end ts =
+      (t : Statement d) × (p : ℕ) × (rest : Statements d) × (ts ≡ (t ⨾ rest))
+      × StatementIn s S depths at t p × StatementsIn s S depths p end rest × (at < p) × (p ≤ end)
 
-  statements-split : (more at end : ℕ) → end - at ≤ more → end ≤ length s → at < end → Holds (Split at end) (statements s d S (readBlock s d S depths) more at end)
+  statements-split : (more at end : ℕ) → end - at ≤ more → end ≤ length s → at < end
+      → Holds (Split at end) (statements s d S (readBlock s d S depths) more at end)
   statements-split zero at end m w l = absurd (omega arith)
   statements-split (suc more) at end m w l =
       holds-choice (ltb at end) (λ h. absurd (omega (arith, not-below at end h))) λ h.
@@ -227,15 +243,18 @@ module _ (s : List ℕ) (d : Side) (S : Scope) (depths : ℕ) where
   statements-none zero at end q = by refl
   statements-none (suc more) at end q = holds-choice (ltb at end) (λ h. by refl) (λ h. absurd (omega (arith, below at end h)))
 
-pub statements-end : {d : Side} {s : List ℕ} {S : Scope} {depths at end : ℕ} {ts : Statements d} → StatementsIn s S depths at end ts → at ≡ end → ts ≡ done
+pub statements-end : {d : Side} {s : List ℕ} {S : Scope} {depths at end : ℕ} {ts : Statements d}
+    → StatementsIn s S depths at end ts → at ≡ end → ts ≡ done
 statements-end {d} {s} {S} {depths} {at} {end} h q = holds-at (statements-none s d S depths (h .more) at end q) (h .reads)
 
-pub statements-next : {d : Side} {s : List ℕ} {S : Scope} {depths at end : ℕ} {ts : Statements d} → StatementsIn s S depths at end ts → at < end
-    → (t : Statement d) × (p : ℕ) × (rest : Statements d) × (ts ≡ (t ⨾ rest)) × StatementIn s S depths at t p × StatementsIn s S depths p end rest × (at < p) × (p ≤ end)
-statements-next {d} {s} {S} {depths} {at} {end} h l = holds-at (statements-split s d S depths (h .more) at end (h .enough) (h .within) l) (h .reads)
+pub statements-next : {d : Side} {s : List ℕ} {S : Scope} {depths at end : ℕ} {ts : Statements d}
+    → StatementsIn s S depths at end ts → at < end → Split s d S depths at end ts
+statements-next {d} {s} {S} {depths} {at} {end} h l =
+    holds-at (statements-split s d S depths (h .more) at end (h .enough) (h .within) l) (h .reads)
 
 -- a statement's view, and where it ends
-taken : {d : Side} {s : List ℕ} {S : Scope} {depths at p : ℕ} {t : Statement d} → (h : StatementIn s S depths at t p) → View s S depths at t p × (at < p) × (p ≤ h .end)
+taken : {d : Side} {s : List ℕ} {S : Scope} {depths at p : ℕ} {t : Statement d} → (h : StatementIn s S depths at t p)
+    → View s S depths at t p × (at < p) × (p ≤ h .end)
 taken {d} {s} {S} {depths} {at} h = holds-at (statement-seen s d S depths at (h .end) (h .within)) (h .reads)
 
 pub statement-view : {d : Side} {s : List ℕ} {S : Scope} {depths at p : ℕ} {t : Statement d} → StatementIn s S depths at t p → View s S depths at t p
@@ -257,21 +276,27 @@ view-byte (is-while e l a b) = (omega arith, omega arith)
 view-byte (is-call e l a b c f g) = (omega arith, omega arith)
 view-byte (is-bool e l a b) = (omega arith, omega arith)
 
-pub statement-byte : {d : Side} {s : List ℕ} {S : Scope} {depths at p : ℕ} {t : Statement d} → StatementIn s S depths at t p → (0 < byte s at) × (byte s at < 14) × (at < p) × (p ≤ length s)
+pub statement-byte : {d : Side} {s : List ℕ} {S : Scope} {depths at p : ℕ} {t : Statement d} → StatementIn s S depths at t p
+    → (0 < byte s at) × (byte s at < 14) × (at < p) × (p ≤ length s)
 statement-byte h = (view-byte (taken h .0) .0, view-byte (taken h .0) .1, taken h .1, omega (arith, taken h .2, h .within))
 
--- Programs. What a function's header says.
-header-in : (i k m : ℕ) → Holds (λ h. (h .locations ≤ 16) × (h .arguments ≤ 8) × (h .arguments ≤ h .locations)) (functionHeader i k m)
+-- Programs. A function's k and m within their limits: what its header says.
+abbrev Limited : ℕ → ℕ → Type 0
+Limited k m = (k ≤ 16) × (m ≤ 8) × (m ≤ k)
+
+header-in : (i k m : ℕ) → Holds (λ h. Limited (h .locations) (h .arguments)) (functionHeader i k m)
 header-in i k m =
     holds-then (holds-need (leb k 16) 4 i) λ u a.
     holds-then (holds-need (leb m 8 && leb m k) 4 (i + 1)) λ v b.
     by (at-most k 16 a, at-most m 8 (and-left (leb m 8) (leb m k) b), at-most m k (and-right (leb m 8) (leb m k) b))
 
+-- the body of f, the functions in fs being before it
+abbrev BodyIn : List ℕ → List Function → Function → ℕ → Type 0
+BodyIn s fs f q = BlockIn s (record { places = f .k; earlier = fs }) 8 (offsetOf (f .body)) (f .body) q
+
 -- function j of gs, the functions in fs being before them all
 abbrev FunctionIn : List ℕ → List Function → List Function → ℕ → Type 0
-FunctionIn s fs gs j =
-    ((q : ℕ) × BlockIn s (record { places = function gs j .k; earlier = fs ++ take j gs }) 8 (offsetOf (function gs j .body)) (function gs j .body) q)
-    × ((function gs j .k ≤ 16) × (function gs j .m ≤ 8) × (function gs j .m ≤ function gs j .k))
+FunctionIn s fs gs j = ((q : ℕ) × BodyIn s (fs ++ take j gs) (function gs j) q) × Limited (function gs j .k) (function gs j .m)
 
 -- a block stands where its own offset says
 at-offset : {d : Side} {s : List ℕ} {S : Scope} {depths at p : ℕ} {x : Block d} → BlockIn s S depths at x p → BlockIn s S depths (offsetOf x) x p
@@ -279,13 +304,13 @@ at-offset {d} {s} {S} {depths} {at} {p} {x} h = subst (λ (i : ℕ). BlockIn s S
 
 -- one function before others: it has those in fs before it, and the others have it too
 function-first : (s : List ℕ) (fs gs : List Function) (g : Function) (at q : ℕ) → BlockIn s (record { places = g .k; earlier = fs }) 8 at (g .body) q
-    → (g .k ≤ 16) × (g .m ≤ 8) × (g .m ≤ g .k) → ((j : ℕ) → j < length gs → FunctionIn s (fs ++ (g ∷ [])) gs j) → (j : ℕ) → j < suc (length gs) → FunctionIn s fs (g ∷ gs) j
+    → Limited (g .k) (g .m) → ((j : ℕ) → j < length gs → FunctionIn s (fs ++ (g ∷ [])) gs j)
+    → (j : ℕ) → j < suc (length gs) → FunctionIn s fs (g ∷ gs) j
 function-first s fs gs g at q b c rest zero l =
-    ((q, subst (λ (e : List Function). BlockIn s (record { places = g .k; earlier = e }) 8 (offsetOf (g .body)) (g .body) q) (sym (append-nil fs)) (at-offset b)), c)
+    ((q, subst (λ (e : List Function). BodyIn s e g q) (sym (append-nil fs)) (at-offset b)), c)
 function-first s fs gs g at q b c rest (suc j) l =
-    let r : FunctionIn s (fs ++ (g ∷ [])) gs j = rest j (le-of-suc-le-suc l) in
-    let f : Function = function gs j in
-    ((r .0 .0, subst (λ (e : List Function). BlockIn s (record { places = f .k; earlier = e }) 8 (offsetOf (f .body)) (f .body) (r .0 .0)) (append-assoc fs (g ∷ []) (take j gs)) (r .0 .1)), r .1)
+    let ((p, body), limits) = rest j (le-of-suc-le-suc l) in
+    ((p, subst (λ (e : List Function). BodyIn s e (function gs j) p) (append-assoc fs (g ∷ []) (take j gs)) body), limits)
 
 -- n functions read after those in fs: the list is fs and n more
 abbrev FunctionsIn : List ℕ → ℕ → List Function → List Function → Type 0
@@ -298,13 +323,16 @@ functions-in s (suc n) i fs =
     holds-bind (header-in i (byte s i) (byte s (i + 1))) λ h c.
     holds-bind (block-read s parameter (record { places = h .locations; earlier = fs }) 8 (i + 2) (length s) (omega arith)) λ b v.
     let g : Function = record { k = h .locations; m = h .arguments; body = b .it } in
-    holds-map (λ r w. (g ∷ w .0, w .1 ∙ append-assoc fs (g ∷ []) (w .0), ap suc (w .2), function-first s fs (w .0) g (i + 2) (b .next) (v .0) c (w .3))) (functions-in s n (b .next) (fs ++ (g ∷ [])))
+    holds-map
+    (λ r w. (g ∷ w .0, w .1 ∙ append-assoc fs (g ∷ []) (w .0), ap suc (w .2), function-first s fs (w .0) g (i + 2) (b .next) (v .0) c (w .3)))
+    (functions-in s n (b .next) (fs ++ (g ∷ [])))
 
 program-header-in : (f : ℕ) → Holds (λ h. (h .functions ≡ f) × (f ≤ 15)) (programHeader f)
 program-header-in f = holds-then (holds-need (leb f 15) 4 5) λ u a. by (refl, at-most f 15 a)
 
 -- a program of functions that stand in the file, with main up to the last byte
-program-of : (s : List ℕ) (fs : List Function) (main : Block device) (at : ℕ) → length s ≤ 4096 → byte s 5 ≤ 15 → FunctionsIn s (byte s 5) [] fs → BlockIn s (mainScope fs) 8 at main (length s)
+program-of : (s : List ℕ) (fs : List Function) (main : Block device) (at : ℕ) → length s ≤ 4096 → byte s 5 ≤ 15
+    → FunctionsIn s (byte s 5) [] fs → BlockIn s (mainScope fs) 8 at main (length s)
     → ProgramIn s (record { functions = fs; main = main })
 program-of s fs main at l f g b = record {
   size = l;
@@ -328,10 +356,10 @@ program-read s =
     holds-bind (functions-in s (h .functions) 6 []) λ fs g.
     holds-bind (block-read s device (mainScope (fs .it)) 8 (fs .next) (length s) (omega arith)) λ b v.
     holds-then (holds-need (eqb (b .next) (length s)) 8 (b .next)) λ u₅ a₅.
-    by (
-    program-of s (fs .it) (b .it) (fs .next) (at-most (length s) 4096 a₂) (c .1) (subst (λ (n : ℕ). FunctionsIn s n [] (fs .it)) (c .0) g)
-    (subst (λ (p : ℕ). BlockIn s (mainScope (fs .it)) 8 (fs .next) (b .it) p) (eqb-true (b .next) (length s) a₅) (v .0))
-    )
+    let functions = subst (λ (n : ℕ). FunctionsIn s n [] (fs .it)) (c .0) g in
+    let ends : b .next ≡ length s = eqb-true (b .next) (length s) a₅ in
+    let main = subst (λ (p : ℕ). BlockIn s (mainScope (fs .it)) 8 (fs .next) (b .it) p) ends (v .0) in
+    by (program-of s (fs .it) (b .it) (fs .next) (at-most (length s) 4096 a₂) (c .1) functions main)
 
 pub program-in : (s : List ℕ) (p : Program) → readProgram s ≡ ok p → ProgramIn s p
 program-in s p e = holds-at (program-read s) e

@@ -34,18 +34,21 @@ module _ (s : List ℕ) (S : Scope) (i : ℕ) where
   unfolding Goods
   goods-none b k h l = absurd (omega arith)
 
-  pub goods-more : (b n : ℕ) (kind : Operand) (flag : Bool) → Goods b n → kind ≡ operandAt b n → flag ≡ inRange S (byte s (i + 1)) kind (byte s (i + n)) → flag ≡ true → Goods b (n + 1)
+  pub goods-more : (b n : ℕ) (kind : Operand) (flag : Bool) → Goods b n → kind ≡ operandAt b n
+      → flag ≡ inRange S (byte s (i + 1)) kind (byte s (i + n)) → flag ≡ true → Goods b (n + 1)
   unfolding Goods
   goods-more b n kind flag all ek ef e = below-one-more (λ k. 1 ≤ k → Good (operandAt b k) k) n all (λ l. rw (← ek, ← ef) e)
 
-  pub operands-ok : (n : ℕ) (os : List Operand) → ((j m : ℕ) → j < length os → m ≡ n + j → Good (getD os j Nothing) m) → operands s S i n os ≡ ok tt
+  pub operands-ok : (n : ℕ) (os : List Operand) → ((j m : ℕ) → j < length os → m ≡ n + j → Good (getD os j Nothing) m)
+      → operands s S i n os ≡ ok tt
   unfolding _>>_
   operands-ok n [] g = refl
   operands-ok n (o ∷ os) g =
       let h : Good o n = g 0 n (omega arith) (omega arith) in
       rw h (operands-ok (suc n) os (λ j m l e. g (suc j) m (omega arith) (omega arith)))
 
-  pub operands-bad : (n : ℕ) (os : List Operand) (j m : ℕ) → j < length os → m ≡ n + j → ((k l : ℕ) → k < j → l ≡ n + k → Good (getD os k Nothing) l)
+  pub operands-bad : (n : ℕ) (os : List Operand) (j m : ℕ) → j < length os → m ≡ n + j
+      → ((k l : ℕ) → k < j → l ≡ n + k → Good (getD os k Nothing) l)
       → inRange S (byte s (i + 1)) (getD os j Nothing) (byte s (i + m)) ≡ false → operands s S i n os ≡ refused (refusal 10 (i + m))
   unfolding _>>_
   operands-bad n [] j m h e g f = absurd (not-suc-le-zero h)
@@ -68,15 +71,17 @@ module _ (s : List ℕ) (S : Scope) (i e : ℕ) (p : 0 < byte s i) (h : byte s i
 
   module _ (l : i + sizeOf (byte s i) ≤ e) where
     -- operand m is the first out of range
-    pub fixed-bad : (m : ℕ) (kind : Operand) (flag : Bool) → 1 ≤ m → m < sizeOf (byte s i) → Goods s S i (byte s i) m → kind ≡ operandAt (byte s i) m
-        → flag ≡ inRange S (byte s (i + 1)) kind (byte s (i + m)) → flag ≡ false → fixedPart s S i e ≡ refused (refusal 10 (i + m))
+    pub fixed-bad : (m : ℕ) (kind : Operand) (flag : Bool) → 1 ≤ m → m < sizeOf (byte s i) → Goods s S i (byte s i) m
+        → kind ≡ operandAt (byte s i) m → flag ≡ inRange S (byte s (i + 1)) kind (byte s (i + m)) → flag ≡ false
+        → fixedPart s S i e ≡ refused (refusal 10 (i + m))
     unfolding fixedPart Goods _>>=_ _>>_
     fixed-bad zero kind flag a b g ek ef f = absurd (omega arith)
     fixed-bad (suc m) kind flag a b g ek ef f =
         let (r, er) = row-known (byte s i) p h in
         let z : leb (i + size r) e ≡ true = le-leb (i + size r) e (omega (arith, size-row (byte s i) er)) in
         let eo : kind ≡ getD (r .operands) m Nothing = ek ∙ operand-row (byte s i) er m in
-        let q : operands s S i 1 (r .operands) ≡ refused (refusal 10 (i + suc m)) = operands-bad s S i 1 (r .operands) m (suc m) (omega (arith, size-row (byte s i) er)) (omega arith) (good r er) (rw (← eo, ← ef) f) in
+        let n : m < length (r .operands) = omega (arith, size-row (byte s i) er) in
+        let q = operands-bad s S i 1 (r .operands) m (suc m) n (omega arith) (good r er) (rw (← eo, ← ef) f) in
         rw (er, z, q)
       where
         good : (r : Row) → rowOf (byte s i) ≡ some r → (k n : ℕ) → k < m → n ≡ 1 + k → Good s S i (getD (r .operands) k Nothing) n
@@ -93,7 +98,8 @@ module _ (s : List ℕ) (S : Scope) (i e : ℕ) (p : 0 < byte s i) (h : byte s i
         let q : operands s S i 1 (r .operands) ≡ ok tt = operands-ok s S i 1 (r .operands) (good r er) in
         rw (er, z, q) (ap (λ (k : ℕ). ok (i + k)) (sym (size-row (byte s i) er)))
       where
-        good : (r : Row) → rowOf (byte s i) ≡ some r → (k m : ℕ) → k < length (r .operands) → m ≡ 1 + k → Good s S i (getD (r .operands) k Nothing) m
+        good : (r : Row) → rowOf (byte s i) ≡ some r → (k m : ℕ) → k < length (r .operands) → m ≡ 1 + k
+            → Good s S i (getD (r .operands) k Nothing) m
         good r er k m u v =
             let w : m ≡ suc k = omega arith in
             rw (w, ← operand-row (byte s i) er k) (g (suc k) (omega (arith, size-row (byte s i) er)) (omega arith))
@@ -126,14 +132,16 @@ below-at s limit p (suc n) q e = go (ltb (byte s p) limit) e (below-at s limit (
 
 -- operands of one kind, whose range is a limit, before others
 module _ (s : List ℕ) (S : Scope) (i : ℕ) (o : Operand) (limit : ℕ) (h : (f b : ℕ) → inRange S f o b ≡ ltb b limit) where
-  pub operands-below : (k n p : ℕ) (os : List Operand) → p ≡ i + n → operands s S i n (replicate k o ++ os) ≡ (below s limit p k >>= λ q. operands s S i (n + k) os)
+  pub operands-below : (k n p : ℕ) (os : List Operand) → p ≡ i + n
+      → operands s S i n (replicate k o ++ os) ≡ (below s limit p k >>= λ q. operands s S i (n + k) os)
   unfolding below _>>=_ _>>_
   operands-below zero n p os e = rw add-zero
   operands-below (suc k) n p os e =
       rw (e, h (byte s (i + 1)) (byte s (i + n))) (go (ltb (byte s (i + n)) limit) (operands-below k (suc n) (i + n + 1) os (omega arith)))
     where
       go : (b : Bool) → operands s S i (suc n) (replicate k o ++ os) ≡ (below s limit (i + n + 1) k >>= λ q. operands s S i (suc n + k) os)
-          → (need b 10 (i + n) >> operands s S i (suc n) (replicate k o ++ os)) ≡ ((need b 10 (i + n) >> below s limit (i + n + 1) k) >>= λ q. operands s S i (n + suc k) os)
+          → (need b 10 (i + n) >> operands s S i (suc n) (replicate k o ++ os))
+          ≡ ((need b 10 (i + n) >> below s limit (i + n + 1) k) >>= λ q. operands s S i (n + suc k) os)
       go true rest = let z : n + suc k ≡ suc n + k = omega arith in rw z rest
       go false rest = refl
 

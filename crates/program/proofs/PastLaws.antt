@@ -32,7 +32,8 @@ between-wider a e b f (At p) h k w = omega arith
 between-wider a e b f (Refused x) h k w = tt
 
 -- an answer that says a position lies between what the position does
-pub between-said : (a e p : ℕ) (r : Past) (m : Check ℕ) → pastSaid r ≡ m → ((q : ℕ) → m ≡ ok q → q ≡ p) → a ≤ p → p ≤ e → Between a e r
+pub between-said : (a e p : ℕ) (r : Past) (m : Check ℕ) → pastSaid r ≡ m → ((q : ℕ) → m ≡ ok q → q ≡ p)
+    → a ≤ p → p ≤ e → Between a e r
 unfolding Between
 between-said a e p (At q) m g f h k = let w : q ≡ p = f q (sym g) in (omega arith, omega arith)
 between-said a e p (Refused x) m g f h k = tt

@@ -37,7 +37,8 @@ row-known b h l = go (rowOf b) refl (all-upTo (λ k. hasRow (rowOf k)) 1 13 tt b
     go (some r) e t = (r, e)
 
 -- 1 to 9 are operations of their operands
-pub row-simple : (b : ℕ) → 0 < b → b < 10 → (r : Row) × (f : (s : Side) → (ℕ → ℕ) → Op s) × (rowOf b ≡ some r) × (r .meaning ≡ simple f)
+pub row-simple : (b : ℕ) → 0 < b → b < 10
+    → (r : Row) × (f : (s : Side) → (ℕ → ℕ) → Op s) × (rowOf b ≡ some r) × (r .meaning ≡ simple f)
 row-simple b h l = go (rowOf b) refl (all-upTo (λ k. simpleRow (rowOf k)) 1 9 tt b h l)
   where
     meaning : (m : Meaning) → T (isSimple m) → (f : (s : Side) → (ℕ → ℕ) → Op s) × (m ≡ simple f)
@@ -46,7 +47,8 @@ row-simple b h l = go (rowOf b) refl (all-upTo (λ k. simpleRow (rowOf k)) 1 9 t
     meaning loops t = absurd t
     meaning calls t = absurd t
 
-    go : (o : Option Row) → rowOf b ≡ o → T (simpleRow o) → (r : Row) × (f : (s : Side) → (ℕ → ℕ) → Op s) × (rowOf b ≡ some r) × (r .meaning ≡ simple f)
+    go : (o : Option Row) → rowOf b ≡ o → T (simpleRow o)
+        → (r : Row) × (f : (s : Side) → (ℕ → ℕ) → Op s) × (rowOf b ≡ some r) × (r .meaning ≡ simple f)
     go none e t = absurd t
     go (some r) e t = let (f, m) = meaning (r .meaning) t in (r, f, e, m)
 

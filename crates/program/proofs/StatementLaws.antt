@@ -94,35 +94,47 @@ module _ (s : List ℕ) (d : Side) (S : Scope) (depths i e : ℕ) where
   unfolding statementPast blockPast
   st-while p h f = ap nextOf (by-meaning (ap rowOf h) loops p refl f) ∙ next-map (inner p e) _
 
-  pub st-if : (p q : ℕ) → byte s i ≡ 10 → fixedPart s S i e ≡ ok p → blockPast s d S depths p e ≡ ok q → statementPast s d S depths i e ≡ blockPast s d S depths q e
+  pub st-if : (p q : ℕ) → byte s i ≡ 10 → fixedPart s S i e ≡ ok p → blockPast s d S depths p e ≡ ok q
+      → statementPast s d S depths i e ≡ blockPast s d S depths q e
   unfolding statementPast blockPast _>>=_
   st-if p q h f g =
       let (b, eb, en) = next-ok (inner p e) q g in
       ap nextOf (by-meaning (ap rowOf h) branches p refl f) ∙ rw (eb, en) (next-map (inner q e) _)
 
-  pub st-if-refused : (p : ℕ) (x : Refusal) → byte s i ≡ 10 → fixedPart s S i e ≡ ok p → blockPast s d S depths p e ≡ refused x → statementPast s d S depths i e ≡ refused x
+  pub st-if-refused : (p : ℕ) (x : Refusal) → byte s i ≡ 10 → fixedPart s S i e ≡ ok p → blockPast s d S depths p e ≡ refused x
+      → statementPast s d S depths i e ≡ refused x
   unfolding statementPast blockPast nextOf _>>=_
   st-if-refused p x h f g = ap nextOf (by-meaning (ap rowOf h) branches p refl f) ∙ rw (next-refused (inner p e) x g)
 
   -- a call's list by its bytes: k places, then m slots
-  listed : (k m : ℕ) → operands s S i 4 (replicate k Location ++ replicate m Slot) ≡ (below s (S .places) (i + 4) k >>= λ p. below s 32 (i + (4 + k)) m >>= λ q. ok tt)
+  abbrev readPlaces : ℕ → Check ℕ
+  readPlaces k = below s (S .places) (i + 4) k
+
+  abbrev readSlots : ℕ → ℕ → Check ℕ
+  readSlots k m = below s 32 (i + (4 + k)) m
+
+  listed : (k m : ℕ) → operands s S i 4 (replicate k Location ++ replicate m Slot) ≡ (readPlaces k >>= λ p. readSlots k m >>= λ q. ok tt)
   listed k m =
-      operands-below s S i Location (S .places) (λ f b. refl) k 4 (i + 4) (replicate m Slot) refl
-      ∙ bind-under (below s (S .places) (i + 4) k) (λ p. ap (operands s S i (4 + k)) (sym (append-nil (replicate m Slot))) ∙ operands-below s S i Slot 32 (λ f b. refl) m (4 + k) (i + (4 + k)) [] refl)
+      operands-below s S i Location (S .places) (λ f b. refl) k 4 (i + 4) (replicate m Slot) refl ∙ bind-under (readPlaces k) (λ p. slots)
+    where
+      slots : operands s S i (4 + k) (replicate m Slot) ≡ (readSlots k m >>= λ q. ok tt)
+      slots =
+          ap (operands s S i (4 + k)) (sym (append-nil (replicate m Slot)))
+          ∙ operands-below s S i Slot 32 (λ f b. refl) m (4 + k) (i + (4 + k)) [] refl
 
   -- going along both lists gives the position after them
-  both-lists : (k m : ℕ) → (below s (S .places) (i + 4) k >>= λ p. below s 32 (i + (4 + k)) m >>= λ q. ok (i + 4 + k + m)) ≡ (below s (S .places) (i + 4) k >>= λ p. below s 32 p m)
+  both-lists : (k m : ℕ) → (readPlaces k >>= λ p. readSlots k m >>= λ q. ok (i + 4 + k + m)) ≡ (readPlaces k >>= λ p. below s 32 p m)
   unfolding _>>=_
-  both-lists k m = first (below s (S .places) (i + 4) k) refl
+  both-lists k m = first (readPlaces k) refl
     where
-      second : (c : Check ℕ) → below s 32 (i + (4 + k)) m ≡ c → (c >>= λ q. ok (i + 4 + k + m)) ≡ c
+      second : (c : Check ℕ) → readSlots k m ≡ c → (c >>= λ q. ok (i + 4 + k + m)) ≡ c
       second (ok q) e = ap ok (sym (omega (arith, below-at s 32 (i + (4 + k)) m q e)))
       second (refused x) e = refl
 
-      first : (c : Check ℕ) → below s (S .places) (i + 4) k ≡ c → (c >>= λ p. below s 32 (i + (4 + k)) m >>= λ q. ok (i + 4 + k + m)) ≡ (c >>= λ p. below s 32 p m)
+      first : (c : Check ℕ) → readPlaces k ≡ c → (c >>= λ p. readSlots k m >>= λ q. ok (i + 4 + k + m)) ≡ (c >>= λ p. below s 32 p m)
       first (ok p) e =
           let w : p ≡ i + (4 + k) = omega (arith, below-at s (S .places) (i + 4) k p e) in
-          second (below s 32 (i + (4 + k)) m) refl ∙ ap (λ (n : ℕ). below s 32 n m) (sym w)
+          second (readSlots k m) refl ∙ ap (λ (n : ℕ). below s 32 n m) (sym w)
       first (refused x) e = refl
 
   -- the call's meaning goes along its list
@@ -131,9 +143,10 @@ module _ (s : List ℕ) (d : Side) (S : Scope) (depths i e : ℕ) where
   call-past p ep =
       let k : ℕ = byte s (i + 2) in
       let m : ℕ = byte s (i + 3) in
-      rw (ep, listed k m, ← both-lists k m) (after-lists i _ (i + 4 + k + m) (leb (i + 4 + k + m) e) (below s (S .places) (i + 4) k) (below s 32 (i + (4 + k)) m))
+      rw (ep, listed k m, ← both-lists k m) (after-lists i _ (i + 4 + k + m) (leb (i + 4 + k + m) e) (readPlaces k) (readSlots k m))
 
-  pub st-call : (p places : ℕ) → byte s i ≡ 12 → fixedPart s S i e ≡ ok p → S .places ≡ places → statementPast s d S depths i e ≡ callList s places i e
+  pub st-call : (p places : ℕ) → byte s i ≡ 12 → fixedPart s S i e ≡ ok p → S .places ≡ places
+      → statementPast s d S depths i e ≡ callList s places i e
   unfolding statementPast
   st-call p places h f g = ap nextOf (by-meaning (ap rowOf h) calls p refl f) ∙ call-past p (fixed-at (ap rowOf h) p f) ∙ rw g
 
@@ -141,7 +154,9 @@ module _ (s : List ℕ) (d : Side) (S : Scope) (depths i e : ℕ) where
 module _ (s : List ℕ) (i e : ℕ) (r : Past) (h : BehindFixed s i e r) where
   pub fixed-between : 0 < byte s i → byte s i < 14 → Between (i + 1) e r
   unfolding BehindFixed
-  fixed-between a l = let (q, eq) = row-known (byte s i) a l in between-wider (i + sizeOf (byte s i)) e (i + 1) e r (omega (arith, size-row (byte s i) eq)) (omega arith) h
+  fixed-between a l =
+      let (q, eq) = row-known (byte s i) a l in
+      between-wider (i + sizeOf (byte s i)) e (i + 1) e r (omega (arith, size-row (byte s i) eq)) (omega arith) h
 
   pub fixed-past : (p : ℕ) → 0 < byte s i → byte s i < 14 → r ≡ At p → (i + 1 ≤ p) × (p ≤ e)
   fixed-past p a l er = between-past (i + 1) e p r er (fixed-between a l)

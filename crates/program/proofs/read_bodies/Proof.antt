@@ -13,7 +13,9 @@ enum-known-past : tie.Need-enum-known-past
 enum-known-past c = search needs
 
 read-main-requires : tie.Need-read-main-requires
-read-main-requires c κs = let w = between-past _ _ _ _ (c .before .before .past .given .1) (c .before .before .before .before .read-functions .ensures .1) in omega arith
+read-main-requires c κs =
+    let b = c .before .before in
+    let w = between-past _ _ _ _ (b .past .given .1) (b .before .before .read-functions .ensures .1) in omega arith
 
 enum-known-past-2 : tie.Need-enum-known-past-2
 enum-known-past-2 c = search needs
@@ -22,10 +24,14 @@ refused-in-requires : tie.Need-refused-in-requires
 refused-in-requires c κs = search needs
 
 returns : tie.Need-returns
-returns c = body-made _ _ _ (c .before .before .before .before .before .read-functions .ensures .0) _ _ (c .before .before .before .past .given .1) (λ fs h. c .read-main .ensures fs h)
+returns c =
+    let b = c .before .before .before in
+    body-made _ _ _ (b .before .before .read-functions .ensures .0) _ _ (b .past .given .1) (λ fs h. c .read-main .ensures fs h)
 
 returns-2 : tie.Need-returns-2
-returns-2 c = read-refused _ _ _ (body-refused _ _ _ (c .before .before .before .before .read-functions .ensures .0) _ (c .before .before .past2 .given .1)) (c .refused-in .ensures)
+returns-2 c =
+    let b = c .before .before in
+    read-refused _ _ _ (body-refused _ _ _ (b .before .before .read-functions .ensures .0) _ (b .past2 .given .1)) (c .refused-in .ensures)
 
 pub read-bodies-spec : {M : Type 1} → statement M
 read-bodies-spec =

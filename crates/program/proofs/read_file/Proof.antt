@@ -11,7 +11,10 @@ enum-known-head : tie.Need-enum-known-head
 enum-known-head c = search needs
 
 read-bodies-requires : tie.Need-read-bodies-requires
-read-bodies-requires c κs = let h = headed _ _ (head-told _ _ (c .before .before .before .read-head .ensures) _ (c .before .head .given .1)) in (h .long, h .short, h .few)
+read-bodies-requires c κs =
+    let b = c .before in
+    let h = headed _ _ (head-told _ _ (b .before .before .read-head .ensures) _ (b .head .given .1)) in
+    (h .long, h .short, h .few)
 
 enum-known-head-2 : tie.Need-enum-known-head-2
 enum-known-head-2 c = search needs
@@ -20,10 +23,14 @@ refused-in-requires : tie.Need-refused-in-requires
 refused-in-requires c κs = search needs
 
 returns : tie.Need-returns
-returns c = file-made _ _ (c .before .before .before .before .read-head .ensures) _ _ (c .before .before .head .given .1) (c .read-bodies .ensures)
+returns c =
+    let b = c .before .before in
+    file-made _ _ (b .before .before .read-head .ensures) _ _ (b .head .given .1) (c .read-bodies .ensures)
 
 returns-2 : tie.Need-returns-2
-returns-2 c = read-refused _ _ _ (file-refused _ _ (c .before .before .before .before .read-head .ensures) _ (c .before .before .head2 .given .1)) (c .refused-in .ensures)
+returns-2 c =
+    let b = c .before .before in
+    read-refused _ _ _ (file-refused _ _ (b .before .before .read-head .ensures) _ (b .head2 .given .1)) (c .refused-in .ensures)
 
 pub read-file-spec : {M : Type 1} → statement M
 read-file-spec =

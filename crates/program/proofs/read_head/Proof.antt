@@ -28,7 +28,9 @@ new-requires-3 : tie.Need-new-requires-3
 new-requires-3 c κs = search needs
 
 returns-3 : tie.Need-returns-3
-returns-3 c = ap refused (c .new3 .ensures) ∙ sym (head-mark _ (omega arith) (omega arith) (sym (c .before .before .has-mark .ensures) ∙ not-true _ (c .before .if3 .taken)))
+returns-3 c =
+    let m = sym (c .before .before .has-mark .ensures) ∙ not-true _ (c .before .if3 .taken) in
+    ap refused (c .new3 .ensures) ∙ sym (head-mark _ (omega arith) (omega arith) m)
 
 word-at-requires : tie.Need-word-at-requires
 word-at-requires c κs = search needs
@@ -37,7 +39,10 @@ new-requires-4 : tie.Need-new-requires-4
 new-requires-4 c κs = search needs
 
 returns-4 : tie.Need-returns-4
-returns-4 c = ap refused (c .new4 .ensures) ∙ sym (head-version _ (omega arith) (omega arith) (sym (c .before .before .before .before .has-mark .ensures) ∙ not-false _ (c .before .before .before .if3 .left)) (λ e. c .before .if4 .taken (c .before .before .word-at .ensures .0 ∙ e)))
+returns-4 c =
+    let b = c .before .before in
+    let m = sym (b .before .before .has-mark .ensures) ∙ not-false _ (b .before .if3 .left) in
+    ap refused (c .new4 .ensures) ∙ sym (head-version _ (omega arith) (omega arith) m (λ e. c .before .if4 .taken (b .word-at .ensures .0 ∙ e)))
 
 shared-slice-read-wide : tie.Need-shared-slice-read-wide
 shared-slice-read-wide c = search needs
@@ -49,7 +54,10 @@ new-requires-5 : tie.Need-new-requires-5
 new-requires-5 c κs = search needs
 
 returns-5 : tie.Need-returns-5
-returns-5 c = c .new5 .ensures ∙ ap programHeader (c .before .wide .ensures .0) ∙ sym (head-made _ (omega arith) (omega arith) (sym (c .before .before .before .before .before .before .has-mark .ensures) ∙ not-false _ (c .before .before .before .before .before .if3 .left)) (omega arith))
+returns-5 c =
+    let b = c .before .before .before .before .before in
+    let m = sym (b .before .has-mark .ensures) ∙ not-false _ (b .if3 .left) in
+    c .new5 .ensures ∙ ap programHeader (c .before .wide .ensures .0) ∙ sym (head-made _ (omega arith) (omega arith) m (omega arith))
 
 pub read-head-spec : {M : Type 1} → statement M
 read-head-spec =

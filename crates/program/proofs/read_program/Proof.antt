@@ -24,8 +24,11 @@ returns c = (named-readable _ _ (c .before .before .read-file .ensures) _ (c .en
 
 returns-2 : tie.Need-returns-2
 returns-2 c =
-    let h = c .before .before .before .before .before .read-file .ensures in
-    (named-refused _ _ h _ (c .before .before .before .answer .given .1) _ _ _ (c .refused-in .ensures) (c .before .in-file .ensures), λ p e. named-none _ _ h _ (c .before .before .before .answer .given .1) p e)
+    let b = c .before .before .before in
+    let h = b .before .before .read-file .ensures in (
+      named-refused _ _ h _ (b .answer .given .1) _ _ _ (c .refused-in .ensures) (c .before .in-file .ensures),
+      λ p e. named-none _ _ h _ (b .answer .given .1) p e,
+    )
 
 pub read-program-spec : {M : Type 1} → statement M
 read-program-spec =

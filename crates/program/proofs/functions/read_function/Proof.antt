@@ -49,16 +49,20 @@ enum-known-header-2 c = search needs
 
 returns-2 : tie.Need-returns-2
 returns-2 c =
-    let b = c .before .before .before .before in (
+    let b = c .before .before .before .before in
+    let k = b .before .before .before .wide .ensures .0 in
+    let m = b .before .wide2 .ensures .0 in (
       (λ fs h. c .read-block .ensures .0 parameter (record { places = _; earlier = fs }) (record { places-are = refl; heads = h })
-          ∙ sym (fn-body _ _ _ (omega arith) _ _ (b .before .before .before .wide .ensures .0) (b .before .wide2 .ensures .0) _ (b .new .ensures) _ (c .before .before .header .given .1))),
+          ∙ sym (fn-body _ _ _ (omega arith) _ _ k m _ (b .new .ensures) _ (c .before .before .header .given .1))),
       c .read-block .ensures .1,
     )
 
 returns-3 : tie.Need-returns-3
 returns-3 c =
     let b = c .before .before .before in
-    ((λ fs h. sym (fn-head _ _ _ (omega arith) _ _ (b .before .before .before .wide .ensures .0) (b .before .wide2 .ensures .0) _ (b .new .ensures) _ (c .before .header2 .given .1))), between-none _ _ _)
+    let k = b .before .before .before .wide .ensures .0 in
+    let m = b .before .wide2 .ensures .0 in
+    ((λ fs h. sym (fn-head _ _ _ (omega arith) _ _ k m _ (b .new .ensures) _ (c .before .header2 .given .1))), between-none _ _ _)
 
 pub read-function-spec : {M : Type 1} → statement M
 read-function-spec =

@@ -29,16 +29,24 @@ enum-known-q : tie.Need-enum-known-q Inv-loop μ-loop
 enum-known-q c = search needs
 
 shared-slice-read-with : tie.Need-shared-slice-read-with Inv-loop μ-loop
-shared-slice-read-with c = let w = between-past _ _ _ _ (c .before .before .q .given .1) (c .before .before .before .before .read-function .ensures .1) in omega arith
+shared-slice-read-with c =
+    let b = c .before .before in
+    let w = between-past _ _ _ _ (b .q .given .1) (b .before .before .read-function .ensures .1) in omega arith
 
 add-with : tie.Need-add-with Inv-loop μ-loop
-add-with c = let w = between-past _ _ _ _ (c .before .before .q .given .1) (c .before .before .before .before .read-function .ensures .1) in omega arith
+add-with c =
+    let b = c .before .before in
+    let w = between-past _ _ _ _ (b .q .given .1) (b .before .before .read-function .ensures .1) in omega arith
 
 shared-slice-read-with-2 : tie.Need-shared-slice-read-with-2 Inv-loop μ-loop
-shared-slice-read-with-2 c = let w = between-past _ _ _ _ (c .before .before .before .q .given .1) (c .before .before .before .before .before .read-function .ensures .1) in omega arith
+shared-slice-read-with-2 c =
+    let b = c .before .before .before in
+    let w = between-past _ _ _ _ (b .q .given .1) (b .before .before .read-function .ensures .1) in omega arith
 
 add-with-2 : tie.Need-add-with-2 Inv-loop μ-loop
-add-with-2 c = let w = between-past _ _ _ _ (c .before .before .before .q .given .1) (c .before .before .before .before .before .read-function .ensures .1) in omega arith
+add-with-2 c =
+    let b = c .before .before .before in
+    let w = between-past _ _ _ _ (b .q .given .1) (b .before .before .read-function .ensures .1) in omega arith
 
 with-requires : tie.Need-with-requires Inv-loop μ-loop
 with-requires c κs = let l = c .before .before .before .before .before .before .before .loop .inv .3 in omega (arith, l .heads .count, l .many)
@@ -51,17 +59,22 @@ loop-less c = search needs
 
 loop-again : tie.Need-loop-again Inv-loop μ-loop
 loop-again c =
-    let w = between-past _ _ _ _ (c .before .before .before .before .q .given .1) (c .before .before .before .before .before .before .read-function .ensures .1) in
-    let l = c .before .before .before .before .before .before .before .before .loop .inv .3 in
-    (omega arith, omega arith, omega arith, left-more _ _ _ _ _ _ l (c .before .before .before .before .before .before .before .loop-test .taken) (omega arith) _ _ (said-at _ _ _ (c .before .before .before .before .q .given .1) (c .before .before .before .before .before .before .read-function .ensures .0 (l .read) (l .heads))) (c .with .ensures))
+    let b = c .before .before .before .before in
+    let a = b .before .before in
+    let w = between-past _ _ _ _ (b .q .given .1) (a .read-function .ensures .1) in
+    let l = a .before .before .loop .inv .3 in
+    let one = said-at _ _ _ (b .q .given .1) (a .read-function .ensures .0 (l .read) (l .heads)) in
+    (omega arith, omega arith, omega arith, left-more _ _ _ _ _ _ l (a .before .loop-test .taken) (omega arith) _ _ one (c .with .ensures))
 
 enum-known-x : tie.Need-enum-known-x Inv-loop μ-loop
 enum-known-x c = search needs
 
 returns : tie.Need-returns Inv-loop μ-loop
 returns c =
-    let l = c .before .before .before .before .before .loop .inv .3 in
-    (left-refused _ _ _ _ _ _ l (c .before .before .before .before .loop-test .taken) _ (said-no _ _ _ (c .before .x .given .1) (c .before .before .before .read-function .ensures .0 (l .read) (l .heads))), between-none _ _ _)
+    let a = c .before .before .before in
+    let l = a .before .before .loop .inv .3 in
+    let one = said-no _ _ _ (c .before .x .given .1) (a .read-function .ensures .0 (l .read) (l .heads)) in
+    (left-refused _ _ _ _ _ _ l (a .before .loop-test .taken) _ one, between-none _ _ _)
 
 returns-2 : tie.Need-returns-2 Inv-loop μ-loop
 returns-2 c = (left-end _ _ _ _ _ _ (c .before .loop .inv .3) (c .loop-test .left), between-at _ _ _ (omega arith) (omega arith))

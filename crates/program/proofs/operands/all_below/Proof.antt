@@ -28,7 +28,9 @@ refused-requires : tie.Need-refused-requires Inv-loop μ-loop
 refused-requires c κs = search needs
 
 returns : tie.Need-returns Inv-loop μ-loop
-returns c = said-refused _ _ _ (c .refused .ensures) (c .before .before .before .before .before .loop .inv .1 ∙ below-bad _ _ _ _ (c .before .before .before .before .loop-test .taken) (omega arith))
+returns c =
+    let b = c .before .before .before .before in
+    said-refused _ _ _ (c .refused .ensures) (b .before .loop .inv .1 ∙ below-bad _ _ _ _ (b .loop-test .taken) (omega arith))
 
 add-p : tie.Need-add-p Inv-loop μ-loop
 add-p c = search needs
@@ -37,7 +39,9 @@ loop-less : tie.Need-loop-less Inv-loop μ-loop
 loop-less c = search needs
 
 loop-again : tie.Need-loop-again Inv-loop μ-loop
-loop-again c = (search needs, c .before .before .before .before .loop .inv .1 ∙ below-more _ _ _ _ (c .before .before .before .loop-test .taken) (omega arith))
+loop-again c =
+    let b = c .before .before .before in
+    (search needs, b .before .loop .inv .1 ∙ below-more _ _ _ _ (b .loop-test .taken) (omega arith))
 
 returns-2 : tie.Need-returns-2 Inv-loop μ-loop
 returns-2 c = sym (c .before .loop .inv .1 ∙ below-end _ _ _ _ (c .before .loop .inv .0) (c .loop-test .left))

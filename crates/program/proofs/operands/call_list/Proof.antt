@@ -66,17 +66,21 @@ enum-known-x c = search needs
 
 returns-2 : tie.Need-returns-2
 returns-2 c =
-    let b = c .before .before .before in (
-      c .all-below2 .ensures ∙ sym (call-past _ _ _ _ _ _ _ (b .before .before .before .before .wide .ensures .0) (b .before .before .wide2 .ensures .0) (omega arith) (omega arith) _ (said-at _ _ _ (c .before .enum-told .given .1) (b .all-below .ensures))),
+    let b = c .before .before .before in
+    let k = b .before .before .before .before .wide .ensures .0 in
+    let m = b .before .before .wide2 .ensures .0 in
+    let places = said-at _ _ _ (c .before .enum-told .given .1) (b .all-below .ensures) in (
+      c .all-below2 .ensures ∙ sym (call-past _ _ _ _ _ _ _ k m (omega arith) (omega arith) _ places),
       between-said _ _ _ _ _ (c .all-below2 .ensures) (λ q e. below-at _ _ _ _ q e) (omega arith) (omega arith),
     )
 
 returns-3 : tie.Need-returns-3
 returns-3 c =
-    let b = c .before .before .before in (
-      sym (call-refused _ _ _ _ _ _ _ (b .before .before .before .before .wide .ensures .0) (b .before .before .wide2 .ensures .0) (omega arith) (omega arith) _ (said-no _ _ _ (c .before .x .given .1) (b .all-below .ensures))),
-      between-none _ _ _,
-    )
+    let b = c .before .before .before in
+    let k = b .before .before .before .before .wide .ensures .0 in
+    let m = b .before .before .wide2 .ensures .0 in
+    let places = said-no _ _ _ (c .before .x .given .1) (b .all-below .ensures) in
+    (sym (call-refused _ _ _ _ _ _ _ k m (omega arith) (omega arith) _ places), between-none _ _ _)
 
 pub call-list-spec : {M : Type 1} → statement M
 call-list-spec =

@@ -33,7 +33,9 @@ refused-requires c κs = search needs
 
 returns : tie.Need-returns Inv-loop μ-loop
 unfolding BehindFixed
-returns c = ((λ S h. said-refused _ _ _ (c .refused .ensures) (fixed-short _ _ _ _ (omega arith) (omega arith) (omega arith))), between-refused _ _ _ _ (c .refused .ensures))
+returns c =
+    let r = c .refused .ensures in
+    ((λ S h. said-refused _ _ _ r (fixed-short _ _ _ _ (omega arith) (omega arith) (omega arith))), between-refused _ _ _ _ r)
 
 add-first : tie.Need-add-first Inv-loop μ-loop
 add-first c = search needs
@@ -64,11 +66,15 @@ refused-requires-2 c κs = search needs
 
 returns-2 : tie.Need-returns-2 Inv-loop μ-loop
 unfolding BehindFixed
-returns-2 c = (
-  (λ S h. said-refused _ _ _ (c .refused2 .ensures) (fixed-bad _ _ _ _ (omega arith) (omega arith) (omega arith) _ _ _ (omega arith) (omega arith) (c .before .before .before .before .before .before .loop .inv .2 S h)
-      (c .before .before .before .before .operand-kind .ensures) (c .before .before .in-range .ensures S h) (not-true _ (c .before .if2 .taken)))),
-  between-refused _ _ _ _ (c .refused2 .ensures),
-)
+returns-2 c =
+    let r = c .refused2 .ensures in
+    let b = c .before .before in
+    let kind = b .before .before .operand-kind .ensures in
+    let goods = b .before .before .before .before .loop .inv .2 in (
+      (λ S h. said-refused _ _ _ r (fixed-bad _ _ _ _ (omega arith) (omega arith) (omega arith) _ _ _ (omega arith) (omega arith) (goods S h)
+          kind (b .in-range .ensures S h) (not-true _ (c .before .if2 .taken)))),
+      between-refused _ _ _ _ r,
+    )
 
 add-n : tie.Need-add-n Inv-loop μ-loop
 add-n c = search needs
@@ -78,17 +84,24 @@ loop-less c = search needs
 
 loop-again : tie.Need-loop-again Inv-loop μ-loop
 loop-again c =
-    (search needs, search needs, λ S h. goods-more _ _ _ _ _ _ _ (c .before .before .before .before .before .loop .inv .2 S h) (c .before .before .before .operand-kind .ensures) (c .before .in-range .ensures S h) (not-false _ (c .if2 .left)))
+    let b = c .before in
+    let kind = b .before .before .operand-kind .ensures in
+    let goods = b .before .before .before .before .loop .inv .2 in
+    (search needs, search needs, λ S h. goods-more _ _ _ _ _ _ _ (goods S h) kind (b .in-range .ensures S h) (not-false _ (c .if2 .left)))
 
 add-t12 : tie.Need-add-t12 Inv-loop μ-loop
 add-t12 c = search needs
 
 returns-3 : tie.Need-returns-3 Inv-loop μ-loop
 unfolding BehindFixed
-returns-3 c = (
-  (λ S h. ap (λ (n : ℕ). ok (c .before .before .before .before .before .before .before .args .at + n)) (c .before .before .before .before .fixed-size .ensures .0) ∙ sym (fixed-good _ S _ _ (omega arith) (omega arith) (omega arith) _ (omega arith) (c .before .loop .inv .2 S h))),
-  between-at _ _ _ (omega arith) (omega arith),
-)
+returns-3 c =
+    let b = c .before .before .before .before in
+    let at = b .before .before .before .args .at in
+    let goods = c .before .loop .inv .2 in (
+      (λ S h. ap (λ (n : ℕ). ok (at + n)) (b .fixed-size .ensures .0)
+          ∙ sym (fixed-good _ S _ _ (omega arith) (omega arith) (omega arith) _ (omega arith) (goods S h))),
+      between-at _ _ _ (omega arith) (omega arith),
+    )
 
 pub fixed-part-spec : {M : Type 1} → statement M
 fixed-part-spec =

@@ -10,7 +10,9 @@ use lib.ListN.{getD, set, length, drop}
 use Rattle.rules.specs.Basics.{all, upTo, distinct}
 use Rattle.rules.specs.Region.{Region}
 use Rattle.rules.specs.Path.{Path}
-use Rattle.rules.specs.Syntax.{Side, device, parameter, Place, at, Preparation, plain, magic, Op, init, free, gate, measure, merge, newRef, getRef, setRef, constant, Statement, op, if, while, call, Statements, done, _⨾_, Block, block, Function, Program}
+use Rattle.rules.specs.Syntax.{Side, device, parameter, Place, at, Preparation, plain, magic}
+use Rattle.rules.specs.Syntax.{Op, init, free, gate, measure, merge, newRef, getRef, setRef, constant}
+use Rattle.rules.specs.Syntax.{Statement, op, if, while, call, Statements, done, _⨾_, Block, block, Function, Program}
 use Rattle.rules.specs.Slots.{Slot, unbound, qubit, bool, ref, slot}
 use Rattle.rules.specs.Commands.{Commands, ε, alloc, release, connect, either, repeat, _then_, commandsAt, sizeOf}
 use Rattle.rules.specs.Typing.{Kind, Env, Typed, Signature, Context, signature, allStay, narrowed, entry, bodyContext, signatureOf, mainContext, start}
@@ -87,7 +89,8 @@ mutual
     T-While : {Γ : Env s} {o r : ℕ} {b : Block s} {c : Commands s} → slot (Γ .slots) r ≡ ref tt → BlockRule C Γ b Γ c
         → StatementRule C Γ (while o r b) Γ (repeat c ε)
     T-Call : {Γ : Env s} {o f : ℕ} {ls : List (Place s)} {xs : List ℕ} → Callable C Γ f ls xs
-        → StatementRule C Γ (call o f ls xs) (substituted (signature (C .functions) f) ls xs Γ) (commandsAt (λ p. at ls (p .no)) (signature (C .functions) f .commands))
+        → StatementRule C Γ (call o f ls xs) (substituted (signature (C .functions) f) ls xs Γ)
+        (commandsAt (λ p. at ls (p .no)) (signature (C .functions) f .commands))
 
   pub data StatementsRule {s : Side} (C : Context s) : Env s → Statements s → Env s → Commands s → Type 0 where
     T-Unit : {Γ : Env s} → StatementsRule C Γ done Γ ε
@@ -102,8 +105,8 @@ mutual
 -- each function by those before it
 pub data FunctionsRule : List Function → List Signature → List Signature → Type 0 where
   T-NoFun : {gs : List Signature} → FunctionsRule [] gs gs
-  T-Fundecl : {g : Function} {fs : List Function} {gs hs : List Signature} {d : Typed parameter} → BlockRule (bodyContext gs g) (entry g) (g .body) (d .env) (d .commands)
-      → FunctionsRule fs (signatureOf g d ∷ gs) hs → FunctionsRule (g ∷ fs) gs hs
+  T-Fundecl : {g : Function} {fs : List Function} {gs hs : List Signature} {d : Typed parameter}
+      → BlockRule (bodyContext gs g) (entry g) (g .body) (d .env) (d .commands) → FunctionsRule fs (signatureOf g d ∷ gs) hs → FunctionsRule (g ∷ fs) gs hs
 
 -- `G | L ⊢ l ~ k`: a path over free locations of the region joins the ends
 abbrev pub Linked : Region → List Bool → Place device → Place device → Type 0
@@ -112,7 +115,8 @@ Linked R L l k = (p : List ℕ) × Path R (λ i. getD L i false) (l .no) (k .no)
 -- Figure 12
 pub data Connects (R : Region) : List Bool → Commands device → List Bool → Type 0 where
   C-Empty : {L : List Bool} → Connects R L ε L
-  C-Alloc : {L M : List Bool} {q : Preparation} {l : Place device} {c : Commands device} → getD L (l .no) false ≡ true → Connects R (set L (l .no) false) c M → Connects R L (alloc q l c) M
+  C-Alloc : {L M : List Bool} {q : Preparation} {l : Place device} {c : Commands device} → getD L (l .no) false ≡ true → Connects R (set L (l .no) false) c M
+      → Connects R L (alloc q l c) M
   C-Free : {L M : List Bool} {l : Place device} {c : Commands device} → Connects R (set L (l .no) true) c M → Connects R L (release l c) M
   C-Merge : {L M : List Bool} {o b e : ℕ} {l k : Place device} {c : Commands device} → Linked R L l k → Connects R L c M → Connects R L (connect o b l e k c) M
   C-If : {L M N : List Bool} {a b c : Commands device} → Connects R L a M → Connects R L b M → Connects R M c N → Connects R L (either a b c) N

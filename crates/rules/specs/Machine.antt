@@ -7,8 +7,10 @@ use Rattle.answers.specs.Check.{Check, ok, refused, _>>=_, _>>_}
 use Rattle.rules.specs.Basics.{chosen, without, setAll}
 use Rattle.rules.specs.Region.{Region, owns}
 use Rattle.rules.specs.Path.{route}
-use Rattle.rules.specs.Syntax.{Side, device, parameter, Place, at, Statement, op, if, while, call, Statements, done, _⨾_, Block, block, Function, function, Program}
-use Rattle.rules.specs.Slots.{Slot, unbound, slot, needBool, needRef, holdsNoQubit, Setting, Act, quiet, takes, gives, merges, perform, callable, entered, kept}
+use Rattle.rules.specs.Syntax.{Side, device, parameter, Place, at, Statement, op, if, while, call}
+use Rattle.rules.specs.Syntax.{Statements, done, _⨾_, Block, block, Function, function, Program}
+use Rattle.rules.specs.Slots.{Slot, unbound, slot, needBool, needRef, holdsNoQubit, Setting}
+use Rattle.rules.specs.Slots.{Act, quiet, takes, gives, merges, perform, callable, entered, kept}
 use Rattle.rules.specs.Commands.{needRoute}
 
 abbrev pub Frame : Type 0
@@ -116,7 +118,8 @@ stepped J o (ok m) = record { answer = record { code = 0; edges = m .edges; offs
 stepped J o (refused r) = record { answer = record { code = r .number; edges = 0; offset = o }; act = quiet; next = J }
 
 abbrev pub stepItems : Region → List Function → Bool → (ℕ → Bool) → Frame → List Frame → List Item → Stepped
-stepItems R fs v isFree φ φs [] = record { answer = record { code = 1; edges = 0; offset = 0xFFFF }; act = quiet; next = record { top = φ; below = φs; items = [] } }
+stepItems R fs v isFree φ φs [] =
+    record { answer = record { code = 1; edges = 0; offset = 0xFFFF }; act = quiet; next = record { top = φ; below = φs; items = [] } }
 stepItems R fs v isFree φ φs (i ∷ rest) = stepped (record { top = φ; below = φs; items = i ∷ rest }) (itemOffset i) (move R fs v isFree φ φs i rest)
 
 abbrev pub step : Region → List Function → Bool → (ℕ → Bool) → Job → Stepped

@@ -16,7 +16,8 @@ use Rattle.rules.specs.declared.program.FunctionHeaderAnswer.the-variant
 use Rattle.rules.specs.declared.statements.Operand.{Operand}
 use Rattle.rules.specs.declared.statements.Operand.the-variants.{Slot, Location, Gate, Basis, Value, Callee, CalleeK, CalleeM, Nothing}
 use Rattle.rules.specs.Basics.{upTo, byte, word, hasMark}
-use Rattle.rules.specs.Syntax.{Side, device, parameter, Place, Op, Statement, op, if, while, call, Statements, done, _⨾_, Block, block, Function, function, Program}
+use Rattle.rules.specs.Syntax.{Side, device, parameter, Place, Op, Statement, op, if, while, call}
+use Rattle.rules.specs.Syntax.{Statements, done, _⨾_, Block, block, Function, function, Program}
 use Rattle.rules.specs.Table.{Meaning, simple, branches, loops, calls, Row, rowOf, size}
 
 -- f is at most 15

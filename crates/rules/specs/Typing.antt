@@ -6,8 +6,10 @@ use lib.Dec.{eqb, ltb}
 use lib.ListN.{getD, set, length, replicate}
 use Rattle.answers.specs.Check.{Check, ok, refused, _>>=_, _>>_, need}
 use Rattle.rules.specs.Basics.{chosen, all, sameList, upTo, without, setAll}
-use Rattle.rules.specs.Syntax.{Side, device, parameter, Place, param, at, Statement, op, if, while, call, Statements, done, _⨾_, Block, block, Function, Program}
-use Rattle.rules.specs.Slots.{Slot, unbound, qubit, bool, ref, slot, needBool, needRef, isUnbound, holdsNoQubit, isClassical, Setting, Act, quiet, takes, gives, merges, perform, callable, entered, kept}
+use Rattle.rules.specs.Syntax.{Side, device, parameter, Place, param, at, Statement, op, if, while, call}
+use Rattle.rules.specs.Syntax.{Statements, done, _⨾_, Block, block, Function, Program}
+use Rattle.rules.specs.Slots.{Slot, unbound, qubit, bool, ref, slot, needBool, needRef, isUnbound, holdsNoQubit, isClassical}
+use Rattle.rules.specs.Slots.{Setting, Act, quiet, takes, gives, merges, perform, callable, entered, kept}
 use Rattle.rules.specs.Commands.{Commands, ε, alloc, release, connect, either, repeat, _then_, commandsAt}
 
 -- typing knows a slot's kind and no bool's value

@@ -5,7 +5,8 @@ use Prim.Native.Nat.{ℕ, _+_, _<_}
 use lib.Dec.{eqb}
 use lib.ListN.{length}
 use Rattle.rules.specs.Basics.{chosen}
-use Rattle.rules.specs.Syntax.{Side, Op, init, free, gate, measure, merge, newRef, getRef, setRef, constant, Statement, op, if, while, call, Statements, done, _⨾_, Block, block, Function, function}
+use Rattle.rules.specs.Syntax.{Side, Op, init, free, gate, measure, merge, newRef, getRef, setRef, constant}
+use Rattle.rules.specs.Syntax.{Statement, op, if, while, call, Statements, done, _⨾_, Block, block, Function, function}
 use Rattle.rules.specs.Commands.{Commands, sizeOf}
 use Rattle.rules.specs.Typing.{Env, Signature, Context, signature}
 use Rattle.rules.specs.Figures.{BlockRule, FunctionsRule}

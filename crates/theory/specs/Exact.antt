@@ -44,7 +44,8 @@ ExactTyping = (owned : List Bool) (size : ℕ) (p : Program) (t : Typed device) 
 
 -- For a typed program the walk that tests only merges decides Figure 12.
 abbrev pub WalkDecides : Type 0
-WalkDecides = (R : Region) (size : ℕ) (p : Program) (t : Typed device) (L : List Bool) → ProgramRead size p → Derives (R .owned) p t → (walk R (R .owned) (t .commands) ≡ ok L) ↔ Connects R (R .owned) (t .commands) L
+WalkDecides = (R : Region) (size : ℕ) (p : Program) (t : Typed device) (L : List Bool) → ProgramRead size p → Derives (R .owned) p t
+    → (walk R (R .owned) (t .commands) ≡ ok L) ↔ Connects R (R .owned) (t .commands) L
 
 -- What 18 and 19 compare: a typed block ends with every slot as on entry, but for qubits that it freed.
 abbrev pub EndsAlike : Type 0

@@ -17,4 +17,5 @@ use Rattle.theory.specs.Interleaving.{recordsOf}
 
 abbrev pub NeverStuck : Type 0
 NeverStuck = (programFile : List ℕ) (D : Device) (programs : ℕ → Program) (j n : ℕ) → readProgram programFile ≡ ok (programs j)
-    → judged (regionOf D j) (programs j) ≡ ok n → (ts : List Turn) → all (λ r. leb (r .told .code) 1) (recordsOf j (records D programs ts (started D programs))) ≡ true
+    → judged (regionOf D j) (programs j) ≡ ok n
+    → (ts : List Turn) → all (λ r. leb (r .told .code) 1) (recordsOf j (records D programs ts (started D programs))) ≡ true

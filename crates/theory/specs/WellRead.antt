@@ -5,7 +5,8 @@ use mathlib.Core.Path.{_≡_}
 use Prim.Native.Nat.{ℕ, suc, _+_, _<_, _≤_}
 use lib.ListN.{getD, length}
 use Rattle.answers.specs.Check.{ok}
-use Rattle.rules.specs.Syntax.{Side, device, parameter, Place, at, Op, init, free, gate, measure, merge, newRef, getRef, setRef, constant, Statement, op, if, while, call, Statements, done, _⨾_, Block, block, Function, function, Program}
+use Rattle.rules.specs.Syntax.{Side, device, parameter, Place, at, Op, init, free, gate, measure, merge, newRef, getRef, setRef, constant}
+use Rattle.rules.specs.Syntax.{Statement, op, if, while, call, Statements, done, _⨾_, Block, block, Function, function, Program}
 use Rattle.rules.specs.Program.{Scope, readProgram}
 
 abbrev pub OpRead : {s : Side} → Scope → Op s → Type 0
@@ -45,8 +46,8 @@ mutual
 -- functions one after the other, each by those before it, from the first byte up to the byte after the last
 pub data FunctionsRead : List Function → ℕ → List Function → ℕ → Type 0 where
   none-read : {fs : List Function} {o : ℕ} → FunctionsRead fs o [] o
-  function-read : {fs gs : List Function} {g : Function} {o p q : ℕ} → g .k ≤ 16 → g .m ≤ 8 → g .m ≤ g .k → BlockRead (record { places = g .k; earlier = fs }) 8 (o + 2) p (g .body)
-      → FunctionsRead (fs ++ (g ∷ [])) p gs q → FunctionsRead fs o (g ∷ gs) q
+  function-read : {fs gs : List Function} {g : Function} {o p q : ℕ} → g .k ≤ 16 → g .m ≤ 8 → g .m ≤ g .k
+      → BlockRead (record { places = g .k; earlier = fs }) 8 (o + 2) p (g .body) → FunctionsRead (fs ++ (g ∷ [])) p gs q → FunctionsRead fs o (g ∷ gs) q
 
 pub record ProgramRead (size : ℕ) (p : Program) : Type 0 where
   pub few : length (p .functions) ≤ 15

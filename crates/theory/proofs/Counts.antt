@@ -14,10 +14,13 @@ use Rattle.rules.specs.Basics.{chosen}
 use Rattle.rules.specs.Syntax.{Side, Place, Op, Statement, op, if, while, call, Statements, done, _⨾_, Block, block, Function, function}
 use Rattle.rules.specs.Commands.{Commands, ε, alloc, release, connect, either, repeat, _then_, commandsAt, sizeOf}
 use Rattle.rules.specs.Typing.{Env, Signature, Context, signature, bodyContext, signatureOf}
-use Rattle.rules.specs.Figures.{OpRule, T-Init, T-MInit, T-Free, T-Gate, T-Meas1, T-Meas2, T-MkRef, T-Deref, T-Assign, T-Bool, StatementRule, T-Op, T-If, T-While, T-Call, StatementsRule, T-Unit, T-Seq, BlockRule, T-Close, FunctionsRule, T-NoFun, T-Fundecl}
+use Rattle.rules.specs.Figures.{OpRule, T-Init, T-MInit, T-Free, T-Gate, T-Meas1, T-Meas2, T-MkRef, T-Deref, T-Assign, T-Bool}
+use Rattle.rules.specs.Figures.{StatementRule, T-Op, T-If, T-While, T-Call, StatementsRule, T-Unit, T-Seq}
+use Rattle.rules.specs.Figures.{BlockRule, T-Close, FunctionsRule, T-NoFun, T-Fundecl}
 use Rattle.rules.specs.Program.{Scope}
 use Rattle.rules.specs.Run.{recordBytes, movedBy}
-use Rattle.theory.specs.WellRead.{StatementRead, op-read, if-read, while-read, call-read, StatementsRead, done-read, next-read, BlockRead, block-read, FunctionsRead, none-read, function-read}
+use Rattle.theory.specs.WellRead.{StatementRead, op-read, if-read, while-read, call-read, StatementsRead, done-read, next-read}
+use Rattle.theory.specs.WellRead.{BlockRead, block-read, FunctionsRead, none-read, function-read}
 use Rattle.theory.specs.Interleaving.{recordsOf}
 use Rattle.theory.specs.Counts.{beginWithZero, MovedCount, opSize, statementSize, statementsSize, blockSize, BlockSize, CalleeSize, callees}
 use Rattle.theory.proofs.Places.{signature-newest, signature-older}
@@ -62,13 +65,15 @@ op-size (T-Assign e f) = refl
 op-size (T-Bool e) = refl
 
 mutual
-  statement-sum : {s : Side} (C : Context s) (t : Statement s) {Γ Δ : Env s} {c : Commands s} → StatementRule C Γ t Δ c → sizeOf c ≡ statementSize (callees (C .functions)) t
+  statement-sum : {s : Side} (C : Context s) (t : Statement s) {Γ Δ : Env s} {c : Commands s} → StatementRule C Γ t Δ c
+      → sizeOf c ≡ statementSize (callees (C .functions)) t
   statement-sum C (op o a) (T-Op r) = op-size r
   statement-sum C (if o y b b′) (T-If e r r′) = let h = block-sum C b r in let k = block-sum C b′ r′ in omega (arith, h, k)
   statement-sum C (while o x b) (T-While e r) = let h = block-sum C b r in omega (arith, h)
   statement-sum C (call o f ls xs) (T-Call k) = size-at _ (signature (C .functions) f .commands)
 
-  statements-sum : {s : Side} (C : Context s) (ts : Statements s) {Γ Δ : Env s} {c : Commands s} → StatementsRule C Γ ts Δ c → sizeOf c ≡ statementsSize (callees (C .functions)) ts
+  statements-sum : {s : Side} (C : Context s) (ts : Statements s) {Γ Δ : Env s} {c : Commands s} → StatementsRule C Γ ts Δ c
+      → sizeOf c ≡ statementsSize (callees (C .functions)) ts
   statements-sum C done T-Unit = refl
   statements-sum C (t ⨾ ts) (T-Seq {c = c} {d = d} r rs) = size-then c d ∙ ap₂ _+_ (statement-sum C t r) (statements-sum C ts rs)
 
@@ -83,15 +88,15 @@ abbrev SameBelow : ℕ → List Signature → List Signature → Type 0
 SameBelow n gs hs = (f : ℕ) → f < n → signature gs f ≡ signature hs f
 
 mutual
-  statement-same : {s : Side} (S : Scope) (gs hs : List Signature) → SameBelow (length (S .earlier)) gs hs → (t : Statement s) {d o p : ℕ} → StatementRead S d o p t
-      → statementSize (callees gs) t ≡ statementSize (callees hs) t
+  statement-same : {s : Side} (S : Scope) (gs hs : List Signature) → SameBelow (length (S .earlier)) gs hs → (t : Statement s) {d o p : ℕ}
+      → StatementRead S d o p t → statementSize (callees gs) t ≡ statementSize (callees hs) t
   statement-same S gs hs e (op o a) (op-read r l) = refl
   statement-same S gs hs e (if o y b c) (if-read l r r′) = ap₂ (λ (m n : ℕ). 1 + m + n) (block-same S gs hs e b r) (block-same S gs hs e c r′)
   statement-same S gs hs e (while o x b) (while-read l r) = ap (λ (n : ℕ). 1 + n) (block-same S gs hs e b r)
   statement-same S gs hs e (call o f ls xs) (call-read r) = ap (λ (g : Signature). sizeOf (g .commands)) (e f (r .earlier))
 
-  statements-same : {s : Side} (S : Scope) (gs hs : List Signature) → SameBelow (length (S .earlier)) gs hs → (ts : Statements s) {d o p : ℕ} → StatementsRead S d o p ts
-      → statementsSize (callees gs) ts ≡ statementsSize (callees hs) ts
+  statements-same : {s : Side} (S : Scope) (gs hs : List Signature) → SameBelow (length (S .earlier)) gs hs → (ts : Statements s) {d o p : ℕ}
+      → StatementsRead S d o p ts → statementsSize (callees gs) ts ≡ statementsSize (callees hs) ts
   statements-same S gs hs e done done-read = refl
   statements-same S gs hs e (t ⨾ ts) (next-read r rs) = ap₂ _+_ (statement-same S gs hs e t r) (statements-same S gs hs e ts rs)
 
@@ -105,8 +110,8 @@ signature-kept [] T-NoFun f h = refl
 signature-kept (g ∷ fs) (T-Fundecl {gs = gs} {d = d} r rs) f h = sym (signature-older (signatureOf g d) gs f h) ∙ signature-kept fs rs f (omega (arith, h))
 
 -- with as many signatures as functions before them, function f of those that follow has number `length gs + f`
-callee-from : (fs es : List Function) {o q : ℕ} {gs hs : List Signature} → length es ≡ length gs → FunctionsRead es o fs q → FunctionsRule fs gs hs → (f : ℕ) → f < length fs
-    → sizeOf (signature hs (length gs + f) .commands) ≡ blockSize (callees hs) (function fs f .body)
+callee-from : (fs es : List Function) {o q : ℕ} {gs hs : List Signature} → length es ≡ length gs → FunctionsRead es o fs q → FunctionsRule fs gs hs
+    → (f : ℕ) → f < length fs → sizeOf (signature hs (length gs + f) .commands) ≡ blockSize (callees hs) (function fs f .body)
 callee-from [] es e none-read T-NoFun f h = absurd (omega (arith, h))
 callee-from (g ∷ fs) es e (function-read k m n b r) (T-Fundecl {gs = gs} {hs = hs} {d = d} t ts) zero h =
     ap (λ (i : ℕ). sizeOf (signature hs i .commands)) (add-zero (length gs)) ∙ ap (λ (c : Signature). sizeOf (c .commands)) own

@@ -10,13 +10,14 @@ use lib.ListN.{length}
 use Rattle.answers.specs.Check.{ok, _>>=_, _>>_}
 use Rattle.answers.specs.declared.File.the-variants.{Device, Program}
 use Rattle.answers.proofs.Laws.{Holds, by, holds-bind, holds-then, holds-need, holds-any, holds-map, holds-within, holds-at}
+use Rattle.rules.specs.Device as devices
 use Rattle.rules.specs.Device.{readDevice}
 use Rattle.rules.specs.Region.{Region, regionOf}
 use Rattle.rules.specs.Syntax as trees
 use Rattle.rules.specs.Program.{readProgram}
 use Rattle.rules.specs.Commands.{Commands, sizeOf, walk}
 use Rattle.rules.specs.Typing.{Typed, typeProgram}
-use Rattle.rules.specs.Figures.{ProgramRule}
+use Rattle.rules.specs.Figures.{Connects, ProgramRule}
 use Rattle.rules.specs.Promises.{judged, checkOf}
 use Rattle.theory.specs.WellRead.{ProgramRead}
 use Rattle.theory.specs.Exact.{Accepts, ExactCheck, Derives}
@@ -39,16 +40,20 @@ judged-sound R size p read =
     holds-then (holds-any (walk R (R .owned) (t .commands))) λ L w.
     by (accepted t L (exact-typing (R .owned) size p t read .0 e) s w)
   where
-    accepted : (t : Typed trees.device) (L : List Bool) → Derives (R .owned) p t → leb (sizeOf (t .commands)) 65535 ≡ true → walk R (R .owned) (t .commands) ≡ ok L
-        → Judged R p (sizeOf (t .commands))
+    accepted : (t : Typed trees.device) (L : List Bool) → Derives (R .owned) p t → leb (sizeOf (t .commands)) 65535 ≡ true
+        → walk R (R .owned) (t .commands) ≡ ok L → Judged R p (sizeOf (t .commands))
     accepted t L d s w = record {
       commands = t .commands;
-      derived = record { signatures = d .signatures; functions = d .functions; ends = t .env; main = d .main; left = L; connects = walk-decides R size p t L read d .0 w };
+      derived = record { signatures = d .signatures; functions = d .functions; ends = t .env; main = d .main; left = L; connects = connected };
       count = refl;
       small = at-most (sizeOf (t .commands)) 65535 s;
     }
+      where
+        connected : Connects R (R .owned) (t .commands) L
+        connected = walk-decides R size p t L read d .0 w
 
-judged-complete : (R : Region) (size n : ℕ) (p : trees.Program) (c : Commands trees.device) → ProgramRead size p → ProgramRule R p c → sizeOf c ≡ n → n ≤ 65535 → judged R p ≡ ok n
+judged-complete : (R : Region) (size n : ℕ) (p : trees.Program) (c : Commands trees.device) → ProgramRead size p → ProgramRule R p c → sizeOf c ≡ n → n ≤ 65535
+    → judged R p ≡ ok n
 unfolding _>>=_ _>>_
 judged-complete R size n p c read rule count small =
     let t : Typed trees.device = record { env = rule .ends; commands = c } in
@@ -74,13 +79,30 @@ check-sound d p job =
     holds-then (holds-need (eqb job 1 || eqb job 2) 25 0) λ _ j.
     holds-bind (holds-within Device (holds-any (readDevice d))) λ D e.
     holds-bind (holds-within (Program job) (holds-any (readProgram p))) λ q f.
-    holds-within (Program job) (holds-map (λ n a. record { a-job = is-job job j; the-device = D; the-program = q; device-reads = e; program-reads = f; commands = a .commands; derived = a .derived; count = a .count; small = a .small })
-    (judged-sound (regionOf D job) (length p) q (well-read p q f)))
+    holds-within (Program job) (holds-map (λ n. accepts D q n j e f) (judged-sound (regionOf D job) (length p) q (well-read p q f)))
+  where
+    accepts : (D : devices.Device) (q : trees.Program) (n : ℕ) → (eqb job 1 || eqb job 2) ≡ true → readDevice d ≡ ok D → readProgram p ≡ ok q
+        → Judged (regionOf D job) q n → Accepts d p job n
+    accepts D q n j e f a = record {
+      a-job = is-job job j;
+      the-device = D;
+      the-program = q;
+      device-reads = e;
+      program-reads = f;
+      commands = a .commands;
+      derived = a .derived;
+      count = a .count;
+      small = a .small;
+    }
 
 check-complete : (d p : List ℕ) (job n : ℕ) → Accepts d p job n → checkOf d p job ≡ ok n
 unfolding _>>=_ _>>_
 check-complete d p job n a =
-    rw (a-job job (a .a-job), a .device-reads, a .program-reads, judged-complete (regionOf (a .the-device) job) (length p) n (a .the-program) (a .commands) (well-read p (a .the-program) (a .program-reads)) (a .derived) (a .count) (a .small))
+    let R : Region = regionOf (a .the-device) job in
+    let q : trees.Program = a .the-program in
+    let read : ProgramRead (length p) q = well-read p q (a .program-reads) in
+    let accepted : judged R q ≡ ok n = judged-complete R (length p) n q (a .commands) read (a .derived) (a .count) (a .small) in
+    rw (a-job job (a .a-job), a .device-reads, a .program-reads, accepted)
 
 pub exact-check : ExactCheck
 exact-check d p job n = ((λ e. holds-at (check-sound d p job) e), check-complete d p job n)

@@ -29,7 +29,8 @@ turns-own : (j : ℕ) (ts : List Turn) → turnsOf j (turnsOf j ts) ≡ turnsOf 
 turns-own j [] = refl
 turns-own j (t ∷ ts) = go (eqb (t .job) j) refl (turns-own j ts)
   where
-    go : (b : Bool) → eqb (t .job) j ≡ b → turnsOf j (turnsOf j ts) ≡ turnsOf j ts → turnsOf j (chosen b (t ∷ turnsOf j ts) (turnsOf j ts)) ≡ chosen b (t ∷ turnsOf j ts) (turnsOf j ts)
+    go : (b : Bool) → eqb (t .job) j ≡ b → turnsOf j (turnsOf j ts) ≡ turnsOf j ts
+        → turnsOf j (chosen b (t ∷ turnsOf j ts) (turnsOf j ts)) ≡ chosen b (t ∷ turnsOf j ts) (turnsOf j ts)
     go true e h = rw e (ap (λ r. t ∷ r) h)
     go false e h = h
 
@@ -64,7 +65,8 @@ none-of j js (t ∷ ts) h k = go (ℕ-discrete (t .job) j) (none-of j js ts (and
     go (yes e) r = absurd (false≢true (sym k ∙ ap (λ x. any (eqb x) js) (sym e) ∙ and-left (any (eqb (t .job)) js) _ h))
     go (no n) r = rw (eqb-other (t .job) j n) r
 
-same-turns : (js : List ℕ) (ts : List Turn) → distinct js ≡ true → all (λ (t : Turn). any (eqb (t .job)) js) ts ≡ true → (j : ℕ) → turnsOf j ts ≡ turnsOf j (inOrder js ts)
+same-turns : (js : List ℕ) (ts : List Turn) → distinct js ≡ true → all (λ (t : Turn). any (eqb (t .job)) js) ts ≡ true
+    → (j : ℕ) → turnsOf j ts ≡ turnsOf j (inOrder js ts)
 same-turns js ts d h j = go (any (eqb j) js) refl ∙ sym (turns-in-order j js ts d)
   where
     go : (b : Bool) → any (eqb j) js ≡ b → turnsOf j ts ≡ chosen (any (eqb j) js) (turnsOf j ts) []
@@ -75,7 +77,11 @@ alike : (D : Device) (programs : ℕ → Program) (ts us : List Turn) → Ends D
 alike D programs ts us E = record { device = E .device; jobs = E .jobs; told = E .told }
 
 pub any-interleaving : AnyInterleaving
-any-interleaving D programs js ts d h = alike D programs ts (inOrder js ts) (isolation D programs ts (inOrder js ts) (started D programs) (sound-started D programs) (same-turns js ts d h))
+any-interleaving D programs js ts d h =
+    alike D programs ts us (isolation D programs ts us (started D programs) (sound-started D programs) (same-turns js ts d h))
+  where
+    us : List Turn
+    us = inOrder js ts
 
 -- the two tests of a turn say the same
 or-none : (a b : Bool) → (a || b) ≡ true → (a || (b || false)) ≡ true
@@ -86,8 +92,12 @@ or-none false false h = h
 one-of-two : (ts : List Turn) → all (λ (t : Turn). eqb (t .job) 1 || eqb (t .job) 2) ts ≡ true → all (λ (t : Turn). any (eqb (t .job)) (1 ∷ 2 ∷ [])) ts ≡ true
 one-of-two [] h = refl
 one-of-two (t ∷ ts) h =
-    and-both _ _ (or-none (eqb (t .job) 1) (eqb (t .job) 2) (and-left (eqb (t .job) 1 || eqb (t .job) 2) _ h)) (one-of-two ts (and-right (eqb (t .job) 1 || eqb (t .job) 2) _ h))
+    and-both _ _ (or-none (eqb (t .job) 1) (eqb (t .job) 2) (and-left here _ h)) (one-of-two ts (and-right here _ h))
+  where
+    here : Bool
+    here = eqb (t .job) 1 || eqb (t .job) 2
 
 pub two-jobs : TwoJobs
 two-jobs D programs ts h =
-    subst (λ (us : List Turn). Alike D programs ts (turnsOf 1 ts ++ us)) (append-nil (turnsOf 2 ts)) (any-interleaving D programs (1 ∷ 2 ∷ []) ts refl (one-of-two ts h))
+    let in-order : Alike D programs ts (turnsOf 1 ts ++ (turnsOf 2 ts ++ [])) = any-interleaving D programs (1 ∷ 2 ∷ []) ts refl (one-of-two ts h) in
+    subst (λ (us : List Turn). Alike D programs ts (turnsOf 1 ts ++ us)) (append-nil (turnsOf 2 ts)) in-order

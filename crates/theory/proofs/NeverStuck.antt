@@ -15,9 +15,9 @@ use Rattle.rules.specs.Basics.{all}
 use Rattle.rules.specs.Device.{Device}
 use Rattle.rules.specs.Region.{Region, regionOf, owns, freeIn}
 use Rattle.rules.specs.Syntax.{device, Function, function, Program}
-use Rattle.rules.specs.Slots.{Slot, unbound, Act, quiet, takes, gives, merges}
+use Rattle.rules.specs.Slots.{unbound, slot, Act, quiet, takes, gives, merges}
 use Rattle.rules.specs.Commands.{Commands, commandsAt}
-use Rattle.rules.specs.Typing.{Kind, Signature, afterAct, mainContext, start}
+use Rattle.rules.specs.Typing.{Signature, afterAct, mainContext, start}
 use Rattle.rules.specs.Figures.{FunctionsRule, T-NoFun, T-Fundecl, Connects, ProgramRule}
 use Rattle.rules.specs.Machine.{fresh, themselves}
 use Rattle.rules.specs.Run.{Turn, written, started, records}
@@ -26,7 +26,8 @@ use Rattle.theory.specs.Interleaving.{turnsOf, recordsOf}
 use Rattle.theory.proofs.Base.{true-in-range, getD-set-default, getD-replicate-default}
 use Rattle.theory.proofs.Places.{at-same}
 use Rattle.theory.proofs.Safety.{Known, known-none, known-more, finished, rest-block, Inv, Fine, fine-step}
-use Rattle.theory.proofs.Isolation.{OwnAct, own-step, View, view, view-step, view-after, view-records, sound-started, view-started, free-started, SoundView, sound-view, sound-view-after, records-of}
+use Rattle.theory.proofs.Isolation.{OwnAct, own-step, View, view, view-step, view-after, view-records, sound-started, view-started, free-started}
+use Rattle.theory.proofs.Isolation.{SoundView, sound-view, sound-view-after, records-of}
 
 -- 1. The first state of a derived program is typed.
 function-at : (fs : List Function) (n : ℕ) (g : Function) (gs : List Function) → drop n fs ≡ g ∷ gs → function fs n ≡ g
@@ -45,11 +46,14 @@ read-roomy none-read = tt
 read-roomy (function-read k m n b r) = (omega arith, read-roomy r)
 
 module _ (R : Region) (fs : List Function) where
-  known-all : {rest : List Function} {gs hs : List Signature} → FunctionsRule rest gs hs → drop (length gs) fs ≡ rest → Roomy rest → Known R fs (length (R .owned)) gs → Known R fs (length (R .owned)) hs
+  known-all : {rest : List Function} {gs hs : List Signature} → FunctionsRule rest gs hs → drop (length gs) fs ≡ rest → Roomy rest
+      → Known R fs (length (R .owned)) gs → Known R fs (length (R .owned)) hs
   known-all T-NoFun h m K = K
-  known-all (T-Fundecl {g = g} {fs = rest} {gs = gs} j r) h m K = known-all r (drop-tail fs (length gs) g rest h) (m .1) (known-more K (function-at fs (length gs) g rest h) (m .0) j)
+  known-all (T-Fundecl {g = g} {fs = rest} {gs = gs} j r) h m K =
+      known-all r (drop-tail fs (length gs) g rest h) (m .1) (known-more K (function-at fs (length gs) g rest h) (m .0) j)
 
-first-typed : (R : Region) (p : Program) (c : Commands device) → Roomy (p .functions) → ProgramRule R p c → Inv R (p .functions) (length (R .owned)) (R .owned) (fresh p)
+first-typed : (R : Region) (p : Program) (c : Commands device) → Roomy (p .functions) → ProgramRule R p c
+    → Inv R (p .functions) (length (R .owned)) (R .owned) (fresh p)
 first-typed R p c m A =
     let w : Connects R (R .owned) (commandsAt (λ l. l) c) (A .left) = rw (at-same c) (A .connects) in
     record {
@@ -61,11 +65,17 @@ first-typed R p c m A =
         placed = record { agree = λ l h. refl; own = λ l h. h; range = λ l h. true-in-range (R .owned) (l .no) h; apart = λ l k h i e. e; room = λ l h. h };
         sized = refl;
         long = refl;
-        fits = record { kinds-long = refl; slots-long = refl; each = λ x. rw (getD-replicate-default {A = Kind device} 32 x unbound, getD-replicate-default {A = Slot device Bool} 32 x unbound) };
+        fits = record { kinds-long = refl; slots-long = refl; each = λ x. rw (no-kind x, nothing x) };
         frees = λ l h. h;
       };
       rest = rest-block R (p .functions) (length (R .owned)) (p .main) (A .main) w finished;
     }
+  where
+    no-kind : (x : ℕ) → slot (start (R .owned) .slots) x ≡ unbound
+    no-kind x = getD-replicate-default 32 x unbound
+
+    nothing : (x : ℕ) → slot (fresh p .top) x ≡ unbound
+    nothing x = getD-replicate-default 32 x unbound
 
 -- 2. What typing has as free stays free on the device
 module _ (R : Region) (j : ℕ) where
@@ -114,7 +124,8 @@ module _ (D : Device) (programs : ℕ → Program) (j len : ℕ) where
   unstuck-view [] W T = refl
   unstuck-view (t ∷ ts) W T = rw (fine-view (t .outcome) W T .unstuck) (unstuck-view ts (view-after D programs j (t .outcome) W) (typed-after (t .outcome) W T))
 
-pub never-stuck-derived : (D : Device) (programs : ℕ → Program) (j size : ℕ) (c : Commands device) → ProgramRead size (programs j) → ProgramRule (regionOf D j) (programs j) c
+pub never-stuck-derived : (D : Device) (programs : ℕ → Program) (j size : ℕ) (c : Commands device) → ProgramRead size (programs j)
+    → ProgramRule (regionOf D j) (programs j) c
     → (ts : List Turn) → all (λ r. leb (r .told .code) 1) (recordsOf j (records D programs ts (started D programs))) ≡ true
 never-stuck-derived D programs j size c read A ts =
     rw (records-of D programs j ts (started D programs) (sound-started D programs))

@@ -60,7 +60,10 @@ module _ {s : Side} (ρ : Place s → Place device) where
     where
       go : (y : ℕ) → Dec (y ≡ x) → Dec (x < 32) → Match (slot (set vs x k) y) (slot (set φ x v) y)
       go y (no n) d = rw (getD-set-other vs x y k unbound n, getD-set-other φ x y v unbound n) (F .each y)
-      go y (yes e) (yes h) = rw e (rw (getD-set-same vs x k unbound (omega (arith, F .kinds-long)), getD-set-same φ x v unbound (omega (arith, F .slots-long))) m)
+      go y (yes e) (yes h) =
+          let kind : slot (set vs x k) x ≡ k = getD-set-same vs x k unbound (omega (arith, F .kinds-long)) in
+          let value : slot (set φ x v) x ≡ v = getD-set-same φ x v unbound (omega (arith, F .slots-long)) in
+          rw (e, kind, value) m
       go y (yes e) (no h) = rw (set-out vs x k (omega (arith, F .kinds-long)), set-out φ x v (omega (arith, F .slots-long))) (F .each y)
 
   -- a kind stored for a slot that fits it already
@@ -78,13 +81,14 @@ module _ {s : Side} (ρ : Place s → Place device) where
   fits-narrowed vs₀ vs φ F = record { kinds-long = length-narrowed vs₀ vs; slots-long = F .slots-long; each = λ x. go x (decLt x 32) }
     where
       go : (x : ℕ) → Dec (x < 32) → Match (slot (narrowed vs₀ vs) x) (slot φ x)
-      go x (yes h) = rw (slot-narrowed vs₀ vs x h)
-          (chosen-match (isClassical (slot vs x) && not (isClassical (slot vs₀ x))) (slot vs x) (slot φ x) (λ e. and-left (isClassical (slot vs x)) _ e) (F .each x))
+      go x (yes h) =
+          let goes : Bool = isClassical (slot vs x) && not (isClassical (slot vs₀ x)) in
+          rw (slot-narrowed vs₀ vs x h) (chosen-match goes (slot vs x) (slot φ x) (λ e. and-left (isClassical (slot vs x)) _ e) (F .each x))
       go x (no h) = let r = length-narrowed vs₀ vs in rw (slot-out (narrowed vs₀ vs) x (omega arith), slot-out φ x (omega (arith, F .slots-long)))
 
   -- the return, argument by argument
-  pub fits-back : {Γ : Env s} {χ : Frame} (i : ℕ) (f : ℕ → Kind s) (g : ℕ → Bool) (xs : List ℕ) (ls : List (Place s)) → Fits (Γ .slots) χ → Arguments Γ xs ls → distinct xs ≡ true
-      → ((j : ℕ) → j < length xs → Settled (f (i + j)) (g (i + j)) (at ls j))
+  pub fits-back : {Γ : Env s} {χ : Frame} (i : ℕ) (f : ℕ → Kind s) (g : ℕ → Bool) (xs : List ℕ) (ls : List (Place s)) → Fits (Γ .slots) χ → Arguments Γ xs ls
+      → distinct xs ≡ true → ((j : ℕ) → j < length xs → Settled (f (i + j)) (g (i + j)) (at ls j))
       → Fits (stored (upTo i (length xs) f) xs (Γ .slots)) (setAll unbound (without (upTo i (length xs) g) xs) χ)
   fits-back i f g [] ls F no-more d h = F
   fits-back {Γ = Γ} {χ = χ} i f g (x ∷ xs) (l ∷ ls) F (and e r) d h =
@@ -104,9 +108,14 @@ module _ {s : Side} (ρ : Place s → Place device) where
 
 -- 3. A callee's frame at its entry: slot j holds argument j
 module _ (τ : Place parameter → Place device) where
-  pub fits-entered : (m : ℕ) (ls : List (Place device)) → m ≤ 32 → m ≤ length ls → ((j : ℕ) → j < m → at ls j ≡ τ (param j)) → Fits τ (entered (upTo 0 m param)) (entered (take m ls))
+  pub fits-entered : (m : ℕ) (ls : List (Place device)) → m ≤ 32 → m ≤ length ls → ((j : ℕ) → j < m → at ls j ≡ τ (param j))
+      → Fits τ (entered (upTo 0 m param)) (entered (take m ls))
   fits-entered m ls h k e =
-      record { kinds-long = length-entered (Unit {0}) (upTo 0 m param) (omega (arith, length-upTo 0 m param)); slots-long = length-entered Bool (take m ls) (omega (arith, taken)); each = λ x. go x (decLt x m) }
+      record {
+        kinds-long = length-entered (Unit {0}) (upTo 0 m param) (omega (arith, length-upTo 0 m param));
+        slots-long = length-entered Bool (take m ls) (omega (arith, taken));
+        each = λ x. go x (decLt x m);
+      }
     where
       taken : length (take m ls) ≡ m
       taken = length-take-le m ls k
@@ -116,8 +125,8 @@ module _ (τ : Place parameter → Place device) where
       go x (no d) = rw (entry-past m x (omega arith), entered-past Bool (take m ls) x (omega (arith, taken)))
 
   -- what a callee's slot says of the argument
-  pub settled : {s : Side} (ls : List (Place s)) (actual : List (Place device)) (k : Kind parameter) (v : Slot device Bool) (j : ℕ) → Match τ k v → at actual j ≡ τ (param j)
-      → (k ≡ qubit (param j)) ⊎ (k ≡ unbound) → Settled (kindAt ls k) (isQubitAt v (at actual j)) (at ls j)
+  pub settled : {s : Side} (ls : List (Place s)) (actual : List (Place device)) (k : Kind parameter) (v : Slot device Bool) (j : ℕ) → Match τ k v
+      → at actual j ≡ τ (param j) → (k ≡ qubit (param j)) ⊎ (k ≡ unbound) → Settled (kindAt ls k) (isQubitAt v (at actual j)) (at ls j)
   settled ls actual k v j m e (inl h) = let r : v ≡ qubit (τ (param j)) = rw h at m in rw (h, r, e) (inr (refl, eqb-same (τ (param j) .no)))
   settled ls actual k v j m e (inr h) = rw h (inl (refl, no-qubit v (rw h at m)))
     where

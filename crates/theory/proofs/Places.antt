@@ -19,7 +19,8 @@ use Rattle.rules.specs.Commands.{Commands, ε, alloc, release, connect, either,
 use Rattle.rules.specs.Typing.{Kind, Env, Signature, signature, sameKind, kindNumber, allStay, narrowed}
 use Rattle.rules.specs.Figures.{stored, Arguments, no-more, and}
 use Rattle.rules.proofs.Basics.{length-upTo, getD-upTo-zero, all-upTo}
-use Rattle.theory.proofs.Base.{T→eq, eq→T, eqb-true, eqb-same, eqb-other, and-left, and-right, or-right, distinct-head, distinct-tail, getD-set-cases, getD-replicate-default}
+use Rattle.theory.proofs.Base.{T→eq, eq→T, eqb-true, eqb-same, eqb-other, and-left, and-right, or-right}
+use Rattle.theory.proofs.Base.{distinct-head, distinct-tail, getD-set-cases, getD-replicate-default}
 
 -- numbers of which none comes twice
 pub any-at : (ns : List ℕ) (i : ℕ) → i < length ns → any (eqb (getD ns i 0)) ns ≡ true
@@ -59,10 +60,12 @@ module _ {A : Type 0} where
   length-stored (v ∷ vs) [] φ = refl
   length-stored (v ∷ vs) (n ∷ ns) φ = length-set (stored vs ns φ) n v ∙ length-stored vs ns φ
 
-  pub stored-other : (vs : List A) (ns : List ℕ) (φ : List A) (n : ℕ) (d : A) → ((i : ℕ) → i < length ns → getD ns i 0 ≢ n) → getD (stored vs ns φ) n d ≡ getD φ n d
+  pub stored-other : (vs : List A) (ns : List ℕ) (φ : List A) (n : ℕ) (d : A) → ((i : ℕ) → i < length ns → getD ns i 0 ≢ n)
+      → getD (stored vs ns φ) n d ≡ getD φ n d
   stored-other [] ns φ n d h = refl
   stored-other (v ∷ vs) [] φ n d h = refl
-  stored-other (v ∷ vs) (k ∷ ns) φ n d h = getD-set-other (stored vs ns φ) k n v d (λ e. h 0 (omega arith) (sym e)) ∙ stored-other vs ns φ n d (λ i l. h (suc i) (omega arith))
+  stored-other (v ∷ vs) (k ∷ ns) φ n d h =
+      getD-set-other (stored vs ns φ) k n v d (λ e. h 0 (omega arith) (sym e)) ∙ stored-other vs ns φ n d (λ i l. h (suc i) (omega arith))
 
   pub stored-at : (vs : List A) (ns : List ℕ) (φ : List A) (i : ℕ) (d : A) → distinct ns ≡ true → length vs ≡ length ns → i < length ns → getD ns i 0 < length φ
       → getD (stored vs ns φ) (getD ns i 0) d ≡ getD vs i d
@@ -71,7 +74,8 @@ module _ {A : Type 0} where
   stored-at (v ∷ vs) [] φ i d u e h r = absurd (omega arith)
   stored-at (v ∷ vs) (n ∷ ns) φ zero d u e h r = getD-set-same (stored vs ns φ) n v d (omega (arith, length-stored vs ns φ))
   stored-at (v ∷ vs) (n ∷ ns) φ (suc i) d u e h r =
-      getD-set-other (stored vs ns φ) n (getD ns i 0) v d (distinct-first n ns u i (omega arith)) ∙ stored-at vs ns φ i d (distinct-tail n ns u) (omega arith) (omega arith) r
+      getD-set-other (stored vs ns φ) n (getD ns i 0) v d (distinct-first n ns u i (omega arith))
+      ∙ stored-at vs ns φ i d (distinct-tail n ns u) (omega arith) (omega arith) r
 
   -- Stores that say again what stands there, but for those that store v: the same as v at the numbers that do not stay.
   pub stored-agrees : (d v : A) (bs : List Bool) (vs : List A) (ns : List ℕ) (φ : List A) → distinct ns ≡ true → length vs ≡ length ns
@@ -85,11 +89,13 @@ module _ {A : Type 0} where
       let r : stored vs ns φ ≡ φ = stored-agrees d v [] vs ns φ (distinct-tail n ns u) (omega arith) (λ j k. h (suc j) (omega arith)) in
       ⊎-elim (λ c. rw r (ap (λ (a : A). set φ n a) (c .1) ∙ set-getD φ n d)) (λ c. absurd (false≢true (sym (c .0)))) (h 0 (omega arith))
   stored-agrees d v (true ∷ bs) (w ∷ vs) (n ∷ ns) φ u e h =
-      let r : stored vs ns φ ≡ setAll v (without bs ns) φ = stored-agrees d v bs vs ns φ (distinct-tail n ns u) (omega arith) (λ j k. h (suc j) (omega arith)) in
+      let t : distinct ns ≡ true = distinct-tail n ns u in
+      let r : stored vs ns φ ≡ setAll v (without bs ns) φ = stored-agrees d v bs vs ns φ t (omega arith) (λ j k. h (suc j) (omega arith)) in
       ⊎-elim (λ c. ap (λ (a : A). set (stored vs ns φ) n a) (c .1 ∙ sym (stored-other vs ns φ n d (distinct-first n ns u))) ∙ set-getD (stored vs ns φ) n d ∙ r)
       (λ c. absurd (false≢true (sym (c .0)))) (h 0 (omega arith))
   stored-agrees d v (false ∷ bs) (w ∷ vs) (n ∷ ns) φ u e h =
-      let r : stored vs ns φ ≡ setAll v (without bs ns) φ = stored-agrees d v bs vs ns φ (distinct-tail n ns u) (omega arith) (λ j k. h (suc j) (omega arith)) in
+      let t : distinct ns ≡ true = distinct-tail n ns u in
+      let r : stored vs ns φ ≡ setAll v (without bs ns) φ = stored-agrees d v bs vs ns φ t (omega arith) (λ j k. h (suc j) (omega arith)) in
       ⊎-elim (λ c. absurd (false≢true (c .0))) (λ c. ap (λ (a : A). set (stored vs ns φ) n a) (c .1) ∙ ap (λ (l : List A). set l n v) r) (h 0 (omega arith))
 
 -- places
@@ -125,13 +131,18 @@ module _ {s : Side} where
   at-map f (l ∷ ls) (suc i) h = at-map f ls i (omega arith)
 
   pub distinct-places : (ls : List (Place s)) (i j : ℕ) → distinct (numbers ls) ≡ true → i < length ls → j < length ls → at ls i .no ≡ at ls j .no → i ≡ j
-  distinct-places ls i j h k m e = let n = length-numbers ls in distinct-at (numbers ls) i j h (omega arith) (omega arith) (number-at ls i ∙ e ∙ sym (number-at ls j))
+  distinct-places ls i j h k m e =
+      let n = length-numbers ls in
+      distinct-at (numbers ls) i j h (omega arith) (omega arith) (number-at ls i ∙ e ∙ sym (number-at ls j))
 
   -- which of the places has the number, if one has
   pub find-place : (ls : List (Place s)) (l : Place s) → ((i : ℕ) × (i < length ls) × (at ls i ≡ l)) ⊎ ((i : ℕ) → i < length ls → at ls i .no ≢ l .no)
   find-place ls l =
       let n = length-numbers ls in
-      ⊎-elim (λ c. inl (c .0, omega (arith, c .1), place-path (at ls (c .0)) l (sym (number-at ls (c .0)) ∙ c .2))) (λ c. inr (λ i h e. c i (omega arith) (number-at ls i ∙ e))) (find (numbers ls) (l .no))
+      ⊎-elim
+      (λ c. inl (c .0, omega (arith, c .1), place-path (at ls (c .0)) l (sym (number-at ls (c .0)) ∙ c .2)))
+      (λ c. inr (λ i h e. c i (omega arith) (number-at ls i ∙ e)))
+      (find (numbers ls) (l .no))
 
   pub map-without : (bs : List Bool) (ls : List (Place s)) → numbers (without bs ls) ≡ without bs (numbers ls)
   map-without [] ls = refl
@@ -140,8 +151,8 @@ module _ {s : Side} where
   map-without (false ∷ bs) (l ∷ ls) = ap (λ (ns : List ℕ). l .no ∷ ns) (map-without bs ls)
 
   -- stores at the numbers of places
-  pub stored-place : (bs : List Bool) (ls : List (Place s)) (fs : List Bool) (i : ℕ) → distinct (numbers ls) ≡ true → length bs ≡ length ls → i < length ls → at ls i .no < length fs
-      → getD (stored bs (numbers ls) fs) (at ls i .no) false ≡ getD bs i false
+  pub stored-place : (bs : List Bool) (ls : List (Place s)) (fs : List Bool) (i : ℕ) → distinct (numbers ls) ≡ true → length bs ≡ length ls → i < length ls
+      → at ls i .no < length fs → getD (stored bs (numbers ls) fs) (at ls i .no) false ≡ getD bs i false
   stored-place bs ls fs i u e h r =
       let n = length-numbers ls in
       let q : getD (numbers ls) i 0 ≡ at ls i .no = number-at ls i in
@@ -149,7 +160,9 @@ module _ {s : Side} where
 
   pub stored-other-place : (bs : List Bool) (ls : List (Place s)) (fs : List Bool) (l : Place s) → ((i : ℕ) → i < length ls → at ls i .no ≢ l .no)
       → getD (stored bs (numbers ls) fs) (l .no) false ≡ getD fs (l .no) false
-  stored-other-place bs ls fs l h = let n = length-numbers ls in stored-other bs (numbers ls) fs (l .no) false (λ i j e. h i (omega arith) (sym (number-at ls i) ∙ e))
+  stored-other-place bs ls fs l h =
+      let n = length-numbers ls in
+      stored-other bs (numbers ls) fs (l .no) false (λ i j e. h i (omega arith) (sym (number-at ls i) ∙ e))
 
 -- slots, in typing and on the device
 module _ {s : Side} {B : Type 0} where
@@ -177,6 +190,15 @@ module _ {s : Side} {B : Type 0} where
   pub old-qubit : (φ : List (Slot s B)) (x y : ℕ) (v : Slot s B) (l : Place s) → holdsNoQubit v ≡ true → slot (set φ x v) y ≡ qubit l → slot φ y ≡ qubit l
   old-qubit φ x y v l n h = ⊎-elim (λ c. not-qubit v l n (sym (c .1) ∙ h)) (λ c. sym c ∙ h) (getD-set-cases φ x y v unbound)
 
+  -- a qubit after a store of a qubit is the one stored, or was there before
+  pub new-qubit : (φ : List (Slot s B)) (x y : ℕ) (l k : Place s) → slot (set φ x (qubit l)) y ≡ qubit k → (l ≡ k) ⊎ (slot φ y ≡ qubit k)
+  new-qubit φ x y l k h = ⊎-elim (λ c. inl (same-qubit _ l k (c .1) h)) (λ c. inr (sym c ∙ h)) (getD-set-cases φ x y (qubit l) unbound)
+
+  -- a store where no qubit was leaves every qubit in its slot
+  pub kept-qubit : (φ : List (Slot s B)) (x y : ℕ) (v : Slot s B) (l : Place s) → holdsNoQubit (slot φ x) ≡ true → slot φ y ≡ qubit l
+      → slot (set φ x v) y ≡ qubit l
+  kept-qubit φ x y v l n h = getD-set-other φ x y v unbound (λ e. not-qubit (slot φ x) l n (ap (λ (z : ℕ). slot φ z) (sym e) ∙ h)) ∙ h
+
   -- no two slots hold one place
   abbrev pub Once : List (Slot s B) → Type 0
   Once φ = (x y : ℕ) (l k : Place s) → slot φ x ≡ qubit l → slot φ y ≡ qubit k → l .no ≡ k .no → x ≡ y
@@ -203,7 +225,8 @@ module _ {s : Side} {B : Type 0} where
 
 -- the arguments of a call
 module _ {s : Side} where
-  pub argument-at : {Γ : Env s} (xs : List ℕ) (ls : List (Place s)) (i : ℕ) → Arguments Γ xs ls → i < length xs → slot (Γ .slots) (getD xs i 0) ≡ qubit (at ls i)
+  pub argument-at : {Γ : Env s} (xs : List ℕ) (ls : List (Place s)) (i : ℕ) → Arguments Γ xs ls → i < length xs
+      → slot (Γ .slots) (getD xs i 0) ≡ qubit (at ls i)
   argument-at [] ls i a h = absurd (omega arith)
   argument-at (x ∷ xs) (l ∷ ls) zero (and p r) h = p
   argument-at (x ∷ xs) (l ∷ ls) (suc i) (and p r) h = argument-at xs ls i r (omega arith)
@@ -260,7 +283,8 @@ pub length-entry : (m r : ℕ) → length (replicate m false ++ replicate r true
 length-entry m r = length-append (replicate m false) (replicate r true) ∙ rw (length-replicate m false, length-replicate r true)
 
 pub entry-taken : (m r i : ℕ) → i < m → getD (replicate m false ++ replicate r true) i false ≡ false
-entry-taken m r i h = List·getD-append (replicate m false) (replicate r true) false i (omega (arith, length-replicate m false)) ∙ getD-replicate-default m i false
+entry-taken m r i h =
+    List·getD-append (replicate m false) (replicate r true) false i (omega (arith, length-replicate m false)) ∙ getD-replicate-default m i false
 
 pub entry-rest : (m r i : ℕ) → m ≤ i → i < m + r → getD (replicate m false ++ replicate r true) i false ≡ true
 entry-rest zero zero i h k = absurd (omega arith)
@@ -385,7 +409,8 @@ module _ {s : Side} where
   stays-qubit vs ws x l h r e = stay-qubit (slot vs x) (slot ws x) l (all-stay-at vs ws x h r) e
 
   -- One slot over a whole block: it ends as on entry, or it held a qubit and ends unbound, if the statements left alone what was classical.
-  pub narrow-cases : (v w : Kind s) → (holdsNoQubit w || sameKind v w) ≡ true → (isClassical v ≡ true → w ≡ v) → (narrow v w ≡ v) ⊎ ((l : Place s) × (v ≡ qubit l) × (narrow v w ≡ unbound))
+  pub narrow-cases : (v w : Kind s) → (holdsNoQubit w || sameKind v w) ≡ true → (isClassical v ≡ true → w ≡ v)
+      → (narrow v w ≡ v) ⊎ ((l : Place s) × (v ≡ qubit l) × (narrow v w ≡ unbound))
   narrow-cases unbound unbound h c = inl refl
   narrow-cases unbound (qubit l) h c = unbound-qubit unbound l refl (kind-sound unbound (qubit l) h)
   narrow-cases unbound (bool b) h c = inl refl
@@ -398,7 +423,8 @@ module _ {s : Side} where
   narrow-cases (ref a) w h c = let e : w ≡ ref a = c refl in rw e (inl refl)
 
   -- so a slot that held a qubit on entry ends with it, or unbound
-  pub narrowed-home : (vs ws : List (Kind s)) (x : ℕ) (l : Place s) → allStay vs ws ≡ true → slot vs x ≡ qubit l → (slot (narrowed vs ws) x ≡ qubit l) ⊎ (slot (narrowed vs ws) x ≡ unbound)
+  pub narrowed-home : (vs ws : List (Kind s)) (x : ℕ) (l : Place s) → allStay vs ws ≡ true → slot vs x ≡ qubit l
+      → (slot (narrowed vs ws) x ≡ qubit l) ⊎ (slot (narrowed vs ws) x ≡ unbound)
   narrowed-home vs ws x l h e = go (decLt x 32)
     where
       go : Dec (x < 32) → (slot (narrowed vs ws) x ≡ qubit l) ⊎ (slot (narrowed vs ws) x ≡ unbound)

@@ -17,15 +17,20 @@ use Rattle.answers.proofs.Laws.{Holds, not-ok, by, holds-bind, holds-then, hold
 use Rattle.rules.specs.Basics.{all, distinct}
 use Rattle.rules.specs.Region.{Region}
 use Rattle.rules.specs.Path.{route}
-use Rattle.rules.specs.Syntax.{Side, device, parameter, Place, param, at, Preparation, Op, Statement, op, if, while, call, Statements, done, _⨾_, Block, block, Function, Program}
+use Rattle.rules.specs.Syntax.{Side, device, parameter, Place, param, at, Preparation, Op}
+use Rattle.rules.specs.Syntax.{Statement, op, if, while, call, Statements, done, _⨾_, Block, block, Function, Program}
 use Rattle.rules.specs.Program.{Scope}
 use Rattle.rules.specs.Commands.{Commands, ε, alloc, release, connect, either, repeat, _then_, commandsAt, needRoute, walk}
-use Rattle.rules.specs.Typing.{Env, Typed, Signature, Context, signature, bodyContext, mainContext}
-use Rattle.rules.specs.Figures.{stored, OpRule, T-Init, T-MInit, T-Free, T-Gate, T-Meas1, T-Meas2, T-MkRef, T-Deref, T-Assign, T-Bool, Arguments, StatementRule, T-Op, T-If, T-While, T-Call, StatementsRule, T-Unit, T-Seq, BlockRule, T-Close, FunctionsRule, T-NoFun, T-Fundecl, Linked, Connects, C-Empty, C-Alloc, C-Free, C-Merge, C-If, C-Loop}
-use Rattle.theory.specs.WellRead.{StatementRead, if-read, while-read, StatementsRead, next-read, BlockRead, block-read, FunctionsRead, none-read, function-read, ProgramRead}
+use Rattle.rules.specs.Typing.{Env, Typed, Signature, Context, signature, entry, bodyContext, signatureOf, mainContext}
+use Rattle.rules.specs.Figures.{stored, OpRule, T-Init, T-MInit, T-Free, T-Gate, T-Meas1, T-Meas2, T-MkRef, T-Deref, T-Assign, T-Bool}
+use Rattle.rules.specs.Figures.{Arguments, StatementRule, T-Op, T-If, T-While, T-Call, StatementsRule, T-Unit, T-Seq, BlockRule, T-Close}
+use Rattle.rules.specs.Figures.{FunctionsRule, T-NoFun, T-Fundecl, Linked, Connects, C-Empty, C-Alloc, C-Free, C-Merge, C-If, C-Loop}
+use Rattle.theory.specs.WellRead.{StatementRead, if-read, while-read, StatementsRead, next-read}
+use Rattle.theory.specs.WellRead.{BlockRead, block-read, FunctionsRead, none-read, function-read, ProgramRead}
 use Rattle.theory.specs.Exact.{Derives, WalkDecides}
 use Rattle.theory.proofs.Base.{true-in-range, getD-set-default}
-use Rattle.theory.proofs.Places.{place-path, numbers, all-at, drop-at, distinct-places, find-place, stored-place, stored-other-place, argument-at, at-at, at-same, AllOf, all-of-at, length-entry, entry-taken, entry-rest}
+use Rattle.theory.proofs.Places.{place-path, numbers, all-at, drop-at, distinct-places, find-place, stored-place, stored-other-place}
+use Rattle.theory.proofs.Places.{argument-at, at-at, at-same, AllOf, all-of-at, length-entry, entry-taken, entry-rest}
 use Rattle.theory.proofs.Linear.{Linear, Ends, AllEnd, linear-statement, linear-start, linear-entry, free-length-statement, function-ends}
 use Rattle.theory.proofs.Routes.{path-route, the-route}
 
@@ -39,7 +44,8 @@ image : {s t : Side} (σ : Place s → Place t) (size n : ℕ) → ((p : Place s
 image σ zero n = inr (λ p h. absurd (omega arith))
 image σ (suc i) n = ⊎-elim (λ c. inl (c .0, omega (arith, c .1), c .2)) (λ c. go c (ℕ-discrete (σ (record { no = i }) .no) n)) (image σ i n)
   where
-    go : ((p : Place _) → p .no < i → σ p .no ≢ n) → Dec (σ (record { no = i }) .no ≡ n) → ((p : Place _) × (p .no < suc i) × (σ p .no ≡ n)) ⊎ ((p : Place _) → p .no < suc i → σ p .no ≢ n)
+    go : ((p : Place _) → p .no < i → σ p .no ≢ n) → Dec (σ (record { no = i }) .no ≡ n)
+        → ((p : Place _) × (p .no < suc i) × (σ p .no ≡ n)) ⊎ ((p : Place _) → p .no < suc i → σ p .no ≢ n)
     go c (yes e) = inl (record { no = i }, omega arith, e)
     go c (no d) = inr (λ p h. last p h (ℕ-discrete (p .no) i))
       where
@@ -67,13 +73,16 @@ module _ (R : Region) (len : ℕ) where
     pub exact : Exact size σ fs M
     pub outside : Outside size σ L M
 
-  same-end : {s : Side} (size : ℕ) (σ : Place s → Place device) (fs L M N : List Bool) → length M ≡ len → length N ≡ len → Exact size σ fs M → Exact size σ fs N → Outside size σ L M → Outside size σ L N
-      → M ≡ N
-  same-end size σ fs L M N e e′ x x′ o o′ =
-      ext-getD false M N (e ∙ sym e′) (λ n h. ⊎-elim (λ c. rw (← (c .2)) (sym (x (c .0) (c .1)) ∙ x′ (c .0) (c .1))) (λ c. o n c ∙ sym (o′ n c)) (image σ size n))
+  same-end : {s : Side} (size : ℕ) (σ : Place s → Place device) (fs L M N : List Bool) → length M ≡ len → length N ≡ len → Exact size σ fs M → Exact size σ fs N
+      → Outside size σ L M → Outside size σ L N → M ≡ N
+  same-end size σ fs L M N e e′ x x′ o o′ = ext-getD false M N (e ∙ sym e′) λ n h. ⊎-elim
+      (λ c. rw (← (c .2)) (sym (x (c .0) (c .1)) ∙ x′ (c .0) (c .1)))
+      (λ c. o n c ∙ sym (o′ n c))
+      (image σ size n)
 
   -- commands one after the other
-  walk-then : {s : Side} (σ : Place s → Place device) (c d : Commands s) (L : List Bool) → walk R L (commandsAt σ (c then d)) ≡ (walk R L (commandsAt σ c) >>= λ M. walk R M (commandsAt σ d))
+  walk-then : {s : Side} (σ : Place s → Place device) (c d : Commands s) (L : List Bool)
+      → walk R L (commandsAt σ (c then d)) ≡ (walk R L (commandsAt σ c) >>= λ M. walk R M (commandsAt σ d))
   unfolding _>>=_
   walk-then σ ε d L = refl
   walk-then σ (alloc q l c) d L = walk-then σ c d (set L (σ l .no) false)
@@ -82,12 +91,13 @@ module _ (R : Region) (len : ℕ) where
       let r : Check (List ℕ) = needRoute (route R (λ i. getD L i false) (σ l .no) (σ k .no)) o in
       ap (λ w. r >> w) (walk-then σ c d L) ∙ sym (then-bind r _ _)
   walk-then σ (either a b c) d L =
-      bind-under (walk R L (commandsAt σ a)) (λ M. ap (λ w. walk R L (commandsAt σ b) >> w) (walk-then σ c d M) ∙ sym (then-bind (walk R L (commandsAt σ b)) _ _))
-      ∙ sym (bind-assoc (walk R L (commandsAt σ a)) _ _)
+      let first : Check (List Bool) = walk R L (commandsAt σ a) in
+      let second : Check (List Bool) = walk R L (commandsAt σ b) in
+      bind-under first (λ M. ap (λ w. second >> w) (walk-then σ c d M) ∙ sym (then-bind second _ _)) ∙ sym (bind-assoc first _ _)
   walk-then σ (repeat a c) d L = ap (λ w. walk R L (commandsAt σ a) >> w) (walk-then σ c d L) ∙ sym (then-bind (walk R L (commandsAt σ a)) _ _)
 
-  connects-then : {s : Side} (σ : Place s → Place device) (c d : Commands s) {L M N : List Bool} → Connects R L (commandsAt σ c) M → Connects R M (commandsAt σ d) N
-      → Connects R L (commandsAt σ (c then d)) N
+  connects-then : {s : Side} (σ : Place s → Place device) (c d : Commands s) {L M N : List Bool} → Connects R L (commandsAt σ c) M
+      → Connects R M (commandsAt σ d) N → Connects R L (commandsAt σ (c then d)) N
   connects-then σ ε d C-Empty q = q
   connects-then σ (alloc r l c) d (C-Alloc h p) q = C-Alloc h (connects-then σ c d p q)
   connects-then σ (release l c) d (C-Free p) q = C-Free (connects-then σ c d p q)
@@ -102,49 +112,70 @@ module _ (R : Region) (len : ℕ) where
   none-does : {s : Side} {size : ℕ} {σ : Place s → Place device} {fs : List Bool} → Effect size σ fs fs ε
   none-does L e x = by (record { connects = C-Empty; long = e; exact = x; outside = λ n h. refl })
 
-  alloc-does : {s : Side} {size : ℕ} {σ : Place s → Place device} (fs : List Bool) (q : Preparation) (l : Place s) → Apart size σ → length fs ≡ size → getD fs (l .no) false ≡ true
-      → Effect size σ fs (set fs (l .no) false) (alloc q (σ l) ε)
+  alloc-does : {s : Side} {size : ℕ} {σ : Place s → Place device} (fs : List Bool) (q : Preparation) (l : Place s) → Apart size σ → length fs ≡ size
+      → getD fs (l .no) false ≡ true → Effect size σ fs (set fs (l .no) false) (alloc q (σ l) ε)
   alloc-does {size = size} {σ = σ} fs q l A z f L e x =
       let r : l .no < length fs = true-in-range fs (l .no) f in
       let r′ : l .no < size = omega arith in
-      by (record { connects = C-Alloc (sym (x l r′) ∙ f) C-Empty; long = length-set L _ false ∙ e; exact = λ p h. go r′ p h (ℕ-discrete (p .no) (l .no)); outside = λ n h. getD-set-other L (σ l .no) n false false (λ c. h l r′ (sym c)) })
+      by (record {
+        connects = C-Alloc (sym (x l r′) ∙ f) C-Empty;
+        long = length-set L _ false ∙ e;
+        exact = λ p h. go r′ p h (ℕ-discrete (p .no) (l .no));
+        outside = λ n h. getD-set-other L (σ l .no) n false false (λ c. h l r′ (sym c));
+      })
     where
-      go : l .no < size → (p : Place _) → p .no < size → Dec (p .no ≡ l .no) → getD (set fs (l .no) false) (p .no) false ≡ getD (set L (σ l .no) false) (σ p .no) false
+      go : l .no < size → (p : Place _) → p .no < size → Dec (p .no ≡ l .no)
+          → getD (set fs (l .no) false) (p .no) false ≡ getD (set L (σ l .no) false) (σ p .no) false
       go r p h (yes c) = rw (place-path p l c) (getD-set-default fs (l .no) false ∙ sym (getD-set-default L (σ l .no) false))
-      go r p h (no c) = getD-set-other fs (l .no) (p .no) false false c ∙ x p h ∙ sym (getD-set-other L (σ l .no) (σ p .no) false false (λ v. c (A .apart p l h r v)))
+      go r p h (no c) =
+          let far : σ p .no ≢ σ l .no = λ v. c (A .apart p l h r v) in
+          getD-set-other fs (l .no) (p .no) false false c ∙ x p h ∙ sym (getD-set-other L (σ l .no) (σ p .no) false false far)
 
   release-does : {s : Side} {size : ℕ} {σ : Place s → Place device} (fs : List Bool) (l : Place s) → Apart size σ → length fs ≡ size → l .no < size
       → Effect size σ fs (set fs (l .no) true) (release (σ l) ε)
   release-does {size = size} {σ = σ} fs l A z r L e x =
       let w : σ l .no < len = A .room l r in
-      by (record { connects = C-Free C-Empty; long = length-set L _ true ∙ e; exact = λ p h. go w p h (ℕ-discrete (p .no) (l .no)); outside = λ n h. getD-set-other L (σ l .no) n true false (λ c. h l r (sym c)) })
+      by (record {
+        connects = C-Free C-Empty;
+        long = length-set L _ true ∙ e;
+        exact = λ p h. go w p h (ℕ-discrete (p .no) (l .no));
+        outside = λ n h. getD-set-other L (σ l .no) n true false (λ c. h l r (sym c));
+      })
     where
-      go : σ l .no < len → (p : Place _) → p .no < size → Dec (p .no ≡ l .no) → getD (set fs (l .no) true) (p .no) false ≡ getD (set L (σ l .no) true) (σ p .no) false
+      go : σ l .no < len → (p : Place _) → p .no < size → Dec (p .no ≡ l .no)
+          → getD (set fs (l .no) true) (p .no) false ≡ getD (set L (σ l .no) true) (σ p .no) false
       go w p h (yes c) = rw (place-path p l c) (getD-set-same fs (l .no) true false (omega arith) ∙ sym (getD-set-same L (σ l .no) true false (omega arith)))
-      go w p h (no c) = getD-set-other fs (l .no) (p .no) true false c ∙ x p h ∙ sym (getD-set-other L (σ l .no) (σ p .no) true false (λ v. c (A .apart p l h r v)))
+      go w p h (no c) =
+          let far : σ p .no ≢ σ l .no = λ v. c (A .apart p l h r v) in
+          getD-set-other fs (l .no) (p .no) true false c ∙ x p h ∙ sym (getD-set-other L (σ l .no) (σ p .no) true false far)
 
   -- a merge passes exactly where a path joins its ends
   route-found : (r : Option (List ℕ)) (o : ℕ) → Holds (λ p. r ≡ some p) (needRoute r o)
   route-found none o = not-ok
   route-found (some p) o = by refl
 
-  linked-route : (L : List Bool) (l k : Place device) (o : ℕ) → Linked R L l k → (p : List ℕ) × (needRoute (route R (λ i. getD L i false) (l .no) (k .no)) o ≡ ok p)
+  linked-route : (L : List Bool) (l k : Place device) (o : ℕ) → Linked R L l k
+      → (p : List ℕ) × (needRoute (route R (λ i. getD L i false) (l .no) (k .no)) o ≡ ok p)
   linked-route L l k o h = let (p, e) = path-route R (λ i. getD L i false) (l .no) (k .no) (h .0) (h .1) in (p, rw e)
 
-  connect-does : {s : Side} {size : ℕ} {σ : Place s → Place device} {fs : List Bool} (o b : ℕ) (l : Place device) (d : ℕ) (k : Place device) → Effect size σ fs fs (connect o b l d k ε)
+  connect-does : {s : Side} {size : ℕ} {σ : Place s → Place device} {fs : List Bool} (o b : ℕ) (l : Place device) (d : ℕ) (k : Place device)
+      → Effect size σ fs fs (connect o b l d k ε)
   connect-does o b l d k L e x = holds-then (route-found (route R (λ i. getD L i false) (l .no) (k .no)) o) λ p r.
-      by (record { connects = C-Merge (p, the-route R (λ i. getD L i false) (l .no) (k .no) p .0 r .path) C-Empty; long = e; exact = x; outside = λ n h. refl })
+      let joined : Linked R L l k = (p, the-route R (λ i. getD L i false) (l .no) (k .no) p .0 r .path) in
+      by (record { connects = C-Merge joined C-Empty; long = e; exact = x; outside = λ n h. refl })
 
   -- a callee's commands take its places from those on entry to those at its end, wherever the places are
   abbrev Does : Signature → Type 0
-  Does g = (τ : Place parameter → Place device) → Apart (g .k) τ → Effect (g .k) τ (replicate (g .m) false ++ replicate (g .k - g .m) true) (g .ends .free) (commandsAt τ (g .commands))
+  Does g = (τ : Place parameter → Place device) → Apart (g .k) τ
+      → Effect (g .k) τ (replicate (g .m) false ++ replicate (g .k - g .m) true) (g .ends .free) (commandsAt τ (g .commands))
 
   abbrev AllDo : List Signature → Type 0
   AllDo gs = AllOf Does gs
 
   -- a body with `size` places, these at σ
   module _ {s : Side} (C : Context s) (size : ℕ) (σ : Place s → Place device) (A : Apart size σ) where
-    op-does : {Γ Δ : Env s} {o : ℕ} {a : Op s} {c : Commands s} → OpRule C Γ o a Δ c → Linear C Γ → length (Γ .free) ≡ size → Effect size σ (Γ .free) (Δ .free) (commandsAt σ c)
+    op-does : {Γ Δ : Env s} {o : ℕ} {a : Op s} {c : Commands s} → OpRule C Γ o a Δ c → Linear C Γ → length (Γ .free) ≡ size
+        → Effect size σ (Γ .free) (Δ .free) (commandsAt σ c)
     op-does {Γ = Γ} (T-Init {l = l} p q r) I z = alloc-does (Γ .free) _ l A z r
     op-does {Γ = Γ} (T-MInit {l = l} p q r) I z = alloc-does (Γ .free) _ l A z r
     op-does {Γ = Γ} (T-Free {x = x} {l = l} p) I z = let h = I .sized l (I .inside x l p) in release-does (Γ .free) l A z (omega arith)
@@ -156,71 +187,96 @@ module _ (R : Region) (len : ℕ) where
     op-does (T-Assign p q) I z = none-does
     op-does (T-Bool p) I z = none-does
 
-    call-does : (Γ : Env s) (g : Signature) (ls : List (Place s)) (xs : List ℕ) → Ends g → Does g → length ls ≡ g .k → length xs ≡ g .m → all (C .inside) ls ≡ true
-        → distinct (numbers ls) ≡ true → Arguments Γ xs ls → all (λ l. getD (Γ .free) (l .no) false) (drop (length xs) ls) ≡ true → Linear C Γ → length (Γ .free) ≡ size
+    call-does : (Γ : Env s) (g : Signature) (ls : List (Place s)) (xs : List ℕ) → Ends g → Does g → length ls ≡ g .k → length xs ≡ g .m
+        → all (C .inside) ls ≡ true → distinct (numbers ls) ≡ true
+        → Arguments Γ xs ls → all (λ l. getD (Γ .free) (l .no) false) (drop (length xs) ls) ≡ true → Linear C Γ → length (Γ .free) ≡ size
         → Effect size σ (Γ .free) (stored (g .ends .free) (numbers ls) (Γ .free)) (commandsAt σ (commandsAt (λ p. at ls (p .no)) (g .commands)))
     call-does Γ g ls xs N D k m ins u a w I z L e x =
-        rw (at-at σ ls (g .commands))
-        (holds-map (λ M P. record { connects = P .connects; long = P .long; exact = λ r h. exact M P r h (find-place ls r); outside = λ n h. P .outside n (λ i j. h (at ls (i .no)) (in-range (i .no) j)) })
-        (D τ apart L e (λ i h. start (i .no) h (decLt (i .no) (length xs)))))
+        rw (at-at σ ls (g .commands)) (holds-map after (D τ apart L e (λ i h. start (i .no) h (decLt (i .no) (length xs)))))
       where
         τ : Place parameter → Place device
         τ p = σ (at ls (p .no))
 
+        left : List Bool
+        left = stored (g .ends .free) (numbers ls) (Γ .free)
+
         in-range : (i : ℕ) → i < g .k → at ls i .no < size
         in-range i h = let r = I .sized (at ls i) (all-at (C .inside) ls i ins (omega arith)) in omega arith
 
-        apart : Apart (g .k) τ
-        apart = record {
-          apart = λ i j h h′ r. distinct-places ls (i .no) (j .no) u (omega arith) (omega arith) (A .apart (at ls (i .no)) (at ls (j .no)) (in-range (i .no) h) (in-range (j .no) h′) r);
-          room = λ i h. A .room (at ls (i .no)) (in-range (i .no) h);
-        }
+        same : (i j : ℕ) → i < g .k → j < g .k → σ (at ls i) .no ≡ σ (at ls j) .no → i ≡ j
+        same i j h h′ r = distinct-places ls i j u (omega arith) (omega arith) (A .apart (at ls i) (at ls j) (in-range i h) (in-range j h′) r)
 
-        start : (i : ℕ) → i < g .k → Dec (i < length xs) → getD (replicate (g .m) false ++ replicate (g .k - g .m) true) i false ≡ getD L (σ (at ls i) .no) false
+        apart : Apart (g .k) τ
+        apart = record { apart = λ i j h h′ r. same (i .no) (j .no) h h′ r; room = λ i h. A .room (at ls (i .no)) (in-range (i .no) h) }
+
+        start : (i : ℕ) → i < g .k → Dec (i < length xs)
+            → getD (replicate (g .m) false ++ replicate (g .k - g .m) true) i false ≡ getD L (σ (at ls i) .no) false
         start i h (yes d) = entry-taken (g .m) (g .k - g .m) i (omega arith) ∙ sym (I .taken _ (at ls i) (argument-at xs ls i a d)) ∙ x (at ls i) (in-range i h)
         start i h (no d) =
-            entry-rest (g .m) (g .k - g .m) i (omega arith) (omega arith) ∙ sym (drop-at (λ l. getD (Γ .free) (l .no) false) (length xs) ls i w (omega arith) (omega arith))
-            ∙ x (at ls i) (in-range i h)
+            entry-rest (g .m) (g .k - g .m) i (omega arith) (omega arith)
+            ∙ sym (drop-at (λ l. getD (Γ .free) (l .no) false) (length xs) ls i w (omega arith) (omega arith)) ∙ x (at ls i) (in-range i h)
 
         exact : (M : List Bool) → After (g .k) τ (g .ends .free) L (commandsAt τ (g .commands)) M → (r : Place s) → r .no < size
             → ((i : ℕ) × (i < length ls) × (at ls i ≡ r)) ⊎ ((i : ℕ) → i < length ls → at ls i .no ≢ r .no)
-            → getD (stored (g .ends .free) (numbers ls) (Γ .free)) (r .no) false ≡ getD M (σ r .no) false
+            → getD left (r .no) false ≡ getD M (σ r .no) false
         exact M P r h (inl c) =
             let b : c .0 < g .k = omega (arith, c .1) in
             let one = stored-place (g .ends .free) ls (Γ .free) (c .0) u (N .free-size ∙ sym k) (c .1) (omega (arith, in-range (c .0) b)) in
-            subst (λ (t : Place s). getD (stored (g .ends .free) (numbers ls) (Γ .free)) (t .no) false ≡ getD M (σ t .no) false) (c .2) (one ∙ P .exact (param (c .0)) b)
+            subst (λ (t : Place s). getD left (t .no) false ≡ getD M (σ t .no) false) (c .2) (one ∙ P .exact (param (c .0)) b)
         exact M P r h (inr c) =
             stored-other-place (g .ends .free) ls (Γ .free) r c ∙ x r h
             ∙ sym (P .outside (σ r .no) (λ i j t. c (i .no) (omega arith) (A .apart (at ls (i .no)) r (in-range (i .no) j) h t)))
 
-    then-does : (fs : List Bool) {gs hs : List Bool} (c d : Commands s) → Effect size σ fs gs (commandsAt σ c) → Effect size σ gs hs (commandsAt σ d) → Effect size σ fs hs (commandsAt σ (c then d))
-    then-does fs c d f g L e x =
-        rw (walk-then σ c d L)
-        (holds-bind (f L e x) λ M P.
-        holds-map (λ N Q. record { connects = connects-then σ c d (P .connects) (Q .connects); long = Q .long; exact = Q .exact; outside = λ n h. Q .outside n h ∙ P .outside n h }) (g M (P .long) (P .exact)))
+        after : (M : List Bool) → After (g .k) τ (g .ends .free) L (commandsAt τ (g .commands)) M → After size σ left L (commandsAt τ (g .commands)) M
+        after M P = record {
+          connects = P .connects;
+          long = P .long;
+          exact = λ r h. exact M P r h (find-place ls r);
+          outside = λ n h. P .outside n (λ i j. h (at ls (i .no)) (in-range (i .no) j));
+        }
 
-    either-does : (fs : List Bool) {gs : List Bool} (c d : Commands s) → Effect size σ fs gs (commandsAt σ c) → Effect size σ fs gs (commandsAt σ d) → Effect size σ fs gs (commandsAt σ (either c d ε))
+    then-does : (fs : List Bool) {gs hs : List Bool} (c d : Commands s) → Effect size σ fs gs (commandsAt σ c) → Effect size σ gs hs (commandsAt σ d)
+        → Effect size σ fs hs (commandsAt σ (c then d))
+    then-does fs {gs = gs} {hs = hs} c d f g L e x =
+        rw (walk-then σ c d L) (holds-bind (f L e x) λ M P. holds-map (λ N Q. both M N P Q) (g M (P .long) (P .exact)))
+      where
+        both : (M N : List Bool) → After size σ gs L (commandsAt σ c) M → After size σ hs M (commandsAt σ d) N → After size σ hs L (commandsAt σ (c then d)) N
+        both M N P Q = record {
+          connects = connects-then σ c d (P .connects) (Q .connects);
+          long = Q .long;
+          exact = Q .exact;
+          outside = λ n h. Q .outside n h ∙ P .outside n h;
+        }
+
+    either-does : (fs : List Bool) {gs : List Bool} (c d : Commands s) → Effect size σ fs gs (commandsAt σ c) → Effect size σ fs gs (commandsAt σ d)
+        → Effect size σ fs gs (commandsAt σ (either c d ε))
     either-does fs {gs = gs} c d f g L e x = holds-bind (f L e x) λ M P. holds-then (g L e x) λ N Q.
         let same : N ≡ M = same-end size σ gs L N M (Q .long) (P .long) (Q .exact) (P .exact) (Q .outside) (P .outside) in
-        by (record { connects = C-If (P .connects) (subst (λ (K : List Bool). Connects R L (commandsAt σ d) K) same (Q .connects)) C-Empty; long = P .long; exact = P .exact; outside = P .outside })
+        let second : Connects R L (commandsAt σ d) M = subst (λ (K : List Bool). Connects R L (commandsAt σ d) K) same (Q .connects) in
+        by (record { connects = C-If (P .connects) second C-Empty; long = P .long; exact = P .exact; outside = P .outside })
 
     repeat-does : {fs : List Bool} (c : Commands s) → Effect size σ fs fs (commandsAt σ c) → Effect size σ fs fs (commandsAt σ (repeat c ε))
     repeat-does {fs = fs} c f L e x = holds-then (f L e x) λ M P.
         let same : M ≡ L = same-end size σ fs L M L (P .long) e (P .exact) x (P .outside) (λ n h. refl) in
-        by (record { connects = C-Loop (subst (λ (K : List Bool). Connects R L (commandsAt σ c) K) same (P .connects)) C-Empty; long = e; exact = x; outside = λ n h. refl })
+        let again : Connects R L (commandsAt σ c) L = subst (λ (K : List Bool). Connects R L (commandsAt σ c) K) same (P .connects) in
+        by (record { connects = C-Loop again C-Empty; long = e; exact = x; outside = λ n h. refl })
 
     module _ (S : Scope) (N : AllEnd (C .functions)) (H : AllDo (C .functions)) where
       mutual
-        statement-does : (t : Statement s) {Γ Δ : Env s} {c : Commands s} {d o p : ℕ} → StatementRule C Γ t Δ c → StatementRead S d o p t → Linear C Γ → length (Γ .free) ≡ size
-            → Effect size σ (Γ .free) (Δ .free) (commandsAt σ c)
+        statement-does : (t : Statement s) {Γ Δ : Env s} {c : Commands s} {d o p : ℕ} → StatementRule C Γ t Δ c → StatementRead S d o p t → Linear C Γ
+            → length (Γ .free) ≡ size → Effect size σ (Γ .free) (Δ .free) (commandsAt σ c)
         statement-does (op i a) (T-Op j) r I z = op-does j I z
-        statement-does (if i y b b′) (T-If {Γ = Γ} {c = c} {c′ = c′} e j k) (if-read h r r′) I z = either-does (Γ .free) c c′ (block-does b j r I z) (block-does b′ k r′ I z)
+        statement-does (if i y b b′) (T-If {Γ = Γ} {c = c} {c′ = c′} e j k) (if-read h r r′) I z =
+            either-does (Γ .free) c c′ (block-does b j r I z) (block-does b′ k r′ I z)
         statement-does (while i y b) (T-While {c = c} e j) (while-read h r) I z = repeat-does c (block-does b j r I z)
         statement-does (call i f ls xs) (T-Call {Γ = Γ} J) r I z =
-            call-does Γ (signature (C .functions) f) ls xs (all-of-at Ends (C .functions) f N (J .earlier)) (all-of-at Does (C .functions) f H (J .earlier)) (J .locations) (J .slots) (J .inside) (J .different) (J .arguments) (J .others-free) I z
+            let g : Signature = signature (C .functions) f in
+            let ends : Ends g = all-of-at Ends (C .functions) f N (J .earlier) in
+            let does : Does g = all-of-at Does (C .functions) f H (J .earlier) in
+            call-does Γ g ls xs ends does (J .locations) (J .slots) (J .inside) (J .different) (J .arguments) (J .others-free) I z
 
-        statements-do : (ts : Statements s) {Γ Δ : Env s} {c : Commands s} {d o p : ℕ} → StatementsRule C Γ ts Δ c → StatementsRead S d o p ts → Linear C Γ → length (Γ .free) ≡ size
-            → Effect size σ (Γ .free) (Δ .free) (commandsAt σ c)
+        statements-do : (ts : Statements s) {Γ Δ : Env s} {c : Commands s} {d o p : ℕ} → StatementsRule C Γ ts Δ c → StatementsRead S d o p ts → Linear C Γ
+            → length (Γ .free) ≡ size → Effect size σ (Γ .free) (Δ .free) (commandsAt σ c)
         statements-do done T-Unit r I z = none-does
         statements-do (t ⨾ ts) (T-Seq {Γ = Γ} {c = c} {d = d} j k) (next-read r r′) I z =
             then-does (Γ .free) c d (statement-does t j r I z) (statements-do ts k r′ (linear-statement C S t j r N I) (free-length-statement C t j ∙ z))
@@ -230,10 +286,16 @@ module _ (R : Region) (len : ℕ) where
         block-does (block i ts) (T-Close j e) (block-read r) I z = statements-do ts j r I z
 
   -- functions one after the other
-  functions-do : (fs : List Function) {earlier : List Function} {o q : ℕ} {gs hs : List Signature} → FunctionsRead earlier o fs q → FunctionsRule fs gs hs → AllEnd gs → AllDo gs → AllEnd hs × AllDo hs
+  functions-do : (fs : List Function) {earlier : List Function} {o q : ℕ} {gs hs : List Signature} → FunctionsRead earlier o fs q → FunctionsRule fs gs hs
+      → AllEnd gs → AllDo gs → AllEnd hs × AllDo hs
   functions-do [] none-read T-NoFun N H = (N, H)
   functions-do (g ∷ fs) {gs = gs} (function-read k m h b r) (T-Fundecl {d = d} j w) N H =
-      functions-do fs r w (function-ends gs g _ h m N b j, N) ((λ τ A. block-does (bodyContext gs g) (g .k) τ A _ N H (g .body) j b (linear-entry gs g h (omega arith)) (length-entry (g .m) (g .k - g .m) ∙ omega arith)), H)
+      functions-do fs r w (function-ends gs g _ h m N b j, N) (does, H)
+    where
+      does : Does (signatureOf g d)
+      does τ A =
+          let long : length (entry g .free) ≡ g .k = length-entry (g .m) (g .k - g .m) ∙ omega arith in
+          block-does (bodyContext gs g) (g .k) τ A _ N H (g .body) j b (linear-entry gs g h (omega arith)) long
 
   connects-walk : (L : List Bool) (c : Commands device) {M : List Bool} → Connects R L c M → walk R L c ≡ ok M
   unfolding _>>=_ _>>_
@@ -245,17 +307,25 @@ module _ (R : Region) (len : ℕ) where
   connects-walk L (repeat a c) (C-Loop h p) = rw (connects-walk L a h) (connects-walk L c p)
 
 -- main, its places at themselves, all region locations free
-main-does : (R : Region) (size : ℕ) (p : Program) (t : Typed device) → ProgramRead size p → Derives (R .owned) p t
-    → Effect R (length (R .owned)) (length (R .owned)) (λ (l : Place device). l) (R .owned) (t .env .free) (commandsAt (λ l. l) (t .commands))
-main-does R size p t W D =
-    let H = functions-do R (length (R .owned)) (p .functions) (W .functions) (D .functions) tt tt in
-    block-does R (length (R .owned)) (mainContext (R .owned) (D .signatures)) (length (R .owned)) (λ l. l) (record { apart = λ q r h k e. e; room = λ q h. h }) _ (H .0) (H .1) (p .main) (D .main) (W .main)
-    (linear-start (R .owned) (D .signatures)) refl
+module _ (R : Region) (size : ℕ) (p : Program) (t : Typed device) (W : ProgramRead size p) (D : Derives (R .owned) p t) where
+  abbrev len : ℕ
+  len = length (R .owned)
+
+  abbrev MainAfter : Commands device → List Bool → Type 0
+  MainAfter c M = After R len len (λ (l : Place device). l) (t .env .free) (R .owned) c M
+
+  main-effect : Effect R len len (λ (l : Place device). l) (R .owned) (t .env .free) (commandsAt (λ l. l) (t .commands))
+  main-effect =
+      let C : Context device = mainContext (R .owned) (D .signatures) in
+      let H = functions-do R len (p .functions) (W .functions) (D .functions) tt tt in
+      let themselves : Apart R len len (λ (l : Place device). l) = record { apart = λ q r h k e. e; room = λ q h. h } in
+      block-does R len C len (λ l. l) themselves _ (H .0) (H .1) (p .main) (D .main) (W .main) (linear-start (R .owned) (D .signatures)) refl
+
+  main-does : Holds (MainAfter (t .commands)) (walk R (R .owned) (t .commands))
+  main-does =
+      subst (λ (c : Commands device). Holds (MainAfter c) (walk R (R .owned) c)) (at-same (t .commands)) (main-effect (R .owned) refl (λ q h. refl))
 
 -- For a typed program the walk that tests only merges decides Figure 12.
 pub walk-decides : WalkDecides
-walk-decides R size p t L W D = ((λ e. holds-at does e .connects), connects-walk R (length (R .owned)) (R .owned) (t .commands))
-  where
-    does : Holds (After R (length (R .owned)) (length (R .owned)) (λ (l : Place device). l) (t .env .free) (R .owned) (t .commands)) (walk R (R .owned) (t .commands))
-    does = subst (λ (c : Commands device). Holds (After R (length (R .owned)) (length (R .owned)) (λ (l : Place device). l) (t .env .free) (R .owned) c) (walk R (R .owned) c))
-        (at-same (t .commands)) (main-does R size p t W D (R .owned) refl (λ q h. refl))
+walk-decides R size p t L W D =
+    ((λ e. holds-at (main-does R size p t W D) e .connects), connects-walk R (length (R .owned)) (R .owned) (t .commands))

@@ -16,14 +16,20 @@ use Rattle.answers.specs.Check.{Check, ok, refused}
 use Rattle.answers.proofs.Laws.{Holds, by, holds-bind, holds-then, holds-need, holds-map, holds-any}
 use Rattle.rules.specs.Basics.{all, upTo, without, setAll, distinct}
 use Rattle.rules.specs.Region.{Region, owns, freeIn}
-use Rattle.rules.specs.Syntax.{Side, device, parameter, Place, at, Op, init, free, gate, measure, merge, newRef, getRef, setRef, constant, Statement, op, if, while, call, Statements, done, _⨾_, Block, block, Function, function, Program}
-use Rattle.rules.specs.Slots.{Slot, unbound, qubit, bool, ref, slot, holdsNoQubit, isQubitAt, Act, quiet, takes, gives, merges, Done, perform, argumentsAt, entered, kept}
-use Rattle.rules.specs.Machine.{Frame, Actual, themselves, locations, locate, Item, run, return, Job, statementsBefore, blockBefore, fresh, Move, floor, move, stepped, stepItems, step}
+use Rattle.rules.specs.Syntax.{Side, device, parameter, Place, at, Op, init, free, gate, measure, merge, newRef, getRef, setRef, constant}
+use Rattle.rules.specs.Syntax.{Statement, op, if, while, call, Statements, done, _⨾_, Block, block, Function, function, Program}
+use Rattle.rules.specs.Slots.{Slot, unbound, qubit, bool, ref, slot, holdsNoQubit, isQubitAt}
+use Rattle.rules.specs.Slots.{Act, quiet, takes, gives, merges, Done, perform, argumentsAt, entered, kept}
+use Rattle.rules.specs.Machine.{Frame, Actual, themselves, locations, locate, Item, run, return}
+use Rattle.rules.specs.Machine.{Job, statementsBefore, blockBefore, fresh, Move, floor, move, Stepped, stepped, stepItems, step}
 use Rattle.rules.specs.Run.{written}
 use Rattle.rules.specs.Program.{Scope}
-use Rattle.theory.specs.WellRead.{OpRead, CallRead, StatementRead, op-read, if-read, while-read, call-read, StatementsRead, next-read, BlockRead, block-read, FunctionsRead, function-read, ProgramRead}
-use Rattle.theory.proofs.Base.{eqb-true, and-left, and-right, chosen-has, true-in-range, getD-set-cases, getD-set-stays, getD-set-default, getD-replicate-default}
-use Rattle.theory.proofs.Places.{find, place-path, numbers, drop-at, at-map, distinct-places, unbound-qubit, same-qubit, old-qubit, qubit-held, Once, once-held, entered-qubit}
+use Rattle.theory.specs.WellRead.{OpRead, CallRead, StatementRead, op-read, if-read, while-read, call-read}
+use Rattle.theory.specs.WellRead.{StatementsRead, next-read, BlockRead, block-read, FunctionsRead, function-read, ProgramRead}
+use Rattle.theory.proofs.Base.{eqb-true, and-left, and-right, chosen-has, true-in-range}
+use Rattle.theory.proofs.Base.{getD-set-stays, getD-set-default, getD-replicate-default}
+use Rattle.theory.proofs.Places.{find, place-path, numbers, drop-at, at-map, distinct-places, unbound-qubit, old-qubit, new-qubit, qubit-held}
+use Rattle.theory.proofs.Places.{Once, once-held, entered-qubit}
 
 -- 1. Places in scope, as reading gives them: a place named is below the body's number of places, a call names as many as its callee has and no more
 -- arguments than that.
@@ -73,7 +79,8 @@ abbrev Within : Scope → List Function → Type 0
 Within S fs = (f : ℕ) → f < length (S .earlier) → function (S .earlier) f ≡ function fs f
 
 module _ (fs : List Function) (few : (f : ℕ) → function fs f .m ≤ function fs f .k) where
-  scoped-call : {s : Side} (S : Scope) → Within S fs → (f : ℕ) (ls : List (Place s)) (xs : List ℕ) → CallRead S f ls xs → ScopedCall (function fs f .k) (S .places) ls xs
+  scoped-call : {s : Side} (S : Scope) → Within S fs → (f : ℕ) (ls : List (Place s)) (xs : List ℕ) → CallRead S f ls xs
+      → ScopedCall (function fs f .k) (S .places) ls xs
   scoped-call S w f ls xs c =
       let same = w f (c .earlier) in
       let k : length ls ≡ function fs f .k = c .locations ∙ ap (λ (g : Function). g .k) same in
@@ -99,10 +106,14 @@ module _ (fs : List Function) (few : (f : ℕ) → function fs f .m ≤ function
 abbrev Good : List Function → Function → Type 0
 Good fs g = ScopedBlock fs (g .k) (g .body)
 
+-- each function of the row that is read in the scope of those before it has P
+abbrev EachRead : (Function → Type 0) → List Function → Type 0
+EachRead P fs = (hs is : List Function) (g : Function) (o p : ℕ) → fs ≡ hs ++ (g ∷ is) → g .m ≤ g .k
+    → BlockRead (record { places = g .k; earlier = hs }) 8 o p (g .body) → P g
+
 -- what each function from the first of gs on has, the whole row has from there on
 from-here : (P : Function → Type 0) → P (record { k = 0; m = 0; body = block 0 done }) → (gs fs : List Function) {o q : ℕ} → FunctionsRead fs o gs q
-    → ((hs is : List Function) (g : Function) (o p : ℕ) → fs ++ gs ≡ hs ++ (g ∷ is) → g .m ≤ g .k → BlockRead (record { places = g .k; earlier = hs }) 8 o p (g .body) → P g)
-    → (f : ℕ) → length fs ≤ f → P (function (fs ++ gs) f)
+    → EachRead P (fs ++ gs) → (f : ℕ) → length fs ≤ f → P (function (fs ++ gs) f)
 from-here P z [] fs r each f h = subst P (sym (ap (λ (hs : List Function). function hs f) (append-nil fs) ∙ List·getD-eq-default fs _ h)) z
 from-here P z (g ∷ gs) fs (function-read {o = o} {p = p} a b c r rest) each f h =
     go (ℕ-discrete f (length fs)) (λ h′. from-here P z gs (fs ++ (g ∷ [])) rest (λ hs is k o′ p′ e. each hs is k o′ p′ (sym (append-snoc fs g gs) ∙ e)) f h′)
@@ -176,7 +187,8 @@ pub record Waits (j : ℕ) (occ : List ℕ) (k : ℕ) (ls : List (Place device))
 -- the items to come: statements in scope of the body on top, then its return to a caller that waits, and so on
 pub data Stack (fs : List Function) (j : ℕ) (occ : List ℕ) : (s : Side) → Actual s → ℕ → List Frame → List Item → Type 0 where
   empty : {s : Side} {σ : Actual s} {n : ℕ} → Stack fs j occ s σ n [] []
-  todo : {s : Side} {σ : Actual s} {n : ℕ} {t : Statement s} {φs : List Frame} {is : List Item} → Scoped fs n t → Stack fs j occ s σ n φs is → Stack fs j occ s σ n φs (run σ t ∷ is)
+  todo : {s : Side} {σ : Actual s} {n : ℕ} {t : Statement s} {φs : List Frame} {is : List Item} → Scoped fs n t → Stack fs j occ s σ n φs is
+      → Stack fs j occ s σ n φs (run σ t ∷ is)
   back : {ls : List (Place device)} {k o : ℕ} {χ : Frame} {xs : List ℕ} {φs : List Frame} {is : List Item}
       → (w : Waits j occ k ls χ xs) → Stack fs j occ (w .s) (w .σ) (w .size) φs is → Stack fs j occ parameter (locations ls) k (χ ∷ φs) (return o ls xs ∷ is)
 
@@ -205,7 +217,8 @@ module _ {j : ℕ} where
   tidy-keep : {occ occ′ : List ℕ} {s : Side} {σ : Actual s} {n : ℕ} {φ : Frame} → Keeps j occ occ′ → Tidy j occ σ n φ → Tidy j occ′ σ n φ
   tidy-keep K T = record { held = T .held; taken = λ x l h. K (l .no) (T .taken x l h); once = T .once }
 
-  waits-keep : {occ occ′ : List ℕ} {k : ℕ} {ls : List (Place device)} {χ : Frame} {xs : List ℕ} → Keeps j occ occ′ → Waits j occ k ls χ xs → Waits j occ′ k ls χ xs
+  waits-keep : {occ occ′ : List ℕ} {k : ℕ} {ls : List (Place device)} {χ : Frame} {xs : List ℕ} → Keeps j occ occ′ → Waits j occ k ls χ xs
+      → Waits j occ′ k ls χ xs
   waits-keep K w = record {
     s = w .s;
     σ = w .σ;
@@ -220,7 +233,8 @@ module _ {j : ℕ} where
   }
 
   -- the callee on top gives back one of its places
-  waits-give : {occ : List ℕ} {k : ℕ} {ls : List (Place device)} {χ : Frame} {xs : List ℕ} (i : ℕ) → i < k → Waits j occ k ls χ xs → Waits j (set occ (at ls i .no) 0) k ls χ xs
+  waits-give : {occ : List ℕ} {k : ℕ} {ls : List (Place device)} {χ : Frame} {xs : List ℕ} (i : ℕ) → i < k → Waits j occ k ls χ xs
+      → Waits j (set occ (at ls i .no) 0) k ls χ xs
   waits-give {occ = occ} {ls = ls} i r w = record {
     s = w .s;
     σ = w .σ;
@@ -235,7 +249,8 @@ module _ {j : ℕ} where
   }
 
   module _ {fs : List Function} where
-    stack-keep : {occ occ′ : List ℕ} {s : Side} {σ : Actual s} {n : ℕ} {φs : List Frame} {is : List Item} → Keeps j occ occ′ → Stack fs j occ s σ n φs is → Stack fs j occ′ s σ n φs is
+    stack-keep : {occ occ′ : List ℕ} {s : Side} {σ : Actual s} {n : ℕ} {φs : List Frame} {is : List Item} → Keeps j occ occ′ → Stack fs j occ s σ n φs is
+        → Stack fs j occ′ s σ n φs is
     unfolding waits-keep
     stack-keep K empty = empty
     stack-keep K (todo c r) = todo c (stack-keep K r)
@@ -276,14 +291,14 @@ module _ {j : ℕ} {s : Side} {σ : Actual s} {size : ℕ} where
   tidy-take : {occ : List ℕ} {φ : Frame} (x : ℕ) (p : Place s) → 1 ≤ j → p .no < size → getD occ (locate σ p .no) 0 ≡ 0 → locate σ p .no < length occ
       → Tidy j occ σ size φ → Tidy j (set occ (locate σ p .no) j) σ size (set φ x (qubit (locate σ p)))
   tidy-take {occ = occ} {φ = φ} x p pos r f w T = record {
-    held = λ y k h. ⊎-elim (λ c. (p, r, same y k c h)) (λ c. T .held y k (sym c ∙ h)) (getD-set-cases φ x y (qubit (locate σ p)) unbound);
-    taken = λ y k h. ⊎-elim (λ c. rw (← (same y k c h)) (getD-set-same occ (locate σ p .no) j 0 w)) (λ c. keeps-take j occ (locate σ p .no) (k .no) (T .taken y k (sym c ∙ h)))
-        (getD-set-cases φ x y (qubit (locate σ p)) unbound);
+    held = λ y k h. ⊎-elim (λ e. (p, r, e)) (T .held y k) (new-qubit φ x y (locate σ p) k h);
+    taken = λ y k h. is-taken y k (new-qubit φ x y (locate σ p) k h);
     once = once-held φ x (locate σ p) (T .once) not-there;
   }
     where
-      same : (y : ℕ) (k : Place device) → (y ≡ x) × (slot (set φ x (qubit (locate σ p))) y ≡ qubit (locate σ p)) → slot (set φ x (qubit (locate σ p))) y ≡ qubit k → locate σ p ≡ k
-      same y k c h = same-qubit _ (locate σ p) k (c .1) h
+      is-taken : (y : ℕ) (k : Place device) → (locate σ p ≡ k) ⊎ (slot φ y ≡ qubit k) → getD (set occ (locate σ p .no) j) (k .no) 0 ≡ j
+      is-taken y k (inl e) = rw (← e) (getD-set-same occ (locate σ p .no) j 0 w)
+      is-taken y k (inr o) = keeps-take j occ (locate σ p .no) (k .no) (T .taken y k o)
 
       not-there : (y : ℕ) (k : Place device) → slot φ y ≡ qubit k → k .no ≢ locate σ p .no
       not-there y k h e =
@@ -292,7 +307,8 @@ module _ {j : ℕ} {s : Side} {σ : Actual s} {size : ℕ} where
           omega arith
 
   -- the other qubits are on other locations
-  tidy-give : {occ : List ℕ} {φ : Frame} (x : ℕ) (l : Place device) → slot φ x ≡ qubit l → Tidy j occ σ size φ → Tidy j (set occ (l .no) 0) σ size (set φ x unbound)
+  tidy-give : {occ : List ℕ} {φ : Frame} (x : ℕ) (l : Place device) → slot φ x ≡ qubit l → Tidy j occ σ size φ
+      → Tidy j (set occ (l .no) 0) σ size (set φ x unbound)
   tidy-give {occ = occ} {φ = φ} x l p T = record {
     held = λ y k h. T .held y k (old y k h);
     taken = λ y k h. getD-set-other occ (l .no) (k .no) 0 0 (λ e. other y k h (T .once y x k l (old y k h) p e)) ∙ T .taken y k (old y k h);
@@ -310,13 +326,13 @@ free-there : (R : Region) (occ : List ℕ) (l : ℕ) → length (R .owned) ≡ l
 free-there R occ l e h = (eqb-true (getD occ l 0) 0 (and-right (owns R l) _ h), omega (arith, true-in-range (R .owned) l (and-left (owns R l) _ h)))
 
 -- 6. The moves of job j
-module _ (R : Region) (fs : List Function) (bodies : (f : ℕ) → ScopedBlock fs (function fs f .k) (function fs f .body)) (v : Bool) (j : ℕ) (pos : 1 ≤ j) (occ : List ℕ)
-    (fits : length (R .owned) ≡ length occ) where
+module _ (R : Region) (fs : List Function) (bodies : (f : ℕ) → ScopedBlock fs (function fs f .k) (function fs f .body)) (v : Bool) (j : ℕ) (pos : 1 ≤ j)
+    (occ : List ℕ) (fits : length (R .owned) ≡ length occ) where
   abbrev OpNeat : {s : Side} → Actual s → ℕ → List Frame → List Item → Done device Bool → Type 0
   OpNeat {s} σ n φs is d = Counts j occ (d .act) × Tidy j (written j (d .act) occ) σ n (d .slots) × Stack fs j (written j (d .act) occ) s σ n φs is
 
-  neat-op : {s : Side} {σ : Actual s} {n : ℕ} {φ : Frame} {φs : List Frame} {is : List Item} (o : ℕ) (a : Op s) → ScopedOp n a → Tidy j occ σ n φ → Stack fs j occ s σ n φs is
-      → Holds (OpNeat σ n φs is) (perform (floor R fs v (freeIn R occ) σ) o φ a)
+  neat-op : {s : Side} {σ : Actual s} {n : ℕ} {φ : Frame} {φs : List Frame} {is : List Item} (o : ℕ) (a : Op s) → ScopedOp n a → Tidy j occ σ n φ
+      → Stack fs j occ s σ n φs is → Holds (OpNeat σ n φs is) (perform (floor R fs v (freeIn R occ) σ) o φ a)
   neat-op {σ = σ} o (init q x l) c T S =
       holds-then (holds-any _) λ _ _. holds-then (holds-any _) λ _ _. holds-then (holds-need (freeIn R occ (locate σ l .no)) 14 o) λ _ f.
       let g = free-there R occ (locate σ l .no) fits f in
@@ -327,7 +343,8 @@ module _ (R : Region) (fs : List Function) (bodies : (f : ℕ) → ScopedBlock f
   neat-op o (gate g x) c T S = holds-bind (holds-any _) λ _ _. by (tt, T, S)
   neat-op o (measure y b x) c T S = holds-then (holds-any _) λ _ _. holds-bind (holds-any _) λ _ _. by (tt, tidy-store y (bool v) refl T, S)
   neat-op o (merge y b x e z) c T S =
-      holds-then (holds-any _) λ _ _. holds-bind (holds-any _) λ _ _. holds-bind (holds-any _) λ _ _. holds-then (holds-any _) λ _ _. by (tt, tidy-store y (bool v) refl T, S)
+      holds-then (holds-any _) λ _ _. holds-bind (holds-any _) λ _ _. holds-bind (holds-any _) λ _ _. holds-then (holds-any _) λ _ _.
+      by (tt, tidy-store y (bool v) refl T, S)
   neat-op o (newRef r y) c T S = holds-then (holds-any _) λ _ _. holds-bind (holds-any _) λ b _. by (tt, tidy-store r (ref b) refl T, S)
   neat-op o (getRef y r) c T S = holds-then (holds-any _) λ _ _. holds-bind (holds-any _) λ b _. by (tt, tidy-store y (bool b) refl T, S)
   neat-op o (setRef r y) c T S = holds-bind (holds-any _) λ _ _. holds-bind (holds-any _) λ b _. by (tt, tidy-store r (ref b) refl T, S)
@@ -352,20 +369,26 @@ module _ (R : Region) (fs : List Function) (bodies : (f : ℕ) → ScopedBlock f
       (q : distinct (numbers (map (locate σ) ls)) ≡ true) (a : (i : ℕ) → i < length xs → slot φ (getD xs i 0) ≡ qubit (at (map (locate σ) ls) i))
       (w : all (λ l. freeIn R occ (l .no)) (drop (length xs) (map (locate σ) ls)) ≡ true) where
     rest-free : (i : ℕ) → length xs ≤ i → i < length ls → getD occ (at (map (locate σ) ls) i .no) 0 ≡ 0
-    rest-free i h r = free-there R occ (at (map (locate σ) ls) i .no) fits (drop-at (λ l. freeIn R occ (l .no)) (length xs) (map (locate σ) ls) i w h (omega (arith, length-map ls (locate σ)))) .0
+    rest-free i h r =
+        let is-free = drop-at (λ l. freeIn R occ (l .no)) (length xs) (map (locate σ) ls) i w h (omega (arith, length-map ls (locate σ))) in
+        free-there R occ (at (map (locate σ) ls) i .no) fits is-free .0
 
     callee-tidy : Tidy j occ (locations (map (locate σ) ls)) k (entered (take (length xs) (map (locate σ) ls)))
     callee-tidy = record {
       held = λ x l h. let g = here x l h in (record { no = x }, omega (arith, g .1, c .few, c .size), sym (g .0));
       taken = λ x l h. let g = here x l h in T .taken (getD xs x 0) l (a x (g .1) ∙ ap (λ (p : Place device). qubit p) (sym (g .0)));
       once = λ x y l m h h′ r. let g = here x l h in let g′ = here y m h′ in
-          distinct-places (map (locate σ) ls) x y q (omega (arith, g .1, c .few, length-map ls (locate σ))) (omega (arith, g′ .1, c .few, length-map ls (locate σ)))
+          distinct-places (map (locate σ) ls) x y q (omega (arith, g .1, few)) (omega (arith, g′ .1, few))
           (ap (λ (p : Place device). p .no) (sym (g .0)) ∙ r ∙ ap (λ (p : Place device). p .no) (g′ .0));
     }
       where
-        here : (x : ℕ) (l : Place device) → slot {B = Bool} (entered (take (length xs) (map (locate σ) ls))) x ≡ qubit l → (l ≡ at (map (locate σ) ls) x) × (x < length xs)
+        few : length xs ≤ length (map (locate σ) ls)
+        few = omega (arith, c .few, length-map ls (locate σ))
+
+        here : (x : ℕ) (l : Place device) → slot {B = Bool} (entered (take (length xs) (map (locate σ) ls))) x ≡ qubit l
+            → (l ≡ at (map (locate σ) ls) x) × (x < length xs)
         here x l h =
-            let t = length-take-le (length xs) (map (locate σ) ls) (omega (arith, c .few, length-map ls (locate σ))) in
+            let t = length-take-le (length xs) (map (locate σ) ls) few in
             let g = entered-qubit Bool (take (length xs) (map (locate σ) ls)) x l h in
             let d : x < length xs = omega (arith, g .1) in
             (g .0 ∙ getD-take (length xs) (map (locate σ) ls) x _ d, d)
@@ -384,7 +407,8 @@ module _ (R : Region) (fs : List Function) (bodies : (f : ℕ) → ScopedBlock f
       others = λ x l h m. (T .held x l h, T .taken x l h, λ i r e. away x l h m i (omega (arith, c .size)) e (decLt i (length xs)));
     }
       where
-        away : (x : ℕ) (l : Place device) → slot φ x ≡ qubit l → ((i : ℕ) → i < length xs → getD xs i 0 ≢ x) → (i : ℕ) → i < length ls → at (map (locate σ) ls) i .no ≡ l .no → Dec (i < length xs) → ⊥
+        away : (x : ℕ) (l : Place device) → slot φ x ≡ qubit l → ((i : ℕ) → i < length xs → getD xs i 0 ≢ x) → (i : ℕ) → i < length ls
+            → at (map (locate σ) ls) i .no ≡ l .no → Dec (i < length xs) → ⊥
         away x l h m i r e (yes d) = m i d (T .once (getD xs i 0) x (at (map (locate σ) ls) i) l (a i d) h e)
         away x l h m i r e (no d) =
             let t : getD occ (l .no) 0 ≡ j = T .taken x l h in
@@ -427,9 +451,13 @@ module _ (R : Region) (fs : List Function) (bodies : (f : ℕ) → ScopedBlock f
   neat-move {s = s} {σ = σ} {n = n} φ φs i is T (todo {t = op o a} c S) =
       holds-bind (neat-op o a c T S) λ d p. holds-bind (holds-any _) λ _ _. by (p .0, record { s = s; σ = σ; size = n; tidy = p .1; stack = p .2 })
   neat-move {s = s} {σ = σ} {n = n} φ φs i is T (todo {t = if o y b d} c S) =
-      holds-bind (holds-any _) λ t _. by (tt, record { s = s; σ = σ; size = n; tidy = T; stack = chosen-has (λ js. Stack fs j occ s σ n φs js) t (stack-block b (c .0) S) (stack-block d (c .1) S) })
+      holds-bind (holds-any _) λ t _.
+      let S′ = chosen-has (λ js. Stack fs j occ s σ n φs js) t (stack-block b (c .0) S) (stack-block d (c .1) S) in
+      by (tt, record { s = s; σ = σ; size = n; tidy = T; stack = S′ })
   neat-move {s = s} {σ = σ} {n = n} φ φs i is T (todo {t = while o r b} c S) =
-      holds-bind (holds-any _) λ t _. by (tt, record { s = s; σ = σ; size = n; tidy = T; stack = chosen-has (λ js. Stack fs j occ s σ n φs js) t (stack-block b c (todo {t = while o r b} c S)) S })
+      holds-bind (holds-any _) λ t _.
+      let S′ = chosen-has (λ js. Stack fs j occ s σ n φs js) t (stack-block b c (todo {t = while o r b} c S)) S in
+      by (tt, record { s = s; σ = σ; size = n; tidy = T; stack = S′ })
   neat-move {s = s} {σ = σ} {n = n} φ φs i is T (todo {t = call o f ls xs} c S) =
       holds-then (holds-then (holds-any _) λ _ _. holds-then (holds-need (distinct (numbers (map (locate σ) ls)) && distinct xs) 15 o) λ _ q.
       holds-then (arguments-there σ o φ xs (map (locate σ) ls) (omega (arith, c .few, length-map ls (locate σ)))) λ _ a.
@@ -444,18 +472,22 @@ module _ (R : Region) (fs : List Function) (bodies : (f : ℕ) → ScopedBlock f
       λ _ g. by (tt, g)
   neat-move φ φs i is T (back w S) = by (tt, record { s = w .s; σ = w .σ; size = w .size; tidy = tidy-back T w; stack = S })
 
-  neat-stepped : (J : Job) (o : ℕ) (m : Check Move) → Neat fs j occ J → Holds NeatMove m → Counts j occ (stepped J o m .act) × Neat fs j (written j (stepped J o m .act) occ) (stepped J o m .next)
+  abbrev NeatStep : Stepped → Type 0
+  NeatStep t = Counts j occ (t .act) × Neat fs j (written j (t .act) occ) (t .next)
+
+  neat-stepped : (J : Job) (o : ℕ) (m : Check Move) → Neat fs j occ J → Holds NeatMove m → NeatStep (stepped J o m)
   neat-stepped J o (refused r) N h = (tt, N)
   neat-stepped J o (ok m) N (by h) = h
 
   neat-items : {s : Side} {σ : Actual s} {n : ℕ} (φ : Frame) (φs : List Frame) (is : List Item) → Tidy j occ σ n φ → Stack fs j occ s σ n φs is
-      → Counts j occ (stepItems R fs v (freeIn R occ) φ φs is .act) × Neat fs j (written j (stepItems R fs v (freeIn R occ) φ φs is .act) occ) (stepItems R fs v (freeIn R occ) φ φs is .next)
+      → NeatStep (stepItems R fs v (freeIn R occ) φ φs is)
   neat-items {s = s} {σ = σ} {n = n} φ φs [] T S = (tt, record { s = s; σ = σ; size = n; tidy = T; stack = S })
   neat-items {s = s} {σ = σ} {n = n} φ φs (i ∷ is) T S =
       neat-stepped (record { top = φ; below = φs; items = i ∷ is }) _ _ (record { s = s; σ = σ; size = n; tidy = T; stack = S }) (neat-move φ φs i is T S)
 
   -- a step keeps the job neat, over the map that the step leaves
-  pub neat-step : (J : Job) → Neat fs j occ J → Counts j occ (step R fs v (freeIn R occ) J .act) × Neat fs j (written j (step R fs v (freeIn R occ) J .act) occ) (step R fs v (freeIn R occ) J .next)
+  pub neat-step : (J : Job) → Neat fs j occ J
+      → Counts j occ (step R fs v (freeIn R occ) J .act) × Neat fs j (written j (step R fs v (freeIn R occ) J .act) occ) (step R fs v (freeIn R occ) J .next)
   neat-step J N = neat-items (J .top) (J .below) (J .items) (N .tidy) (N .stack)
 
 -- a fresh job holds no qubit, and its items are main's statements
@@ -464,12 +496,16 @@ neat-fresh p r j occ = record {
   s = device;
   σ = themselves;
   size = 256;
-  tidy = record { held = λ x l h. unbound-qubit _ l (getD-replicate-default 32 x unbound) h; taken = λ x l h. unbound-qubit _ l (getD-replicate-default 32 x unbound) h; once = λ x y l k h h′ e. unbound-qubit _ l (getD-replicate-default 32 x unbound) h };
+  tidy = record { held = λ x l h. no-qubit x l h; taken = λ x l h. no-qubit x l h; once = λ x y l k h h′ e. no-qubit x l h };
   stack = stack-block (p .main) (main-scoped p r) empty;
 }
+  where
+    no-qubit : {X : Type 0} (x : ℕ) (l : Place device) → slot (fresh p .top) x ≡ qubit l → X
+    no-qubit x l h = unbound-qubit _ l (getD-replicate-default 32 x unbound) h
 
 -- no frame of the stack holds a location in two slots
-below-once : {fs : List Function} {j : ℕ} {occ : List ℕ} {s : Side} {σ : Actual s} {n : ℕ} {φs : List Frame} {is : List Item} → Stack fs j occ s σ n φs is → (i : ℕ) → Once (getD φs i [])
+below-once : {fs : List Function} {j : ℕ} {occ : List ℕ} {s : Side} {σ : Actual s} {n : ℕ} {φs : List Frame} {is : List Item} → Stack fs j occ s σ n φs is
+    → (i : ℕ) → Once (getD φs i [])
 below-once empty i = λ x y l k h h′ e. let z : _≡_ {A = ℕ} 0 1 = cc in absurd (omega arith)
 below-once (todo c S) i = below-once S i
 below-once (back w S) zero = w .once

@@ -15,7 +15,8 @@ use Rattle.answers.proofs.Laws.{Holds, by, holds-bind, holds-then, holds-need, 
 use Rattle.rules.specs.Basics.{chosen, all, without, setAll}
 use Rattle.rules.specs.Device.{Device}
 use Rattle.rules.specs.Region.{Region, regionOf, owns, freeIn}
-use Rattle.rules.specs.Syntax.{Side, device, Place, at, Op, init, free, gate, measure, merge, newRef, getRef, setRef, constant, op, if, while, call, Function, Program}
+use Rattle.rules.specs.Syntax.{Side, device, Place, at}
+use Rattle.rules.specs.Syntax.{Op, init, free, gate, measure, merge, newRef, getRef, setRef, constant, op, if, while, call, Function, Program}
 use Rattle.rules.specs.Slots.{Slot, unbound, qubit, bool, ref, slot, needQubit, Act, quiet, takes, gives, merges, Done, perform, callable, entered, kept}
 use Rattle.rules.specs.Machine.{Frame, Actual, locate, Item, run, return, Job, fresh, Move, floor, move, Stepped, stepped, stepItems, step}
 use Rattle.rules.specs.Run.{Turn, Machine, Told, written, started, stepOf, after, final, records}
@@ -100,12 +101,14 @@ module _ (R : Region) (fs : List Function) (v : Bool) (isFree : ℕ → Bool) wh
   own-callable : {s : Side} (σ : Actual s) (o : ℕ) (φ : Frame) (ls : List (Place device)) (xs : List ℕ)
       → Holds (λ u. all (λ l. owns R (l .no)) ls ≡ true) (callable (floor R fs v isFree σ) o φ ls xs)
   own-callable σ o φ ls xs =
-      holds-then (holds-need (all (λ l. owns R (l .no)) ls) 13 o) λ _ p. holds-then (holds-any _) λ _ _. holds-then (holds-any _) λ _ _. holds-map (λ _ _. p) (holds-any _)
+      holds-then (holds-need (all (λ l. owns R (l .no)) ls) 13 o) λ _ p. holds-then (holds-any _) λ _ _. holds-then (holds-any _) λ _ _.
+      holds-map (λ _ _. p) (holds-any _)
 
   abbrev OwnMove : Move → Type 0
   OwnMove m = OwnJob (owns R) (m .next) × OwnAct (owns R) (m .act)
 
-  own-move : (φ : Frame) (φs : List Frame) (i : Item) (rest : List Item) → OwnFrame (owns R) φ → OwnFrames (owns R) φs → Holds OwnMove (move R fs v isFree φ φs i rest)
+  own-move : (φ : Frame) (φs : List Frame) (i : Item) (rest : List Item) → OwnFrame (owns R) φ → OwnFrames (owns R) φs
+      → Holds OwnMove (move R fs v isFree φ φs i rest)
   own-move φ φs (run σ (op o a)) rest h hs = holds-bind (own-perform σ o φ a h) λ d p. holds-bind (holds-any _) λ _ _. by ((p .0, hs), p .1)
   own-move φ φs (run σ (if o y b c)) rest h hs = holds-bind (holds-any _) λ _ _. by ((h, hs), tt)
   own-move φ φs (run σ (while o r b)) rest h hs = holds-bind (holds-any _) λ _ _. by ((h, hs), tt)
@@ -114,7 +117,8 @@ module _ (R : Region) (fs : List Function) (v : Bool) (isFree : ℕ → Bool) wh
   own-move φ [] (return o ls xs) rest h hs = by ((h, tt), tt)
   own-move φ (χ ∷ φs) (return o ls xs) rest h hs = by ((own-set-all (owns R) (without (kept φ (at ls) (length xs)) xs) χ (hs .0), hs .1), tt)
 
-  own-stepped : (J : Job) (o : ℕ) (m : Check Move) → OwnJob (owns R) J → Holds OwnMove m → OwnJob (owns R) (stepped J o m .next) × OwnAct (owns R) (stepped J o m .act)
+  own-stepped : (J : Job) (o : ℕ) (m : Check Move) → OwnJob (owns R) J → Holds OwnMove m
+      → OwnJob (owns R) (stepped J o m .next) × OwnAct (owns R) (stepped J o m .act)
   own-stepped J o (refused r) h k = (h, tt)
   own-stepped J o (ok m) h (by k) = k
 
@@ -146,7 +150,8 @@ part [] j occ = []
 part (w ∷ ws) j [] = []
 part (w ∷ ws) j (x ∷ occ) = chosen (eqb w j) x 0 ∷ part ws j occ
 
-pub part-set-own : (ws : List ℕ) (j : ℕ) (occ : List ℕ) (l x : ℕ) → getD (map (λ w. eqb w j) ws) l false ≡ true → part ws j (set occ l x) ≡ set (part ws j occ) l x
+pub part-set-own : (ws : List ℕ) (j : ℕ) (occ : List ℕ) (l x : ℕ) → getD (map (λ w. eqb w j) ws) l false ≡ true
+    → part ws j (set occ l x) ≡ set (part ws j occ) l x
 part-set-own [] j occ l x h = refl
 part-set-own (w ∷ ws) j [] l x h = refl
 part-set-own (w ∷ ws) j (y ∷ occ) zero x h = rw h
@@ -171,7 +176,8 @@ part-free (w ∷ ws) j (x ∷ occ) zero h = go (eqb w j)
 part-free (w ∷ ws) j (x ∷ occ) (suc l) h = part-free ws j occ l (omega arith)
 
 -- what stands at a location of the part, and how long it is
-pub getD-part : (ws : List ℕ) (j : ℕ) (occ : List ℕ) (l : ℕ) → length ws ≡ length occ → getD (part ws j occ) l 0 ≡ chosen (getD (map (λ w. eqb w j) ws) l false) (getD occ l 0) 0
+pub getD-part : (ws : List ℕ) (j : ℕ) (occ : List ℕ) (l : ℕ) → length ws ≡ length occ
+    → getD (part ws j occ) l 0 ≡ chosen (getD (map (λ w. eqb w j) ws) l false) (getD occ l 0) 0
 getD-part [] j occ l h = refl
 getD-part (w ∷ ws) j [] l h = absurd (omega arith)
 getD-part (w ∷ ws) j (x ∷ occ) zero h = refl
@@ -270,16 +276,24 @@ module _ (D : Device) (programs : ℕ → Program) where
   pub free-started : (j l : ℕ) → freeIn (regionOf D j) (replicate (length (D .owners)) 0) l ≡ owns (regionOf D j) l
   free-started j l = ap (λ x. owns (regionOf D j) l && eqb x 0) (getD-replicate-default (length (D .owners)) l 0) ∙ and-true (owns (regionOf D j) l)
 
+  turn-own : (t : Turn) (M : Machine) → Sound M
+      → OwnJob (owns (regionOf D (t .job))) (stepOf D programs t M .next) × OwnAct (owns (regionOf D (t .job))) (stepOf D programs t M .act)
+  turn-own t M S =
+      let R : Region = regionOf D (t .job) in
+      own-step R (programs (t .job) .functions) (t .outcome) (freeIn R (M .occupancy)) (M .jobs (t .job)) (S .own (t .job))
+
   pub own-step-of : (t : Turn) (M : Machine) → Sound M → OwnJob (owns (regionOf D (t .job))) (stepOf D programs t M .next)
-  own-step-of t M S = own-step (regionOf D (t .job)) (programs (t .job) .functions) (t .outcome) (freeIn (regionOf D (t .job)) (M .occupancy)) (M .jobs (t .job)) (S .own (t .job)) .0
+  own-step-of t M S = turn-own t M S .0
 
   pub acts-own : (t : Turn) (M : Machine) → Sound M → OwnAct (owns (regionOf D (t .job))) (stepOf D programs t M .act)
-  acts-own t M S = own-step (regionOf D (t .job)) (programs (t .job) .functions) (t .outcome) (freeIn (regionOf D (t .job)) (M .occupancy)) (M .jobs (t .job)) (S .own (t .job)) .1
+  acts-own t M S = turn-own t M S .1
 
   bytes-written : (j : ℕ) (a : Act device) (occ : List ℕ) → OwnAct (owns (regionOf D j)) a → ((l : ℕ) → Byte D occ l) → (l : ℕ) → Byte D (written j a occ) l
   bytes-written j quiet occ h b l = b l
-  bytes-written j (takes q k) occ h b l =
-      ⊎-elim (λ c. inr (c .1 ∙ sym (owns-owner (D .owners) j (k .no) h .1) ∙ ap (λ x. getD (D .owners) x 0) (sym (c .0)))) (λ c. rw c (b l)) (getD-set-cases occ (k .no) l j 0)
+  bytes-written j (takes q k) occ h b l = ⊎-elim
+      (λ c. inr (c .1 ∙ sym (owns-owner (D .owners) j (k .no) h .1) ∙ ap (λ x. getD (D .owners) x 0) (sym (c .0))))
+      (λ c. rw c (b l))
+      (getD-set-cases occ (k .no) l j 0)
   bytes-written j (gives k) occ h b l = ⊎-elim (λ c. inl (c .1)) (λ c. rw c (b l)) (getD-set-cases occ (k .no) l 0 0)
   bytes-written j (merges d l e k) occ h b m = b m
 
@@ -320,7 +334,8 @@ module _ (D : Device) (programs : ℕ → Program) where
           inr (getD-part (D .owners) j (M .occupancy) l (S .fits) ∙ ap (λ b. chosen b (getD (M .occupancy) l 0) 0) e ∙ z ∙ owns-owner (D .owners) j l e .1, e)
       go l false e z = inl (getD-part (D .owners) j (M .occupancy) l (S .fits) ∙ ap (λ b. chosen b (getD (M .occupancy) l 0) 0) e)
 
-  own-bytes-written : (j : ℕ) (a : Act device) (occ : List ℕ) → OwnAct (owns (regionOf D j)) a → ((l : ℕ) → OwnByte j occ l) → (l : ℕ) → OwnByte j (written j a occ) l
+  own-bytes-written : (j : ℕ) (a : Act device) (occ : List ℕ) → OwnAct (owns (regionOf D j)) a → ((l : ℕ) → OwnByte j occ l)
+      → (l : ℕ) → OwnByte j (written j a occ) l
   own-bytes-written j quiet occ h b l = b l
   own-bytes-written j (takes q k) occ h b l = ⊎-elim (λ c. inr (c .1, rw (c .0) h)) (λ c. rw c (b l)) (getD-set-cases occ (k .no) l j 0)
   own-bytes-written j (gives k) occ h b l = ⊎-elim (λ c. inl (c .1)) (λ c. rw c (b l)) (getD-set-cases occ (k .no) l 0 0)
@@ -343,13 +358,15 @@ module _ (D : Device) (programs : ℕ → Program) where
   pub same-step : (t : Turn) (M : Machine) → Sound M → view-step (t .job) (t .outcome) (view (t .job) M) ≡ stepOf D programs t M
   same-step t M S = ap (λ f. step (regionOf D (t .job)) (programs (t .job) .functions) (t .outcome) f (M .jobs (t .job))) (same-free (t .job) M S)
 
-  part-written : (j : ℕ) (a : Act device) (occ : List ℕ) → OwnAct (owns (regionOf D j)) a → part (D .owners) j (written j a occ) ≡ written j a (part (D .owners) j occ)
+  part-written : (j : ℕ) (a : Act device) (occ : List ℕ) → OwnAct (owns (regionOf D j)) a
+      → part (D .owners) j (written j a occ) ≡ written j a (part (D .owners) j occ)
   part-written j quiet occ h = refl
   part-written j (takes q l) occ h = part-set-own (D .owners) j occ (l .no) j h
   part-written j (gives l) occ h = part-set-own (D .owners) j occ (l .no) 0 h
   part-written j (merges b l e k) occ h = refl
 
-  part-written-other : (i j : ℕ) (a : Act device) (occ : List ℕ) → i ≢ j → OwnAct (owns (regionOf D j)) a → part (D .owners) i (written j a occ) ≡ part (D .owners) i occ
+  part-written-other : (i j : ℕ) (a : Act device) (occ : List ℕ) → i ≢ j → OwnAct (owns (regionOf D j)) a
+      → part (D .owners) i (written j a occ) ≡ part (D .owners) i occ
   part-written-other i j quiet occ n h = refl
   part-written-other i j (takes q l) occ n h = part-set-other (D .owners) i occ (l .no) j (owns-other (D .owners) i j (l .no) n h)
   part-written-other i j (gives l) occ n h = part-set-other (D .owners) i occ (l .no) 0 (owns-other (D .owners) i j (l .no) n h)
@@ -374,7 +391,8 @@ module _ (D : Device) (programs : ℕ → Program) where
   one-own : (i : ℕ) (t : Turn) (us : List Turn) (M : Machine) → Sound M → i ≡ t .job
       → view-final i us (view i (after D programs t M)) ≡ view-final i (chosen (eqb (t .job) i) (t ∷ us) us) (view i M)
   one-own i t us M S e =
-      rw e (ap (λ w. view-final (t .job) us w) (view-same t M S) ∙ ap (λ b. view-final (t .job) (chosen b (t ∷ us) us) (view (t .job) M)) (sym (eqb-same (t .job))))
+      let j : ℕ = t .job in
+      rw e (ap (λ w. view-final j us w) (view-same t M S) ∙ ap (λ b. view-final j (chosen b (t ∷ us) us) (view j M)) (sym (eqb-same j)))
 
   one-other : (i : ℕ) (t : Turn) (us : List Turn) (M : Machine) → Sound M → i ≢ t .job
       → view-final i us (view i (after D programs t M)) ≡ view-final i (chosen (eqb (t .job) i) (t ∷ us) us) (view i M)
@@ -386,14 +404,20 @@ module _ (D : Device) (programs : ℕ → Program) where
       view-of-final i ts (after D programs t M) (sound-after t M S)
       ∙ elim (ℕ-discrete i (t .job)) [ yes e ↦ one-own i t (turnsOf i ts) M S e | no n ↦ one-other i t (turnsOf i ts) M S n ]
 
+  -- the record of a turn
+  abbrev told-by : Turn → Machine → Told
+  told-by t M = record { job = t .job; told = stepOf D programs t M .answer }
+
   told-own : (i : ℕ) (t : Turn) (us : List Turn) (rs : List Told) (M : Machine) → Sound M → i ≡ t .job → rs ≡ view-records i us (view i (after D programs t M))
-      → chosen (eqb (t .job) i) (record { job = t .job; told = stepOf D programs t M .answer } ∷ rs) rs ≡ view-records i (chosen (eqb (t .job) i) (t ∷ us) us) (view i M)
+      → chosen (eqb (t .job) i) (told-by t M ∷ rs) rs ≡ view-records i (chosen (eqb (t .job) i) (t ∷ us) us) (view i M)
   told-own i t us rs M S e h =
       let k : rs ≡ view-records (t .job) us (view (t .job) (after D programs t M)) = rw e at h in
-      rw e (rw (eqb-same (t .job)) (λ x. record { job = t .job; told = sym (same-step t M S) x .answer } ∷ (k ∙ ap (λ w. view-records (t .job) us w) (view-same t M S)) x))
+      let later = k ∙ ap (λ w. view-records (t .job) us w) (view-same t M S) in
+      rw e (rw (eqb-same (t .job)) (λ x. record { job = t .job; told = sym (same-step t M S) x .answer } ∷ later x))
 
-  told-other : (i : ℕ) (t : Turn) (us : List Turn) (rs : List Told) (M : Machine) → Sound M → i ≢ t .job → rs ≡ view-records i us (view i (after D programs t M))
-      → chosen (eqb (t .job) i) (record { job = t .job; told = stepOf D programs t M .answer } ∷ rs) rs ≡ view-records i (chosen (eqb (t .job) i) (t ∷ us) us) (view i M)
+  told-other : (i : ℕ) (t : Turn) (us : List Turn) (rs : List Told) (M : Machine) → Sound M → i ≢ t .job
+      → rs ≡ view-records i us (view i (after D programs t M))
+      → chosen (eqb (t .job) i) (told-by t M ∷ rs) rs ≡ view-records i (chosen (eqb (t .job) i) (t ∷ us) us) (view i M)
   told-other i t us rs M S n h = rw (eqb-other (t .job) i (λ e. n (sym e))) (h ∙ ap (λ w. view-records i us w) (view-other i t M n S))
 
   pub records-of : (i : ℕ) (ts : List Turn) (M : Machine) → Sound M → recordsOf i (records D programs ts M) ≡ view-records i (turnsOf i ts) (view i M)

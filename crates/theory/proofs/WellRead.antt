@@ -17,12 +17,15 @@ use Rattle.rules.specs.Basics.{upTo, byte, word, hasMark}
 use Rattle.rules.proofs.Basics.{length-upTo, getD-upTo}
 use Rattle.rules.specs.Syntax.{Side, device, parameter, Place, at, Op, Statement, call, done, Block, Function, function}
 use Rattle.rules.specs.Table.{simple, branches, loops, calls, Row, table, rowOf, size}
-use Rattle.rules.specs.Program.{Read, Scope, inRange, known, operands, meant, statement, statements, readBlock, functionHeader, programHeader, functionsAt, readProgram}
-use Rattle.theory.specs.WellRead.{OpRead, CallRead, StatementRead, op-read, if-read, while-read, call-read, StatementsRead, done-read, next-read, BlockRead, block-read, FunctionsRead, none-read, function-read, ProgramRead, WellRead}
+use Rattle.rules.specs.Program.{Read, Scope, inRange, known, operands, meant, statement, statements}
+use Rattle.rules.specs.Program.{readBlock, functionHeader, programHeader, functionsAt, readProgram}
+use Rattle.theory.specs.WellRead.{OpRead, CallRead, StatementRead, op-read, if-read, while-read, call-read, StatementsRead, done-read, next-read}
+use Rattle.theory.specs.WellRead.{BlockRead, block-read, FunctionsRead, none-read, function-read, ProgramRead, WellRead}
 use Rattle.theory.proofs.Base.{eqb-true, below, not-below, at-most, and-left, and-right}
 
 -- a choice by a test: what holds of what is chosen, with what the test said
-holds-choice : {A : Type 0} {P : A → Type 0} (b : Bool) {x y : Check A} → (b ≡ false → Holds P x) → (b ≡ true → Holds P y) → Holds P (elim b [ false ↦ x | true ↦ y ])
+holds-choice : {A : Type 0} {P : A → Type 0} (b : Bool) {x y : Check A} → (b ≡ false → Holds P x) → (b ≡ true → Holds P y)
+    → Holds P (elim b [ false ↦ x | true ↦ y ])
 holds-choice false f g = f refl
 holds-choice true f g = g refl
 
@@ -68,7 +71,8 @@ split-fit s S i n (o ∷ os) ps h =
     ((h .0, r .0), subst (λ (m : ℕ). AllFit s S i m ps) (suc-add n (length os) ∙ sym (add-suc n (length os))) (r .1))
 
 -- of k operands of one kind each fits
-each-fits : (s : List ℕ) (S : Scope) (i n k : ℕ) (o : Operand) → AllFit s S i n (replicate k o) → (j : ℕ) → j < k → Fits S (byte s (i + 1)) o (byte s (i + n + j))
+each-fits : (s : List ℕ) (S : Scope) (i n k : ℕ) (o : Operand) → AllFit s S i n (replicate k o) → (j : ℕ) → j < k
+    → Fits S (byte s (i + 1)) o (byte s (i + n + j))
 each-fits s S i n zero o h j l = absurd (not-suc-le-zero l)
 each-fits s S i n (suc k) o h zero l = subst (λ (m : ℕ). Fits S (byte s (i + 1)) o (byte s m)) (sym (add-zero (i + n))) (h .0)
 each-fits s S i n (suc k) o h (suc j) l =
@@ -78,14 +82,16 @@ each-fits s S i n (suc k) o h (suc j) l =
 -- what a row of the table must be: the operands of an operation give what the operation asks for; before blocks there is one slot, before a call's
 -- lists its function, k and m
 data GoodRow : Row → Type 0 where
-  good-simple : {os : List Operand} {f : (d : Side) → (ℕ → ℕ) → Op d} → ((s : List ℕ) (S : Scope) (i : ℕ) (d : Side) → AllFit s S i 1 os → OpRead S (f d λ n. byte s (i + n)))
+  good-simple : {os : List Operand} {f : (d : Side) → (ℕ → ℕ) → Op d}
+      → ((s : List ℕ) (S : Scope) (i : ℕ) (d : Side) → AllFit s S i 1 os → OpRead S (f d λ n. byte s (i + n)))
       → GoodRow (record { operands = os; meaning = simple f })
   good-branches : GoodRow (record { operands = Slot ∷ []; meaning = branches })
   good-loops : GoodRow (record { operands = Slot ∷ []; meaning = loops })
   good-calls : GoodRow (record { operands = Callee ∷ CalleeK ∷ CalleeM ∷ []; meaning = calls })
 
 -- the same as a function, so that the row that is asked for says which operation it is
-simple-row : {os : List Operand} {f : (d : Side) → (ℕ → ℕ) → Op d} → ((s : List ℕ) (S : Scope) (i : ℕ) (d : Side) → AllFit s S i 1 os → OpRead S (f d λ n. byte s (i + n)))
+simple-row : {os : List Operand} {f : (d : Side) → (ℕ → ℕ) → Op d}
+    → ((s : List ℕ) (S : Scope) (i : ℕ) (d : Side) → AllFit s S i 1 os → OpRead S (f d λ n. byte s (i + n)))
     → GoodRow (record { operands = os; meaning = simple f })
 simple-row h = good-simple h
 
@@ -127,36 +133,58 @@ good-row zero i = not-ok
 good-row (suc b) i = row-among table table-good b i
 
 -- a call whose lists have k and m entries
-call-of : {d : Side} (S : Scope) (n i f k m : ℕ) (ls : List (Place d)) (xs : List ℕ) → length ls ≡ k → length xs ≡ m → CallRead S f ls xs → StatementRead S n i (i + 4 + k + m) (call i f ls xs)
+call-of : {d : Side} (S : Scope) (n i f k m : ℕ) (ls : List (Place d)) (xs : List ℕ) → length ls ≡ k → length xs ≡ m → CallRead S f ls xs
+    → StatementRead S n i (i + 4 + k + m) (call i f ls xs)
 call-of S n i f k m ls xs a b c =
     let e : i + 4 + length ls + length xs ≡ i + 4 + k + m = omega arith in
     subst (λ (q : ℕ). StatementRead S n i q (call i f ls xs)) e (call-read c)
 
 -- the call at i, with its k places and m slots from i + 4 on
-called : (s : List ℕ) (d : Side) (S : Scope) (i : ℕ) → AllFit s S i 1 (Callee ∷ CalleeK ∷ CalleeM ∷ []) → AllFit s S i 4 (replicate (byte s (i + 2)) Location ++ replicate (byte s (i + 3)) Slot)
-    → CallRead {s = d} S (byte s (i + 1)) (upTo (i + 4) (byte s (i + 2)) λ n. record { no = byte s n }) (upTo (i + 4 + byte s (i + 2)) (byte s (i + 3)) λ n. byte s n)
-called s d S i h r = record {
-  earlier = h .0;
-  locations = length-upTo (i + 4) (byte s (i + 2)) place ∙ h .1 .0;
-  slots = length-upTo (i + 4 + byte s (i + 2)) (byte s (i + 3)) (byte s) ∙ h .1 .1 .0;
-  places-in = λ j l. at-place j (subst (λ (n : ℕ). j < n) (length-upTo (i + 4) (byte s (i + 2)) place) l);
-  slots-in = λ j l. at-slot j (subst (λ (n : ℕ). j < n) (length-upTo (i + 4 + byte s (i + 2)) (byte s (i + 3)) (byte s)) l);
-}
-  where
-    place : ℕ → Place d
-    place n = record { no = byte s n }
+module _ (s : List ℕ) (d : Side) (S : Scope) (i : ℕ) where
+  abbrev call-k : ℕ
+  call-k = byte s (i + 2)
 
-    halves : AllFit s S i 4 (replicate (byte s (i + 2)) Location) × AllFit s S i (4 + length (replicate (byte s (i + 2)) Location)) (replicate (byte s (i + 3)) Slot)
-    halves = split-fit s S i 4 (replicate (byte s (i + 2)) Location) (replicate (byte s (i + 3)) Slot) r
+  abbrev call-m : ℕ
+  call-m = byte s (i + 3)
 
-    at-place : (j : ℕ) → j < byte s (i + 2) → at (upTo (i + 4) (byte s (i + 2)) place) j .no < S .places
-    at-place j l = rw (getD-upTo (i + 4) (byte s (i + 2)) j place (record { no = 0 }) l) (each-fits s S i 4 (byte s (i + 2)) Location (halves .0) j l)
+  abbrev call-place : ℕ → Place d
+  call-place n = record { no = byte s n }
 
-    at-slot : (j : ℕ) → j < byte s (i + 3) → getD (upTo (i + 4 + byte s (i + 2)) (byte s (i + 3)) (byte s)) j 0 < 32
-    at-slot j l =
-        let e : i + (4 + length (replicate (byte s (i + 2)) Location)) + j ≡ i + 4 + byte s (i + 2) + j = omega (arith, length-replicate (byte s (i + 2)) Location) in
-        rw (getD-upTo (i + 4 + byte s (i + 2)) (byte s (i + 3)) j (byte s) 0 l)
-        (subst (λ (n : ℕ). byte s n < 32) e (each-fits s S i (4 + length (replicate (byte s (i + 2)) Location)) (byte s (i + 3)) Slot (halves .1) j l))
+  abbrev call-places : List (Place d)
+  call-places = upTo (i + 4) call-k call-place
+
+  abbrev call-slots : List ℕ
+  call-slots = upTo (i + 4 + call-k) call-m (byte s)
+
+  called : AllFit s S i 1 (Callee ∷ CalleeK ∷ CalleeM ∷ []) → AllFit s S i 4 (replicate call-k Location ++ replicate call-m Slot)
+      → CallRead S (byte s (i + 1)) call-places call-slots
+  called h r = record {
+    earlier = h .0;
+    locations = length-upTo (i + 4) call-k call-place ∙ h .1 .0;
+    slots = length-upTo (i + 4 + call-k) call-m (byte s) ∙ h .1 .1 .0;
+    places-in = λ j l. at-place j (subst (λ (n : ℕ). j < n) (length-upTo (i + 4) call-k call-place) l);
+    slots-in = λ j l. at-slot j (subst (λ (n : ℕ). j < n) (length-upTo (i + 4 + call-k) call-m (byte s)) l);
+  }
+    where
+      first-slot : ℕ
+      first-slot = 4 + length (replicate call-k Location)
+
+      halves : AllFit s S i 4 (replicate call-k Location) × AllFit s S i first-slot (replicate call-m Slot)
+      halves = split-fit s S i 4 (replicate call-k Location) (replicate call-m Slot) r
+
+      at-place : (j : ℕ) → j < call-k → at call-places j .no < S .places
+      at-place j l = rw (getD-upTo (i + 4) call-k j call-place (record { no = 0 }) l) (each-fits s S i 4 call-k Location (halves .0) j l)
+
+      at-slot : (j : ℕ) → j < call-m → getD call-slots j 0 < 32
+      at-slot j l =
+          let e : i + first-slot + j ≡ i + 4 + call-k + j = omega (arith, length-replicate call-k Location) in
+          rw (getD-upTo (i + 4 + call-k) call-m j (byte s) 0 l)
+          (subst (λ (n : ℕ). byte s n < 32) e (each-fits s S i first-slot call-m Slot (halves .1) j l))
+
+  called-read : (n : ℕ) → CallRead S (byte s (i + 1)) call-places call-slots
+      → StatementRead S n i (i + 4 + call-k + call-m) (call i (byte s (i + 1)) call-places call-slots)
+  called-read n c =
+      call-of S n i (byte s (i + 1)) call-k call-m call-places call-slots (length-upTo (i + 4) call-k _) (length-upTo (i + 4 + call-k) call-m _) c
 
 -- what is shown of a block read, and of a statement read, from i on in a block that ends at e, with n depths left
 abbrev BlockIn : {d : Side} → Scope → ℕ → ℕ → ℕ → Read (Block d) → Type 0
@@ -168,7 +196,8 @@ StatementIn S n i e r = StatementRead S n i (r .next) (r .it) × (i < r .next) �
 module _ (s : List ℕ) (d : Side) (S : Scope) where
   module _ (n : ℕ) (inner : ℕ → ℕ → Check (Read (Block d))) (inner-in : (i e : ℕ) → Holds (BlockIn S n i e) (inner i e)) where
     -- what follows the fixed part, by the kinds of rows
-    meant-in : (r : Row) → GoodRow r → (i e : ℕ) → i + size r ≤ e → AllFit s S i 1 (r .operands) → Holds (StatementIn S n i e) (meant s d S inner (r .meaning) i (i + size r) e)
+    meant-in : (r : Row) → GoodRow r → (i e : ℕ) → i + size r ≤ e → AllFit s S i 1 (r .operands)
+        → Holds (StatementIn S n i e) (meant s d S inner (r .meaning) i (i + size r) e)
     meant-in r (good-simple {os = os} g) i e l h =
         let q : i < i + suc (length os) = omega arith in
         by (op-read (g s S i d h) q, q, l)
@@ -182,11 +211,7 @@ module _ (s : List ℕ) (d : Side) (S : Scope) where
     meant-in r good-calls i e l h =
         holds-then (holds-need (leb (i + 4 + byte s (i + 2) + byte s (i + 3)) e) 8 i) λ u a.
         holds-then (operands-fit s S i 4 (replicate (byte s (i + 2)) Location ++ replicate (byte s (i + 3)) Slot)) λ v t.
-        by (
-          call-of S n i (byte s (i + 1)) (byte s (i + 2)) (byte s (i + 3)) _ _ (length-upTo (i + 4) (byte s (i + 2)) _) (length-upTo (i + 4 + byte s (i + 2)) (byte s (i + 3)) _) (called s d S i h t),
-          omega arith,
-          at-most (i + 4 + byte s (i + 2) + byte s (i + 3)) e a,
-        )
+        by (called-read s d S i n (called s d S i h t), omega arith, at-most (i + 4 + byte s (i + 2) + byte s (i + 3)) e a)
 
     statement-in : (i e : ℕ) → Holds (StatementIn S n i e) (statement s d S inner i e)
     statement-in i e =
@@ -235,7 +260,9 @@ functions-in s (suc n) i fs =
     holds-bind (header-in i (byte s i) (byte s (i + 1))) λ h c.
     holds-bind (block-in s parameter (record { places = h .locations; earlier = fs }) 8 (i + 2) (length s)) λ b v.
     let g : Function = record { k = h .locations; m = h .arguments; body = b .it } in
-    holds-map (λ r w. (g ∷ w .0, w .1 ∙ append-assoc fs (g ∷ []) (w .0), ap suc (w .2), function-read (c .0) (c .1) (c .2) (v .0) (w .3))) (functions-in s n (b .next) (fs ++ (g ∷ [])))
+    holds-map
+    (λ r w. (g ∷ w .0, w .1 ∙ append-assoc fs (g ∷ []) (w .0), ap suc (w .2), function-read (c .0) (c .1) (c .2) (v .0) (w .3)))
+    (functions-in s n (b .next) (fs ++ (g ∷ [])))
 
 program-header-in : (f : ℕ) → Holds (λ h. h .functions ≤ 15) (programHeader f)
 program-header-in f = holds-then (holds-need (leb f 15) 4 5) λ u a. by (at-most f 15 a)

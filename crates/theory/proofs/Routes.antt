@@ -19,7 +19,8 @@ use Rattle.rules.specs.Region.{Region, regionOf, owns, touches, joined}
 use Rattle.rules.specs.Path.{NotAfter, between, Along, last, then, Path, Route, reach, fewest, smallestFrom, traced, route}
 use Rattle.rules.proofs.Basics.{length-upTo, getD-upTo-zero}
 use Rattle.theory.specs.Routes.{NoRoute, TheRoute, OneRoute, ShortRoute}
-use Rattle.theory.proofs.Base.{eqb-true, eqb-same, eqb-other, eqb-false, at-most, and-left, and-right, and-both, or-right, not-true, distinct-head, true-in-range}
+use Rattle.theory.proofs.Base.{eqb-true, eqb-same, eqb-other, eqb-false, at-most, and-left}
+use Rattle.theory.proofs.Base.{and-right, and-both, or-right, not-true, distinct-head, true-in-range}
 use Rattle.theory.proofs.Pigeon.{Below, pigeonhole}
 
 -- what a table of tests says at a number
@@ -120,7 +121,8 @@ module _ (R : Region) (free : ℕ → Bool) (a b : ℕ) where
   leads-way (suc k) x h =
       let s : hop k x (next k x) ≡ true = first-passes (hop k x) 0 (length (R .owned)) (in-table (length (R .owned)) _ x h) in
       let j : (joined R x (next k x) && between R free a b (next k x)) ≡ true = and-left _ (Leads k (next k x)) s in
-      then (and-left (joined R x (next k x)) _ j) (and-right (joined R x (next k x)) _ j) (leads-way k (next k x) (and-right (joined R x (next k x) && between R free a b (next k x)) _ s))
+      let l : Leads k (next k x) ≡ true = and-right (joined R x (next k x) && between R free a b (next k x)) _ s in
+      then (and-left (joined R x (next k x)) _ j) (and-right (joined R x (next k x)) _ j) (leads-way k (next k x) l)
 
   hop-passes : (k x y : ℕ) → joined R x y ≡ true → between R free a b y ≡ true → Leads k y ≡ true → hop k x y ≡ true
   hop-passes k x y j t l = and-both _ _ (and-both _ _ j t) l
@@ -132,7 +134,8 @@ module _ (R : Region) (free : ℕ → Bool) (a b : ℕ) where
   way-leads (suc k) (last j) e = absurd (omega arith)
   way-leads (suc k) (then {x = x} {y = y} j t w) e =
       let h : hop k x y ≡ true = hop-passes k x y j t (way-leads k w (omega arith)) in
-      getD-upTo-zero (length (R .owned)) x _ false (joined-from R x y j) ∙ any-some (hop k x) 0 (length (R .owned)) y (omega arith) (omega (arith, joined-to R x y j)) h
+      getD-upTo-zero (length (R .owned)) x _ false (joined-from R x y j)
+      ∙ any-some (hop k x) 0 (length (R .owned)) y (omega arith) (omega (arith, joined-to R x y j)) h
 
   -- among the ways from x by k + 1 edges the one given is the smallest
   best-first : (k : ℕ) {x : ℕ} {q : List ℕ} → Way x q → length q ≡ suc (suc k) → NotAfter (best k x) q
@@ -142,7 +145,9 @@ module _ (R : Region) (free : ℕ → Bool) (a b : ℕ) where
   best-first (suc k) (then {x = x} {y = y} {p = q} j t w) e = inr (refl, go (next k x) below (ℕ-discrete (next k x) y) (best-first k w (omega arith)))
     where
       below : next k x ≤ y
-      below = first-least (hop k x) 0 (length (R .owned)) y (omega arith) (omega (arith, joined-to R x y j)) (hop-passes k x y j t (way-leads k w (omega arith)))
+      below =
+          let h : hop k x y ≡ true = hop-passes k x y j t (way-leads k w (omega arith)) in
+          first-least (hop k x) 0 (length (R .owned)) y (omega arith) (omega (arith, joined-to R x y j)) h
 
       go : (z : ℕ) → z ≤ y → Dec (z ≡ y) → NotAfter (best k y) q → NotAfter (best k z) q
       go z l (yes d) rec = rw d rec
@@ -165,8 +170,11 @@ module _ (R : Region) (free : ℕ → Bool) (a b : ℕ) where
   -- so a shortest way has no location twice
   no-repeat : {x : ℕ} {p : List ℕ} → x ≢ b → Way x p → ((q : List ℕ) → Way x q → length p ≤ length q) → distinct p ≡ true
   no-repeat n (last {x = x} j) s = rw (eqb-other x b n)
-  no-repeat n (then {x = x} {y = y} {p = p} j t w) s = go (any (eqb x) p) refl (no-repeat (between-not-end y t) w (λ q v. let r = s (x ∷ q) (then j t v) in omega (arith, r)))
+  no-repeat n (then {x = x} {y = y} {p = p} j t w) s = go (any (eqb x) p) refl (no-repeat (between-not-end y t) w shortest)
     where
+      shortest : (q : List ℕ) → Way y q → length p ≤ length q
+      shortest q v = let r = s (x ∷ q) (then j t v) in omega (arith, r)
+
       go : (u : Bool) → any (eqb x) p ≡ u → distinct p ≡ true → (not u && distinct p) ≡ true
       go true h d = let r = suffix x w h n in absurd (omega (arith, r .1, s (r .0) (r .2)))
       go false h d = d

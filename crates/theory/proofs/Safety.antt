@@ -17,44 +17,61 @@ use Rattle.answers.specs.Check.{ok, _>>=_, _>>_}
 use Rattle.rules.specs.Basics.{chosen, all, any, upTo, without, setAll, distinct}
 use Rattle.rules.specs.Region.{Region, owns}
 use Rattle.rules.specs.Path.{between, Along, last, then, Path, route}
-use Rattle.rules.specs.Syntax.{Side, device, parameter, Place, param, at, Preparation, plain, magic, Op, init, Statement, op, if, while, call, Statements, done, _⨾_, Block, block, Function, function}
-use Rattle.rules.specs.Slots.{unbound, qubit, bool, ref, slot, holdsNoQubit, isQubitAt, quiet, takes, gives, merges, Done, perform, argumentsAt, callable, entered, kept}
+use Rattle.rules.specs.Syntax.{Side, device, parameter, Place, param, at, Preparation, plain, magic, Op, init}
+use Rattle.rules.specs.Syntax.{Statement, op, if, while, call, Statements, done, _⨾_, Block, block, Function, function}
+use Rattle.rules.specs.Slots.{unbound, qubit, bool, ref, slot, holdsNoQubit, isQubitAt, quiet, takes, gives, merges}
+use Rattle.rules.specs.Slots.{Done, perform, argumentsAt, callable, entered, kept}
 use Rattle.rules.specs.Commands.{Commands, ε, alloc, release, connect, either, repeat, _then_, commandsAt}
 use Rattle.rules.specs.Typing.{Kind, Env, Typed, Signature, Context, signature, afterAct, narrowed, entry, bodyContext, signatureOf}
-use Rattle.rules.specs.Figures.{stored, kindAt, substituted, OpRule, T-Init, T-MInit, T-Free, T-Gate, T-Meas1, T-Meas2, T-MkRef, T-Deref, T-Assign, T-Bool, Arguments, no-more, and, Callable, StatementRule, T-Op, T-If, T-While, T-Call, StatementsRule, T-Unit, T-Seq, BlockRule, T-Close, Linked, Connects, C-Empty, C-Alloc, C-Free, C-Merge, C-If, C-Loop}
-use Rattle.rules.specs.Machine.{Frame, Actual, locations, locate, Item, run, return, Job, statementsBefore, blockBefore, Move, silent, floor, edgesOf, move, Stepped, stepItems, step}
+use Rattle.rules.specs.Figures.{stored, kindAt, substituted, OpRule, T-Init, T-MInit, T-Free, T-Gate, T-Meas1, T-Meas2, T-MkRef, T-Deref, T-Assign, T-Bool}
+use Rattle.rules.specs.Figures.{Arguments, no-more, and, Callable, StatementRule, T-Op, T-If, T-While, T-Call, StatementsRule, T-Unit, T-Seq}
+use Rattle.rules.specs.Figures.{BlockRule, T-Close, Linked, Connects, C-Empty, C-Alloc, C-Free, C-Merge, C-If, C-Loop}
+use Rattle.rules.specs.Machine.{Frame, Actual, locations, locate, Item, run, return, Job, statementsBefore, blockBefore}
+use Rattle.rules.specs.Machine.{Move, silent, floor, edgesOf, move, Stepped, stepItems, step}
 use Rattle.theory.proofs.Base.{eqb-same, eqb-other, below, and-left, and-right, chosen-has, true-in-range, getD-set-stays, getD-set-default}
-use Rattle.theory.proofs.Places.{length-stored, place-path, numbers, all-at, drop-at, at-map, distinct-places, arguments-length, at-at, signature-newest, signature-older, entry-free, length-entry, entry-at, narrowed-home}
+use Rattle.theory.proofs.Places.{length-stored, place-path, numbers, all-at, drop-at, at-map, distinct-places, arguments-length}
+use Rattle.theory.proofs.Places.{at-at, signature-newest, signature-older, entry-free, length-entry, entry-at, narrowed-home}
 use Rattle.theory.proofs.Routes.{path-route}
-use Rattle.theory.proofs.Frames.{Fits, fits-set, fits-narrowed, fits-back, fits-entered, settled}
+use Rattle.theory.proofs.Frames.{Settled, Fits, fits-set, fits-narrowed, fits-back, fits-entered, settled}
 
 -- 1. The places of a call, and what it leaves free
 module _ {s : Side} where
-  map-same : (f g : Place s → Place device) (p : Place s → Bool) (ls : List (Place s)) → ((l : Place s) → p l ≡ true → f l ≡ g l) → all p ls ≡ true → map f ls ≡ map g ls
+  map-same : (f g : Place s → Place device) (p : Place s → Bool) (ls : List (Place s)) → ((l : Place s) → p l ≡ true → f l ≡ g l) → all p ls ≡ true
+      → map f ls ≡ map g ls
   map-same f g p [] h k = refl
   map-same f g p (l ∷ ls) h k = rw (h l (and-left _ _ k), map-same f g p ls h (and-right (p l) _ k))
 
   -- a place is free after a call if the callee left it so, or if the call did not name it and it was free before
   abbrev Left : List Bool → List (Place s) → List Bool → Place s → Type 0
-  Left bs ls fs q = ((i : ℕ) × (at ls i .no ≡ q .no) × (getD bs i false ≡ true)) ⊎ (((i : ℕ) → i < length ls → at ls i .no ≢ q .no) × (getD fs (q .no) false ≡ true))
+  Left bs ls fs q =
+      ((i : ℕ) × (at ls i .no ≡ q .no) × (getD bs i false ≡ true))
+      ⊎ (((i : ℕ) → i < length ls → at ls i .no ≢ q .no) × (getD fs (q .no) false ≡ true))
 
-  left-cases : (bs : List Bool) (ls : List (Place s)) (fs : List Bool) (q : Place s) → length bs ≡ length ls → getD (stored bs (numbers ls) fs) (q .no) false ≡ true → Left bs ls fs q
+  left-cases : (bs : List Bool) (ls : List (Place s)) (fs : List Bool) (q : Place s) → length bs ≡ length ls
+      → getD (stored bs (numbers ls) fs) (q .no) false ≡ true → Left bs ls fs q
   left-cases [] [] fs q e h = inr ((λ i k. absurd (omega arith)), h)
   left-cases [] (l ∷ ls) fs q e h = absurd (omega arith)
   left-cases (b ∷ bs) [] fs q e h = absurd (omega arith)
-  left-cases (b ∷ bs) (l ∷ ls) fs q e h = go (ℕ-discrete (q .no) (l .no)) (decLt (l .no) (length (stored bs (numbers ls) fs))) (λ h′. left-cases bs ls fs q (omega arith) h′)
+  left-cases (b ∷ bs) (l ∷ ls) fs q e h =
+      go (ℕ-discrete (q .no) (l .no)) (decLt (l .no) (length before)) (λ h′. left-cases bs ls fs q (omega arith) h′)
     where
+      before : List Bool
+      before = stored bs (numbers ls) fs
+
       more : q .no ≢ l .no → ((i : ℕ) → i < length ls → at ls i .no ≢ q .no) → (i : ℕ) → i < suc (length ls) → at (l ∷ ls) i .no ≢ q .no
       more n f zero k = λ r. n (sym r)
       more n f (suc i) k = f i (omega arith)
 
-      go : Dec (q .no ≡ l .no) → Dec (l .no < length (stored bs (numbers ls) fs)) → (getD (stored bs (numbers ls) fs) (q .no) false ≡ true → Left bs ls fs q) → Left (b ∷ bs) (l ∷ ls) fs q
-      go (yes r) (yes k) rec = inl (zero, sym r, sym (getD-set-same (stored bs (numbers ls) fs) (l .no) b false k) ∙ (rw r at h))
+      go : Dec (q .no ≡ l .no) → Dec (l .no < length before) → (getD before (q .no) false ≡ true → Left bs ls fs q) → Left (b ∷ bs) (l ∷ ls) fs q
+      go (yes r) (yes k) rec = inl (zero, sym r, sym (getD-set-same before (l .no) b false k) ∙ (rw r at h))
       go (yes r) (no k) rec =
-          let h′ : getD (stored bs (numbers ls) fs) (q .no) false ≡ true = rw (set-out (stored bs (numbers ls) fs) (l .no) b (omega arith)) at h in
-          let m : q .no < length (stored bs (numbers ls) fs) = true-in-range (stored bs (numbers ls) fs) (q .no) h′ in
+          let h′ : getD before (q .no) false ≡ true = rw (set-out before (l .no) b (omega arith)) at h in
+          let m : q .no < length before = true-in-range before (q .no) h′ in
           absurd (omega arith)
-      go (no n) d rec = ⊎-elim (λ c. inl (suc (c .0), c .1, c .2)) (λ c. inr (more n (c .0), c .1)) (rec (sym (getD-set-other (stored bs (numbers ls) fs) (l .no) (q .no) b false n) ∙ h))
+      go (no n) d rec = ⊎-elim
+          (λ c. inl (suc (c .0), c .1, c .2))
+          (λ c. inr (more n (c .0), c .1))
+          (rec (sym (getD-set-other before (l .no) (q .no) b false n) ∙ h))
 
 -- 2. A path over some free locations is one over more, so there is a route
 module _ (R : Region) (f g : ℕ → Bool) (a b : ℕ) (more : (i : ℕ) → f i ≡ true → g i ≡ true) where
@@ -137,7 +154,16 @@ module _ (R : Region) (fs : List Function) (len : ℕ) where
   known-at f (known-more {gs = gs} {g = g} {d = d} K b n j) h = go (λ k. known-at f K k) (ℕ-discrete f (length gs))
     where
       go : (f < length gs → Callee f (signature gs f)) → Dec (f ≡ length gs) → Callee f (signature (signatureOf g d ∷ gs) f)
-      go rec (yes e) = record { gs = gs; g = g; d = d; known = K; found = ap (λ n. function fs n) e ∙ b; few = n; typed = j; is = signature-newest (signatureOf g d) gs f e }
+      go rec (yes e) = record {
+        gs = gs;
+        g = g;
+        d = d;
+        known = K;
+        found = ap (λ n. function fs n) e ∙ b;
+        few = n;
+        typed = j;
+        is = signature-newest (signatureOf g d) gs f e;
+      }
       go rec (no n) = rw (signature-older (signatureOf g d) gs f (omega arith)) (rec (omega arith))
 
   -- A caller with slots χ that waits for its callee D, called at these locations with these argument slots
@@ -157,10 +183,12 @@ module _ (R : Region) (fs : List Function) (len : ℕ) where
     pub count : D .size ≡ length ls
     pub range : (p : Place parameter) → p .no < D .size → at ls (p .no) .no < B .size
     -- what the call did not name is still free
-    pub frees : (q : Place s) → ((p : Place parameter) → p .no < D .size → at ls (p .no) .no ≢ q .no) → getD (Γ .free) (q .no) false ≡ true → getD N (B .place q .no) false ≡ true
+    pub frees : (q : Place s) → ((p : Place parameter) → p .no < D .size → at ls (p .no) .no ≢ q .no) → getD (Γ .free) (q .no) false ≡ true
+        → getD N (B .place q .no) false ≡ true
 
   -- the caller's environment once the callee has ended with Δ
-  abbrev pub resumed : {N : List Bool} {D : Body parameter} {χ : Frame} {actual : List (Place device)} {xs : List ℕ} (w : Waiting N D χ actual xs) → Env parameter → Env (w .s)
+  abbrev pub resumed : {N : List Bool} {D : Body parameter} {χ : Frame} {actual : List (Place device)} {xs : List ℕ} (w : Waiting N D χ actual xs)
+      → Env parameter → Env (w .s)
   resumed {xs = xs} w Δ = record {
     slots = stored (upTo 0 (length xs) λ i. kindAt (w .ls) (slot (Δ .slots) i)) xs (w .Γ .slots);
     free = stored (Δ .free) (numbers (w .ls)) (w .Γ .free);
@@ -173,8 +201,9 @@ module _ (R : Region) (fs : List Function) (len : ℕ) where
         → (Γ₀ : Env s) → Rest N s B (record { slots = narrowed (Γ₀ .slots) (Γ .slots); free = Γ .free }) L φs is → Rest N s B Γ L φs is
     next : {s : Side} {B : Body s} {Γ Δ : Env s} {L M : List Bool} {φs : List Frame} {is : List Item} {t : Statement s} {c : Commands s}
         → StatementRule (B .context) Γ t Δ c → Connects R L (commandsAt (B .place) c) M → Rest N s B Δ M φs is → Rest N s B Γ L φs (run (B .actual) t ∷ is)
-    back : {D : Body parameter} {Δ : Env parameter} {L : List Bool} {χ : Frame} {φs : List Frame} {is : List Item} {o : ℕ} {actual : List (Place device)} {xs : List ℕ}
-        → (w : Waiting N D χ actual xs) → Home (length xs) (Δ .slots) → Rest N (w .s) (w .B) (resumed w Δ) L φs is → Rest N parameter D Δ L (χ ∷ φs) (return o actual xs ∷ is)
+    back : {D : Body parameter} {Δ : Env parameter} {L : List Bool} {χ : Frame} {φs : List Frame} {is : List Item} {o : ℕ}
+        {actual : List (Place device)} {xs : List ℕ} → (w : Waiting N D χ actual xs) → Home (length xs) (Δ .slots)
+        → Rest N (w .s) (w .B) (resumed w Δ) L φs is → Rest N parameter D Δ L (χ ∷ φs) (return o actual xs ∷ is)
 
   -- The body on top: its places, its slots and its free places fit the device as it is
   pub record Good {s : Side} (B : Body s) (Γ : Env s) (N : List Bool) (φ : Frame) : Type 0 where
@@ -193,7 +222,8 @@ module _ (R : Region) (fs : List Function) (len : ℕ) where
     pub rest : Rest N s B Γ N (J .below) (J .items)
 
   -- 4. The map changes at a place of the body on top: nothing that waits below minds
-  waiting-give : {N : List Bool} {D : Body parameter} {χ : Frame} {actual : List (Place device)} {xs : List ℕ} (t : ℕ) → Waiting N D χ actual xs → Waiting (set N t true) D χ actual xs
+  waiting-give : {N : List Bool} {D : Body parameter} {χ : Frame} {actual : List (Place device)} {xs : List ℕ} (t : ℕ) → Waiting N D χ actual xs
+      → Waiting (set N t true) D χ actual xs
   waiting-give {N = N} t w = record {
     s = w .s;
     B = w .B;
@@ -232,13 +262,15 @@ module _ (R : Region) (fs : List Function) (len : ℕ) where
     frees = λ q n h. getD-set-other N _ _ false false (other q n h) ∙ w .frees q n h;
   }
     where
-      other : (q : Place (w .s)) → ((p : Place parameter) → p .no < D .size → at (w .ls) (p .no) .no ≢ q .no) → getD (w .Γ .free) (q .no) false ≡ true → w .B .place q .no ≢ D .place l .no
+      other : (q : Place (w .s)) → ((p : Place parameter) → p .no < D .size → at (w .ls) (p .no) .no ≢ q .no) → getD (w .Γ .free) (q .no) false ≡ true
+          → w .B .place q .no ≢ D .place l .no
       other q n h e =
           let r : q .no < length (w .Γ .free) = true-in-range (w .Γ .free) (q .no) h in
           let z : length (w .Γ .free) ≡ w .B .size = w .sized in
           n l k (sym (w .placed .apart q (at (w .ls) (l .no)) (omega arith) (w .range l k) (e ∙ ap (λ p. p .no) (w .places l))))
 
-  rest-give : {N : List Bool} {s : Side} {B : Body s} {Γ : Env s} {L : List Bool} {φs : List Frame} {is : List Item} (t : ℕ) → Rest N s B Γ L φs is → Rest (set N t true) s B Γ L φs is
+  rest-give : {N : List Bool} {s : Side} {B : Body s} {Γ : Env s} {L : List Bool} {φs : List Frame} {is : List Item} (t : ℕ) → Rest N s B Γ L φs is
+      → Rest (set N t true) s B Γ L φs is
   unfolding waiting-give
   rest-give t finished = finished
   rest-give t (close Γ₀ r) = close Γ₀ (rest-give t r)
@@ -253,7 +285,8 @@ module _ (R : Region) (fs : List Function) (len : ℕ) where
   rest-take l k (next j c r) = next j c (rest-take l k r)
   rest-take {N = N} l k (back {Δ = Δ} {L = L} {φs = φs} {is = is} w h r) =
       back (waiting-take l k w) h
-      (subst (λ (n : ℕ). Rest (set N n false) (w .s) (w .B) (resumed w Δ) L φs is) (ap (λ p. p .no) (sym (w .places l))) (rest-take (at (w .ls) (l .no)) (w .range l k) r))
+      (subst (λ (n : ℕ). Rest (set N n false) (w .s) (w .B) (resumed w Δ) L φs is) (ap (λ p. p .no) (sym (w .places l)))
+      (rest-take (at (w .ls) (l .no)) (w .range l k) r))
 
   -- 5. The commands of a sequence, and a typed block put before typed items
   connects-nil : {L M : List Bool} → Connects R L ε M → L ≡ M
@@ -283,8 +316,9 @@ module _ (R : Region) (fs : List Function) (len : ℕ) where
   connects-split ρ (either a b c) d (C-If h k r) = let (K, p, q) = connects-split ρ c d r in (K, C-If h k p, q)
   connects-split ρ (repeat a c) d (C-Loop h r) = let (K, p, q) = connects-split ρ c d r in (K, C-Loop h p, q)
 
-  rest-statements : {N : List Bool} {s : Side} {B : Body s} {Γ Δ : Env s} (ts : Statements s) {c : Commands s} {L M : List Bool} {φs : List Frame} {is : List Item}
-      → StatementsRule (B .context) Γ ts Δ c → Connects R L (commandsAt (B .place) c) M → Rest N s B Δ M φs is → Rest N s B Γ L φs (statementsBefore (B .actual) ts is)
+  rest-statements : {N : List Bool} {s : Side} {B : Body s} {Γ Δ : Env s} (ts : Statements s) {c : Commands s} {L M : List Bool} {φs : List Frame}
+      {is : List Item} → StatementsRule (B .context) Γ ts Δ c → Connects R L (commandsAt (B .place) c) M → Rest N s B Δ M φs is
+      → Rest N s B Γ L φs (statementsBefore (B .actual) ts is)
   rest-statements {N = N} {s = s} {B = B} {Γ = Γ} done {φs = φs} {is = is} T-Unit w r = subst (λ (L : List Bool). Rest N s B Γ L φs is) (sym (connects-nil w)) r
   rest-statements {B = B} (t ⨾ ts) (T-Seq {c = c} {d = d} j k) w r = let (K, p, q) = connects-split (B .place) c d w in next j p (rest-statements ts k q r)
 
@@ -331,7 +365,8 @@ module _ (R : Region) (fs : List Function) (len : ℕ) where
         frees = take-frees (Γ .free) N l (G .placed) (G .sized) (G .placed .range l i) (G .frees);
       }
 
-      given : {vs : List (Kind s)} {ψ : Frame} (l : Place s) → Fits (B .place) vs ψ → Good B (record { slots = vs; free = set (Γ .free) (l .no) true }) (set N (B .place l .no) true) ψ
+      given : {vs : List (Kind s)} {ψ : Frame} (l : Place s) → Fits (B .place) vs ψ
+          → Good B (record { slots = vs; free = set (Γ .free) (l .no) true }) (set N (B .place l .no) true) ψ
       given l F = record {
         known = G .known;
         placed = G .placed;
@@ -342,8 +377,8 @@ module _ (R : Region) (fs : List Function) (len : ℕ) where
       }
 
       performed : {Δ : Env s} {φs : List Frame} {is : List Item} {o : ℕ} {a : Op s} (d : Done device Bool) (e : ℕ)
-          → perform (floor R fs v isFree (B .actual)) o φ a ≡ ok d → edgesOf R fs v isFree (d .act) o ≡ ok e
-          → Good B Δ (afterAct (d .act) N) (d .slots) → Rest (afterAct (d .act) N) s B Δ (afterAct (d .act) N) φs is → Moves N φ φs (run (B .actual) (op o a)) is
+          → perform (floor R fs v isFree (B .actual)) o φ a ≡ ok d → edgesOf R fs v isFree (d .act) o ≡ ok e → Good B Δ (afterAct (d .act) N) (d .slots)
+          → Rest (afterAct (d .act) N) s B Δ (afterAct (d .act) N) φs is → Moves N φ φs (run (B .actual) (op o a)) is
       unfolding _>>=_ _>>_
       performed {Δ = Δ} {φs = φs} {is = is} d e p q H z = record {
         to = record { next = record { top = d .slots; below = φs; items = is }; act = d .act; edges = e };
@@ -399,17 +434,18 @@ module _ (R : Region) (fs : List Function) (len : ℕ) where
           performed (record { slots = set φ y (bool u); act = quiet }) 0 (rw (can-bind y p)) refl
           (kept-good (fits-set (B .place) y (bool tt) (bool u) (G .fits) (u, refl))) (now (connects-nil w) z)
 
-      if-moves : {Δ : Env s} {M : List Bool} {φs : List Frame} {is : List Item} {o y : ℕ} (b b′ : Block s) {c c′ : Commands s}
-          → slot (Γ .slots) y ≡ bool tt → BlockRule (B .context) Γ b Δ c → BlockRule (B .context) Γ b′ Δ c′ → Connects R N (commandsAt (B .place) (either c c′ ε)) M → Rest N s B Δ M φs is
+      if-moves : {Δ : Env s} {M : List Bool} {φs : List Frame} {is : List Item} {o y : ℕ} (b b′ : Block s) {c c′ : Commands s} → slot (Γ .slots) y ≡ bool tt
+          → BlockRule (B .context) Γ b Δ c → BlockRule (B .context) Γ b′ Δ c′ → Connects R N (commandsAt (B .place) (either c c′ ε)) M → Rest N s B Δ M φs is
           → Moves N φ φs (run (B .actual) (if o y b b′)) is
       unfolding _>>=_ _>>_
       if-moves {φs = φs} {is = is} {y = y} b b′ p j k w z =
           let (t, e) = is-bool y p in
           let (w₁, w₂) = connects-either w in
+          let rest = chosen-has (λ js. Rest N s B Γ N φs js) t (rest-block b j w₁ z) (rest-block b′ k w₂ z) in
           record {
             to = silent φ φs (chosen t (blockBefore (B .actual) b is) (blockBefore (B .actual) b′ is));
             moves = rw e;
-            inv = record { s = s; B = B; Γ = Γ; good = G; rest = chosen-has (λ js. Rest N s B Γ N φs js) t (rest-block b j w₁ z) (rest-block b′ k w₂ z) };
+            inv = record { s = s; B = B; Γ = Γ; good = G; rest = rest };
           }
 
       while-moves : {M : List Bool} {φs : List Frame} {is : List Item} {o r : ℕ} (b : Block s) {c : Commands s}
@@ -419,15 +455,17 @@ module _ (R : Region) (fs : List Function) (len : ℕ) where
       while-moves {φs = φs} {is = is} {o = o} {r = r} b {c = c} p j w z =
           let (t, e) = is-ref r p in
           let (w₁, q) = connects-repeat w in
+          let rest = chosen-has (λ js. Rest N s B Γ N φs js) t (rest-block b j w₁ (next (T-While p j) w z)) (now q z) in
           record {
             to = silent φ φs (chosen t (blockBefore (B .actual) b (run (B .actual) (while o r b) ∷ is)) is);
             moves = rw e;
-            inv = record { s = s; B = B; Γ = Γ; good = G; rest = chosen-has (λ js. Rest N s B Γ N φs js) t (rest-block b j w₁ (next (T-While p j) w z)) (now q z) };
+            inv = record { s = s; B = B; Γ = Γ; good = G; rest = rest };
           }
 
     -- 7. The return: the caller finds its slots and its places as typing says
-    return-moves : {D : Body parameter} {Δ : Env parameter} {N : List Bool} {φ χ : Frame} {φs : List Frame} {is : List Item} {o : ℕ} {actual : List (Place device)} {xs : List ℕ}
-        → Good D Δ N φ → (w : Waiting N D χ actual xs) → Home (length xs) (Δ .slots) → Rest N (w .s) (w .B) (resumed w Δ) N φs is → Moves N φ (χ ∷ φs) (return o actual xs) is
+    return-moves : {D : Body parameter} {Δ : Env parameter} {N : List Bool} {φ χ : Frame} {φs : List Frame} {is : List Item} {o : ℕ}
+        {actual : List (Place device)} {xs : List ℕ} → Good D Δ N φ → (w : Waiting N D χ actual xs) → Home (length xs) (Δ .slots)
+        → Rest N (w .s) (w .B) (resumed w Δ) N φs is → Moves N φ (χ ∷ φs) (return o actual xs) is
     return-moves {D = D} {Δ = Δ} {N = N} {φ = φ} {χ = χ} {φs = φs} {is = is} {actual = actual} {xs = xs} G w h r = record {
       to = silent (setAll unbound (without (kept φ (at actual) (length xs)) xs) χ) φs is;
       moves = refl;
@@ -441,22 +479,35 @@ module _ (R : Region) (fs : List Function) (len : ℕ) where
           placed = w .placed;
           sized = length-stored (Δ .free) (numbers (w .ls)) (w .Γ .free) ∙ w .sized;
           long = G .long;
-          fits = fits-back (w .B .place) 0 (λ i. kindAt (w .ls) (slot (Δ .slots) i)) (λ i. isQubitAt (slot φ i) (at actual i)) xs (w .ls) (w .fits) (w .arguments) (w .different)
-              (λ j k. rw (zero-add j) (settled (D .place) (w .ls) actual (slot (Δ .slots) j) (slot φ j) j (G .fits .each j) (w .named j k) (h j k)));
+          fits = fits-back (w .B .place) 0 ends stays xs (w .ls) (w .fits) (w .arguments) (w .different) (λ j k. rw (zero-add j) (argument j k));
           frees = λ q k. ⊎-elim (named q) (other q) (left-cases (Δ .free) (w .ls) (w .Γ .free) q (G .sized ∙ w .count) k);
         };
       };
     }
       where
-        named : (q : Place (w .s)) → (i : ℕ) × (at (w .ls) i .no ≡ q .no) × (getD (Δ .free) i false ≡ true) → getD N (w .B .place q .no) false ≡ true
-        named q c = subst (λ (p : Place device). getD N (p .no) false ≡ true) (w .places (param (c .0)) ∙ ap (λ p. w .B .place p) (place-path (at (w .ls) (c .0)) q (c .1))) (G .frees (param (c .0)) (c .2))
+        -- what the caller's typing has of argument i, and whether its slot stays bound
+        ends : ℕ → Kind (w .s)
+        ends i = kindAt (w .ls) (slot (Δ .slots) i)
 
-        other : (q : Place (w .s)) → ((i : ℕ) → i < length (w .ls) → at (w .ls) i .no ≢ q .no) × (getD (w .Γ .free) (q .no) false ≡ true) → getD N (w .B .place q .no) false ≡ true
+        stays : ℕ → Bool
+        stays i = isQubitAt (slot φ i) (at actual i)
+
+        argument : (j : ℕ) → j < length xs → Settled (ends j) (stays j) (at (w .ls) j)
+        argument j k = settled (D .place) (w .ls) actual (slot (Δ .slots) j) (slot φ j) j (G .fits .each j) (w .named j k) (h j k)
+
+        named : (q : Place (w .s)) → (i : ℕ) × (at (w .ls) i .no ≡ q .no) × (getD (Δ .free) i false ≡ true) → getD N (w .B .place q .no) false ≡ true
+        named q (i, e, k) =
+            let same : D .place (param i) ≡ w .B .place q = w .places (param i) ∙ ap (λ p. w .B .place p) (place-path (at (w .ls) i) q e) in
+            subst (λ (p : Place device). getD N (p .no) false ≡ true) same (G .frees (param i) k)
+
+        other : (q : Place (w .s)) → ((i : ℕ) → i < length (w .ls) → at (w .ls) i .no ≢ q .no) × (getD (w .Γ .free) (q .no) false ≡ true)
+            → getD N (w .B .place q .no) false ≡ true
         other q c = w .frees q (λ p k. c .0 (p .no) (omega (arith, w .count))) (c .1)
 
   -- 8. A call asks on the device what it asks in typing
   module _ {s : Side} where
-    all-map : (f : Place s → Bool) (g : Place device → Bool) (ρ : Place s → Place device) (ls : List (Place s)) → ((l : Place s) → f l ≡ true → g (ρ l) ≡ true) → all f ls ≡ true → all g (map ρ ls) ≡ true
+    all-map : (f : Place s → Bool) (g : Place device → Bool) (ρ : Place s → Place device) (ls : List (Place s)) → ((l : Place s) → f l ≡ true → g (ρ l) ≡ true)
+        → all f ls ≡ true → all g (map ρ ls) ≡ true
     all-map f g ρ [] h k = refl
     all-map f g ρ (l ∷ ls) h k = rw (h l (and-left _ _ k)) (all-map f g ρ ls h (and-right (f l) _ k))
 
@@ -475,20 +526,26 @@ module _ (R : Region) (fs : List Function) (len : ℕ) where
     any-map : {B : Body s} (l : Place s) (ls : List (Place s)) → Placed B → l .no < B .size → all (B .context .inside) ls ≡ true
         → any (eqb (B .place l .no)) (numbers (map (B .place) ls)) ≡ any (eqb (l .no)) (numbers ls)
     any-map l [] P a h = refl
-    any-map {B = B} l (k ∷ ls) P a h = rw (eqb-map l k P a (P .range k (and-left (B .context .inside k) _ h)), any-map l ls P a (and-right (B .context .inside k) _ h))
+    any-map {B = B} l (k ∷ ls) P a h =
+        rw (eqb-map l k P a (P .range k (and-left (B .context .inside k) _ h)), any-map l ls P a (and-right (B .context .inside k) _ h))
 
-    distinct-map : {B : Body s} (ls : List (Place s)) → Placed B → all (B .context .inside) ls ≡ true → distinct (numbers (map (B .place) ls)) ≡ distinct (numbers ls)
+    distinct-map : {B : Body s} (ls : List (Place s)) → Placed B → all (B .context .inside) ls ≡ true
+        → distinct (numbers (map (B .place) ls)) ≡ distinct (numbers ls)
     distinct-map [] P h = refl
     distinct-map {B = B} (l ∷ ls) P h =
-        rw (any-map l ls P (P .range l (and-left (B .context .inside l) _ h)) (and-right (B .context .inside l) _ h), distinct-map ls P (and-right (B .context .inside l) _ h))
+        let rest : all (B .context .inside) ls ≡ true = and-right (B .context .inside l) _ h in
+        rw (any-map l ls P (P .range l (and-left (B .context .inside l) _ h)) rest, distinct-map ls P rest)
 
   -- a function's body ends with its arguments at home
-  body-home : {C : Context parameter} {Δ : Env parameter} {c : Commands parameter} (g : Function) (b : Block parameter) → BlockRule C (entry g) b Δ c → Home (g .m) (Δ .slots)
+  body-home : {C : Context parameter} {Δ : Env parameter} {c : Commands parameter} (g : Function) (b : Block parameter) → BlockRule C (entry g) b Δ c
+      → Home (g .m) (Δ .slots)
   body-home g (block o ts) (T-Close {Δ = Δ} j p) i k =
       narrowed-home (entry g .slots) (Δ .slots) i (param i) p (entry-at (g .m) i k)
 
-  module _ (v : Bool) (isFree : ℕ → Bool) {s : Side} {B : Body s} {Γ : Env s} {N : List Bool} {φ : Frame} (more : (l : ℕ) → getD N l false ≡ true → isFree l ≡ true) (G : Good B Γ N φ) where
-    arguments-ok : (o : ℕ) {xs : List ℕ} {ls : List (Place s)} → Arguments Γ xs ls → argumentsAt (floor R fs v isFree (B .actual)) o φ xs (map (B .place) ls) ≡ ok tt
+  module _ (v : Bool) (isFree : ℕ → Bool) {s : Side} {B : Body s} {Γ : Env s} {N : List Bool} {φ : Frame}
+      (more : (l : ℕ) → getD N l false ≡ true → isFree l ≡ true) (G : Good B Γ N φ) where
+    arguments-ok : (o : ℕ) {xs : List ℕ} {ls : List (Place s)} → Arguments Γ xs ls
+        → argumentsAt (floor R fs v isFree (B .actual)) o φ xs (map (B .place) ls) ≡ ok tt
     unfolding _>>=_ _>>_
     arguments-ok o no-more = refl
     arguments-ok o (and {x = x} {l = l} p r) = rw (is-qubit v isFree more G x l p, eqb-same (B .place l .no)) (arguments-ok o r)
@@ -504,15 +561,19 @@ module _ (R : Region) (fs : List Function) (len : ℕ) where
       same-places : actual ≡ map (B .place) ls
       same-places = map-same (locate (B .actual)) (B .place) (B .context .inside) ls (λ l h. G .placed .agree l h) (A .inside)
 
+      places-own : all (λ l. owns R (l .no)) (map (B .place) ls) ≡ true
+      places-own = all-map (B .context .inside) (λ l. owns R (l .no)) (B .place) ls (G .placed .own) (A .inside)
+
+      others-free : all (λ l. isFree (l .no)) (drop (length xs) (map (B .place) ls)) ≡ true
+      others-free =
+          rw (drop-map (B .place) (length xs) ls)
+          (all-map (λ l. getD (Γ .free) (l .no) false) (λ l. isFree (l .no)) (B .place) (drop (length xs) ls) (is-free v isFree more G) (A .others-free))
+
       call-ok : (o : ℕ) → callable (floor R fs v isFree (B .actual)) o φ actual xs ≡ ok tt
       unfolding _>>=_ _>>_
       call-ok o =
-          let p : all (λ l. owns R (l .no)) (map (B .place) ls) ≡ true = all-map (B .context .inside) (λ l. owns R (l .no)) (B .place) ls (λ l h. G .placed .own l h) (A .inside) in
-          let q : distinct (numbers (map (B .place) ls)) ≡ true = distinct-map ls (G .placed) (A .inside) ∙ A .different in
-          let w : all (λ l. isFree (l .no)) (drop (length xs) (map (B .place) ls)) ≡ true
-          = rw (drop-map (B .place) (length xs) ls)
-          (all-map (λ l. getD (Γ .free) (l .no) false) (λ l. isFree (l .no)) (B .place) (drop (length xs) ls) (λ l h. is-free v isFree more G l h) (A .others-free)) in
-          rw same-places (rw (p, q, A .different-slots, arguments-ok o (A .arguments), w))
+          let apart : distinct (numbers (map (B .place) ls)) ≡ true = distinct-map ls (G .placed) (A .inside) ∙ A .different in
+          rw same-places (rw (places-own, apart, A .different-slots, arguments-ok o (A .arguments), others-free))
 
       many : length ls ≡ callee .g .k
       many = A .locations ∙ ap (λ h. h .k) (callee .is)
@@ -548,7 +609,9 @@ module _ (R : Region) (fs : List Function) (len : ℕ) where
           size = length-entry (callee .g .m) (callee .g .k - callee .g .m) ∙ omega (arith, fit)
 
           fitting : Fits (inner .place) (entered (upTo 0 (callee .g .m) param)) (entered (take (callee .g .m) actual))
-          fitting = fits-entered (inner .place) (callee .g .m) actual (callee .few) (omega (arith, fit, many, length-map ls (locate (B .actual)))) (λ j h. named-at j (omega (arith, fit)))
+          fitting =
+              let long : callee .g .m ≤ length actual = omega (arith, fit, many, length-map ls (locate (B .actual))) in
+              fits-entered (inner .place) (callee .g .m) actual (callee .few) long (λ j h. named-at j (omega (arith, fit)))
 
           frees : (i : Place parameter) → getD (entry (callee .g) .free) (i .no) false ≡ true → getD N (B .place (at ls (i .no)) .no) false ≡ true
           frees i h =
@@ -577,8 +640,8 @@ module _ (R : Region) (fs : List Function) (len : ℕ) where
       }
 
       call-moves : {M : List Bool} {φs : List Frame} {is : List Item} {o : ℕ}
-          → Connects R N (commandsAt (B .place) (commandsAt (λ p. at ls (p .no)) (callee .d .commands))) M → Rest N s B (substituted (signatureOf (callee .g) (callee .d)) ls xs Γ) M φs is
-          → Moves v isFree N φ φs (run (B .actual) (call o f ls xs)) is
+          → Connects R N (commandsAt (B .place) (commandsAt (λ p. at ls (p .no)) (callee .d .commands))) M
+          → Rest N s B (substituted (signatureOf (callee .g) (callee .d)) ls xs Γ) M φs is → Moves v isFree N φ φs (run (B .actual) (call o f ls xs)) is
       unfolding _>>=_ _>>_ waiting
       call-moves {φs = φs} {is = is} {o = o} w z = record {
         to = silent (entered (take (length xs) actual)) (φ ∷ φs) (blockBefore (locations actual) (function fs f .body) (return o actual xs ∷ is));
@@ -595,9 +658,10 @@ module _ (R : Region) (fs : List Function) (len : ℕ) where
 
   -- 9. Every step of a job whose state is typed moves or finds it finished, and leaves its state typed.
   module _ (v : Bool) (isFree : ℕ → Bool) where
-    rest-moves : {N : List Bool} {s : Side} {B : Body s} {Γ : Env s} {φ : Frame} {φs : List Frame} {i : Item} {is : List Item} → ((l : ℕ) → getD N l false ≡ true → isFree l ≡ true)
-        → Good B Γ N φ → Rest N s B Γ N φs (i ∷ is) → Moves v isFree N φ φs i is
-    rest-moves {B = B} {Γ = Γ} {φ = φ} more G (close Γ₀ r) = rest-moves more (kept-good v isFree more G (fits-narrowed (B .place) (Γ₀ .slots) (Γ .slots) φ (G .fits))) r
+    rest-moves : {N : List Bool} {s : Side} {B : Body s} {Γ : Env s} {φ : Frame} {φs : List Frame} {i : Item} {is : List Item}
+        → ((l : ℕ) → getD N l false ≡ true → isFree l ≡ true) → Good B Γ N φ → Rest N s B Γ N φs (i ∷ is) → Moves v isFree N φ φs i is
+    rest-moves {B = B} {Γ = Γ} {φ = φ} more G (close Γ₀ r) =
+        rest-moves more (kept-good v isFree more G (fits-narrowed (B .place) (Γ₀ .slots) (Γ .slots) φ (G .fits))) r
     rest-moves more G (next (T-Op j) w r) = op-moves v isFree more G j w r
     rest-moves {N = N} {s = s} {B = B} {Γ = Γ} {φs = φs} {is = is} more G (next {M = M} (T-Call {f = f} {ls = ls} {xs = xs} A) w r) =
         let callee : Callee f (signature (B .context .functions) f) = known-at f (G .known) (A .earlier) in
@@ -612,11 +676,12 @@ module _ (R : Region) (fs : List Function) (len : ℕ) where
       pub unstuck : leb (S .answer .code) 1 ≡ true
       pub inv : Inv (afterAct (S .act) N) (S .next)
 
-    moved : {N : List Bool} {φ : Frame} {φs : List Frame} {i : Item} {is : List Item} → Moves v isFree N φ φs i is → Fine N (stepItems R fs v isFree φ φs (i ∷ is))
+    moved : {N : List Bool} {φ : Frame} {φs : List Frame} {i : Item} {is : List Item} → Moves v isFree N φ φs i is
+        → Fine N (stepItems R fs v isFree φ φs (i ∷ is))
     moved m = rw (m .moves) (record { unstuck = refl; inv = m .inv })
 
-    fine-items : {N : List Bool} {s : Side} {B : Body s} {Γ : Env s} (φ : Frame) (φs : List Frame) (is : List Item) → ((l : ℕ) → getD N l false ≡ true → isFree l ≡ true)
-        → Good B Γ N φ → Rest N s B Γ N φs is → Fine N (stepItems R fs v isFree φ φs is)
+    fine-items : {N : List Bool} {s : Side} {B : Body s} {Γ : Env s} (φ : Frame) (φs : List Frame) (is : List Item)
+        → ((l : ℕ) → getD N l false ≡ true → isFree l ≡ true) → Good B Γ N φ → Rest N s B Γ N φs is → Fine N (stepItems R fs v isFree φ φs is)
     fine-items {s = s} {B = B} {Γ = Γ} φ φs [] more G r = record { unstuck = refl; inv = record { s = s; B = B; Γ = Γ; good = G; rest = r } }
     fine-items φ φs (i ∷ is) more G r = moved (rest-moves more G r)
 

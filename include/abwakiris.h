@@ -8,6 +8,10 @@
  *   bits 40 to 47   the file that the place is in, ABWAKIRIS_IN_..
  *   bits 48 to 63   0
  *
+ * Packing cuts nothing off: a refusal's number is 1 to 26 and its place at most 4,096; a command count is at most 65,535, a route has at most
+ * 256 locations, and a job moves at most 4,096 steps in a run. So taking an answer apart, as the macros below do, gives back exactly what the
+ * call promises; that is proved of every call.
+ *
  * After a refusal every buffer that was lent holds the bytes it held before. Bytes past what a call writes stay as they are. A buffer that a
  * call writes (buffer, records, map) must overlap nothing else that is given to it; what it only reads may overlap.
  */

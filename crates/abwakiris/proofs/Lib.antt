@@ -2,3 +2,4 @@ mod CheckLaws
 mod ReadLaws
 mod RouteLaws
 mod RunLaws
+pub mod Unpacked

@@ -1,0 +1,108 @@
+-- Taking an answer apart gives it back. A value below 2^32, a place below 2^32, a number below 256 and a file's code below 256 each stand in bits of their
+-- own, so that packing cuts nothing off; that every answer of the calls is such a one is the theory's `Within`.
+use mathlib.Core.Bool.{true}
+use mathlib.Core.Path.{_≡_, refl, ap}
+use native.Mathlib.Omega.{arith}
+use Prim.Native.Nat.{ℕ, _+_, _-_, _*_, _/_, _%_, _^_, _≤_, _<_}
+use lib.Dec.{eqb}
+use Rattle.answers.specs.Check.{Check, ok, refused}
+use Rattle.answers.specs.declared.File.{File}
+use Rattle.answers.specs.declared.File.the-variants.{NoFile, Device, Schedule, Program}
+use Rattle.answers.specs.declared.Moved.{Moved}
+use Rattle.answers.specs.declared.Refusal.{Refusal}
+use Rattle.theory.specs.Bounds.{jobNamed, Given, Within, value, refusal}
+use Rattle.theory.proofs.Base.{eqb-other}
+use Rattle.theory.proofs.Bounds.{read-device-within, read-program-within, check-within, route-within, run-within}
+use Rattle.abwakiris.specs.Packed.{fileCode, packedRefusal, packedRead, packedValue, packedMoved}
+use Rattle.abwakiris.specs.Unpacked.{valueOf, numberOf, codeOf, movedOf, fileOf, refusalOf, unpacked, unpackedRead, unpackedValue, unpackedMoved}
+use Rattle.abwakiris.specs.Unpacked.{Kept, ReadDeviceKept, ReadProgramKept, CheckKept, RouteKept, RunKept}
+
+-- a file by its code
+file-kept : (f : File) → fileOf (fileCode f) ≡ f
+file-kept NoFile = refl
+file-kept Device = refl
+file-kept Schedule = refl
+file-kept (Program j) =
+    let back : 16 + j - 16 ≡ j = omega arith in
+    rw (eqb-other (16 + j) 0 (omega arith), eqb-other (16 + j) 1 (omega arith), eqb-other (16 + j) 2 (omega arith)) (ap Program back)
+
+code-few : (f : File) → jobNamed f ≤ 2 → fileCode f ≤ 18
+code-few NoFile h = omega arith
+code-few Device h = omega arith
+code-few Schedule h = omega arith
+code-few (Program j) h = omega arith
+
+-- what is below 2^32 has number 0
+accepted : (a : ℕ) → a < 2 ^ 32 → eqb (numberOf a) 0 ≡ true
+accepted a h = let z : numberOf a ≡ 0 = omega arith in rw z
+
+module _ (r : Refusal) (g : Given r) where
+  number-kept : numberOf (packedRefusal r) ≡ r .number
+  number-kept = omega (arith, code-few (r .file) (g .named))
+
+  place-kept : valueOf (packedRefusal r) ≡ r .place
+  place-kept = omega (arith, code-few (r .file) (g .named))
+
+  code-kept : codeOf (packedRefusal r) ≡ fileCode (r .file)
+  code-kept = omega (arith, code-few (r .file) (g .named))
+
+  refusal-fits : packedRefusal r < 2 ^ 48
+  refusal-fits = omega (arith, code-few (r .file) (g .named))
+
+  -- its number is not 0, so that it reads as a refusal
+  refusal-kept : {A : Type 0} (v : ℕ → A) → unpacked v (packedRefusal r) ≡ refused r
+  refusal-kept v = rw (number-kept, place-kept, code-kept, file-kept (r .file), eqb-other (r .number) 0 (omega (arith, g .from-1)))
+
+-- the general case: what is within values that packing keeps is kept
+module _ {A : Type 0} (v : ℕ → A) (packed : Check A → ℕ) (given : (r : Refusal) → packed (refused r) ≡ packedRefusal r) where
+  kept : {P : A → Type 0} → ((a : A) → P a → (v (packed (ok a)) ≡ a) × (packed (ok a) < 2 ^ 32))
+      → {m : Check A} → Within P m → Kept (unpacked v) packed m
+  kept of (value {a = a} h) = record {
+    whole = rw (accepted (packed (ok a)) (of a h .1)) (ap ok (of a h .0));
+    fits = omega (arith, of a h .1);
+  }
+  kept of (refusal {r = r} g) = record {
+    whole = rw (given r) (refusal-kept r g v);
+    fits = rw (given r) (refusal-fits r g);
+  }
+
+read-kept : {P : Unit {0} → Type 0} {m : Check (Unit {0})} → Within P m → Kept unpackedRead packedRead m
+read-kept = kept (λ a. tt) packedRead (λ r. refl) λ a h. (refl, omega arith)
+
+value-kept : {P : ℕ → Type 0} → ((n : ℕ) → P n → n < 2 ^ 32) → {m : Check ℕ} → Within P m → Kept unpackedValue packedValue m
+value-kept few = kept valueOf packedValue (λ r. refl) λ n h. let l : n < 2 ^ 32 = few n h in (omega arith, omega arith)
+
+-- two counts, each below 2^16
+module _ (n : Moved) (h : (n .first ≤ 4096) × (n .second ≤ 4096)) where
+  both : valueOf (packedMoved (ok n)) ≡ n .first + n .second * 65536
+  both =
+      let one : n .first % 65536 ≡ n .first = omega arith in
+      let two : n .second % 65536 ≡ n .second = omega arith in
+      omega arith
+
+  halves : movedOf (packedMoved (ok n)) ≡ n
+  halves =
+      let one : (n .first + n .second * 65536) % 65536 ≡ n .first = omega arith in
+      let two : (n .first + n .second * 65536) / 65536 ≡ n .second = omega arith in
+      rw (both, one, two)
+
+  moved-fits : packedMoved (ok n) < 2 ^ 32
+  moved-fits = omega (arith, both)
+
+moved-kept : {m : Check Moved} → Within (λ n. (n .first ≤ 4096) × (n .second ≤ 4096)) m → Kept unpackedMoved packedMoved m
+moved-kept = kept movedOf packedMoved (λ r. refl) λ n h. (halves n h, moved-fits n h)
+
+pub read-device-kept : ReadDeviceKept
+read-device-kept device = read-kept (read-device-within device)
+
+pub read-program-kept : ReadProgramKept
+read-program-kept program = read-kept (read-program-within program)
+
+pub check-kept : CheckKept
+check-kept device program job = value-kept (λ n h. omega arith) (check-within device program job)
+
+pub route-kept : RouteKept
+route-kept device job occupancy a b buffer = value-kept (λ n h. omega arith) (route-within device job occupancy a b buffer)
+
+pub run-kept : RunKept
+run-kept device first second schedule records map = moved-kept (run-within device first second schedule records map)

@@ -26,7 +26,8 @@ module _ (s : List ℕ) (job : ℕ) where
   unfolding _>>_
   program-gives e = go (readProgram s) refl e
     where
-      go : (m : Check syntax.Program) → readProgram s ≡ m → _≡_ {A = Check (Unit {0})} (ok tt) (within (Program job) (m >> ok tt)) → (p : syntax.Program) × (readProgram s ≡ ok p)
+      go : (m : Check syntax.Program) → readProgram s ≡ m → _≡_ {A = Check (Unit {0})} (ok tt) (within (Program job) (m >> ok tt))
+          → (p : syntax.Program) × (readProgram s ≡ ok p)
       go (ok p) q e = (p, q)
       go (refused x) q e = ok-not-refused e
 
@@ -34,7 +35,8 @@ module _ (s : List ℕ) (job : ℕ) where
   unfolding _>>_
   program-refuses x e = go (readProgram s) e
     where
-      go : (m : Check syntax.Program) → _≡_ {A = Check (Unit {0})} (refused x) (within (Program job) (m >> ok tt)) → _≡_ {A = Check syntax.Program} (refused x) (within (Program job) m)
+      go : (m : Check syntax.Program) → _≡_ {A = Check (Unit {0})} (refused x) (within (Program job) (m >> ok tt))
+          → _≡_ {A = Check syntax.Program} (refused x) (within (Program job) m)
       go (ok p) e = ok-not-refused (sym e)
       go (refused y) e = let q : x ≡ inFile (Program job) y = cc in ap refused q
 
@@ -44,7 +46,8 @@ module _ (s : List ℕ) (job : ℕ) where
     unfolding checkedIn _>>=_
     check-no-program x e = rw (sym (program-refuses x e)) refl
 
-    pub check-judged : (p : syntax.Program) → readProgram s ≡ ok p → (m : Check ℕ) → m ≡ within (Program job) (judged R p) → m ≡ checkedIn R s job
+    pub check-judged : (p : syntax.Program) → readProgram s ≡ ok p → (m : Check ℕ) → m ≡ within (Program job) (judged R p)
+        → m ≡ checkedIn R s job
     unfolding checkedIn _>>=_
     check-judged p q m e = e ∙ sym (rw q refl)
 
@@ -54,10 +57,12 @@ module _ (device program : List ℕ) (job : ℕ) where
   unfolding _>>_
   check-no-job e = rw e refl
 
-  pub check-no-device : (x : Refusal) → (eqb job 1 || eqb job 2) ≡ true → refused x ≡ within Device (readDevice device) → refused x ≡ checkOf device program job
+  pub check-no-device : (x : Refusal) → (eqb job 1 || eqb job 2) ≡ true → refused x ≡ within Device (readDevice device)
+      → refused x ≡ checkOf device program job
   unfolding _>>_ _>>=_
   check-no-device x e q = rw (e, sym q) refl
 
-  pub check-done : (D : rules.Device) → (eqb job 1 || eqb job 2) ≡ true → readDevice device ≡ ok D → (m : Check ℕ) → m ≡ checkedIn (regionOf D job) program job → m ≡ checkOf device program job
+  pub check-done : (D : rules.Device) → (eqb job 1 || eqb job 2) ≡ true → readDevice device ≡ ok D
+      → (m : Check ℕ) → m ≡ checkedIn (regionOf D job) program job → m ≡ checkOf device program job
   unfolding _>>_ _>>=_ checkedIn
   check-done D e q m h = h ∙ sym (rw (e, q) refl)

@@ -15,12 +15,14 @@ use Rattle.rules.specs.Program.{readProgram}
 use Rattle.rules.specs.Promises.{readDeviceOf, readProgramOf}
 use Rattle.device.specs.Reader.{deviceRead}
 
-given : {A B : Type 0} (f : File) (m : Check A) (k : A → B) (b : B) → ok b ≡ within f (m >>= λ a. ok (k a)) → _≡_ {A = Check (Unit {0})} (ok tt) (within f m >> ok tt)
+given : {A B : Type 0} (f : File) (m : Check A) (k : A → B) (b : B) → ok b ≡ within f (m >>= λ a. ok (k a))
+    → _≡_ {A = Check (Unit {0})} (ok tt) (within f m >> ok tt)
 unfolding _>>=_ _>>_
 given f (ok a) k b e = refl
 given f (refused r) k b e = ok-not-refused e
 
-not-given : {A B : Type 0} (f : File) (m : Check A) (k : A → B) (r : Refusal) → refused r ≡ within f (m >>= λ a. ok (k a)) → _≡_ {A = Check (Unit {0})} (refused r) (within f m >> ok tt)
+not-given : {A B : Type 0} (f : File) (m : Check A) (k : A → B) (r : Refusal) → refused r ≡ within f (m >>= λ a. ok (k a))
+    → _≡_ {A = Check (Unit {0})} (refused r) (within f m >> ok tt)
 unfolding _>>=_ _>>_
 not-given f (ok a) k r e = ok-not-refused (sym e)
 not-given {B = B} f (refused q) k r e = ap again e

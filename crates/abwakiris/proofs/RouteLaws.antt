@@ -41,7 +41,8 @@ unfolding fitted _>>=_ _>>_
 finds none before after e = ap (λ b. told (answered NoPath) b) e
 finds (some p) before after e = go (leb (length p) (length before)) e
   where
-    go : (t : Bool) → after ≡ cond t (over p before) before → told (answered (cond t (Written (length p)) Short)) after ≡ routeWritten before (need t 24 0 >> ok p)
+    go : (t : Bool) → after ≡ cond t (over p before) before
+        → told (answered (cond t (Written (length p)) Short)) after ≡ routeWritten before (need t 24 0 >> ok p)
     go true e = ap (λ b. told (Routed (length p)) b) e
     go false e = ap (λ b. told (answered Short) b) e
 
@@ -93,11 +94,13 @@ module _ (R : Region) (owned : LocationSet) (O : Owned R owned) (n : ℕ) (occup
   same-asked : asked (has owned) n occupancy a b ≡ asked (owns R) n occupancy a b
   same-asked = ap (λ (f : ℕ → Bool). asked f n occupancy a b) (fun-ext λ x. O .owned x)
 
-  pub routes-refused : (x : Refusal) (before : List ℕ) → refused x ≡ asked (has owned) n occupancy a b → Routes R n occupancy a b before (Refused x) before
+  pub routes-refused : (x : Refusal) (before : List ℕ) → refused x ≡ asked (has owned) n occupancy a b
+      → Routes R n occupancy a b before (Refused x) before
   unfolding _>>_
   routes-refused x before e = rw (sym (e ∙ same-asked)) refl
 
-  pub routes-found : (free : LocationSet) → has free ≡ freeIn R occupancy → ok tt ≡ asked (has owned) n occupancy a b → (before after : List ℕ) (r : RouteAnswer)
+  pub routes-found : (free : LocationSet) → has free ≡ freeIn R occupancy → ok tt ≡ asked (has owned) n occupancy a b
+      → (before after : List ℕ) (r : RouteAnswer)
       → Finds (route R (has free) a b) before r after → Routes R n occupancy a b before r after
   unfolding _>>_
   routes-found free f e before after r h = rw (sym (e ∙ same-asked), sym f) h
@@ -115,7 +118,8 @@ module _ (device : List ℕ) (job : ℕ) (occupancy : List ℕ) (a b : ℕ) (bef
   unfolding _>>_
   route-no-job e = rw e refl
 
-  pub route-no-device : (x : Refusal) → (eqb job 1 || eqb job 2) ≡ true → refused x ≡ within Device (readDevice device) → told (Refused x) before ≡ routeOf device job occupancy a b before
+  pub route-no-device : (x : Refusal) → (eqb job 1 || eqb job 2) ≡ true → refused x ≡ within Device (readDevice device)
+      → told (Refused x) before ≡ routeOf device job occupancy a b before
   unfolding _>>_ _>>=_
   route-no-device x e q = rw (e, sym q) refl
 

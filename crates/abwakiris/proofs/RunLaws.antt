@@ -39,10 +39,21 @@ schedule-refuses s x {A} k e = go (within Schedule (need (leb (length s) 4096) 2
     again (ok u) = refused x
     again (refused y) = refused y
 
-    go : (m : Check (Unit {0})) (n : Check (List Turn)) → _≡_ {A = Check (Unit {0})} (refused x) (m >> (n >> ok tt)) → _≡_ {A = Check A} (refused x) (m >> (n >>= k))
+    go : (m : Check (Unit {0})) (n : Check (List Turn)) → _≡_ {A = Check (Unit {0})} (refused x) (m >> (n >> ok tt))
+        → _≡_ {A = Check A} (refused x) (m >> (n >>= k))
     go (ok u) (ok ts) e = ok-not-refused (sym e)
     go (ok u) (refused y) e = ap again e
     go (refused y) n e = ap again e
+
+-- what is read of all that is given
+pub record Inputs (device s₁ s₂ schedule : List ℕ) : Type 0 where
+  pub D : rules.Device
+  pub p : syntax.Program
+  pub q : syntax.Program
+  pub reads : readDevice device ≡ ok D
+  pub first : readProgram s₁ ≡ ok p
+  pub second : readProgram s₂ ≡ ok q
+  pub may-run : Scheduled schedule
 
 module _ (device s₁ s₂ schedule before₁ before₂ : List ℕ) where
   abbrev Promised : RunAnswer → List ℕ → List ℕ → Type 0
@@ -67,18 +78,30 @@ module _ (device s₁ s₂ schedule before₁ before₂ : List ℕ) where
         unfolding _>>=_
         run-no-schedule x e = rw (d, a, b) (ap (λ c. runWritten before₁ before₂ c) (schedule-refuses schedule x _ e))
 
-        module _ (S : Scheduled schedule) where
-          pub run-no-records : length before₁ / 4 < length schedule → Promised (Refused (refusal 24 0)) before₁ before₂
-          unfolding _>>=_ _>>_
-          run-no-records h = rw (d, a, b, le-leb (length schedule) 4096 (S .short), S .turns-so, lt-leb (4 * length schedule) (length before₁) (omega (arith, h))) refl
+  -- where all that is given reads
+  module _ (I : Inputs device s₁ s₂ schedule) where
+    in-time : leb (length schedule) 4096 ≡ true
+    in-time = le-leb (length schedule) 4096 (I .may-run .short)
 
-          pub run-no-map : length schedule ≤ length before₁ / 4 → length before₂ < length (D .owners) → Promised (Refused (refusal 24 0)) before₁ before₂
-          unfolding _>>=_ _>>_
-          run-no-map h k =
-              rw (d, a, b, le-leb (length schedule) 4096 (S .short), S .turns-so, le-leb (4 * length schedule) (length before₁) (omega (arith, h)), lt-leb (length (D .owners)) (length before₂) k) refl
+    pub run-no-records : length before₁ / 4 < length schedule → Promised (Refused (refusal 24 0)) before₁ before₂
+    unfolding _>>=_ _>>_
+    run-no-records h =
+        let room = lt-leb (4 * length schedule) (length before₁) (omega (arith, h)) in
+        rw (I .reads, I .first, I .second, in-time, I .may-run .turns-so, room) refl
 
-          pub run-done : length schedule ≤ length before₁ / 4 → length (D .owners) ≤ length before₂ → (h : DeviceHeader) (t₁ : FunctionTable) (main₁ : ℕ) (t₂ : FunctionTable) (main₂ : ℕ) (r : Moved) (now₁ now₂ : List ℕ)
-              → Reads device h D → Loaded s₁ t₁ main₁ p → Loaded s₂ t₂ main₂ q → Runs device h s₁ t₁ main₁ s₂ t₂ main₂ schedule before₁ before₂ r now₁ now₂ → Promised (Ran r) now₁ now₂
-          unfolding _>>=_ _>>_
-          run-done l k h t₁ main₁ t₂ main₂ r now₁ now₂ Q L₁ L₂ R =
-              rw (d, a, b, le-leb (length schedule) 4096 (S .short), S .turns-so, le-leb (4 * length schedule) (length before₁) (omega (arith, l)), le-leb (length (D .owners)) (length before₂) k) (R D p q Q L₁ L₂)
+    pub run-no-map : length schedule ≤ length before₁ / 4 → length before₂ < length (I .D .owners)
+        → Promised (Refused (refusal 24 0)) before₁ before₂
+    unfolding _>>=_ _>>_
+    run-no-map h k =
+        let room = le-leb (4 * length schedule) (length before₁) (omega (arith, h)) in
+        rw (I .reads, I .first, I .second, in-time, I .may-run .turns-so, room, lt-leb (length (I .D .owners)) (length before₂) k) refl
+
+    pub run-done : length schedule ≤ length before₁ / 4 → length (I .D .owners) ≤ length before₂
+        → (h : DeviceHeader) (t₁ : FunctionTable) (main₁ : ℕ) (t₂ : FunctionTable) (main₂ : ℕ) (r : Moved) (now₁ now₂ : List ℕ)
+        → Reads device h (I .D) → Loaded s₁ t₁ main₁ (I .p) → Loaded s₂ t₂ main₂ (I .q)
+        → Runs device h s₁ t₁ main₁ s₂ t₂ main₂ schedule before₁ before₂ r now₁ now₂ → Promised (Ran r) now₁ now₂
+    unfolding _>>=_ _>>_
+    run-done l k h t₁ main₁ t₂ main₂ r now₁ now₂ Q L₁ L₂ R =
+        let room = le-leb (4 * length schedule) (length before₁) (omega (arith, l)) in
+        rw (I .reads, I .first, I .second, in-time, I .may-run .turns-so, room, le-leb (length (I .D .owners)) (length before₂) k)
+        (R (I .D) (I .p) (I .q) Q L₁ L₂)

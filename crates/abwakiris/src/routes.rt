@@ -57,7 +57,8 @@ pub extern "C" fn abwakiris_route(
     buffer: &mut [u8],
 ) -> u64
     ensures answer { λ r. ⌜ r ≡ packedValue (routeOf (now (device .entry)) job (now (occupancy .entry)) first second (now (buffer .entry)) .answer) ⌝ }
-    ensures written { λ _. ⌜ now (buffer .exit) ≡ routeOf (now (device .entry)) job (now (occupancy .entry)) first second (now (buffer .entry)) .buffer ⌝ }
+    ensures written { λ _. ⌜ now (buffer .exit)
+        ≡ routeOf (now (device .entry)) job (now (occupancy .entry)) first second (now (buffer .entry)) .buffer ⌝ }
 {
     match route(device, job, occupancy, first, second, buffer) {
         RouteAnswer::Routed(n) => (n as u64) % 4294967296,
@@ -76,7 +77,8 @@ fn route_in(
     buffer: &mut [u8],
 ) -> RouteAnswer
     requires { ⌜ ((D : Device) × Reads (now device) h D) ⌝ }
-    ensures { λ r. ⌜ ((D : Device) → Reads (now (device .entry)) h D → Routes (regionOf D job) (length (D .owners)) (now (occupancy .entry)) first second (now (buffer .entry)) r (now (buffer .exit))) ⌝ }
+    ensures { λ r. ⌜ ((D : Device) → Reads (now (device .entry)) h D
+        → Routes (regionOf D job) (length (D .owners)) (now (occupancy .entry)) first second (now (buffer .entry)) r (now (buffer .exit))) ⌝ }
 {
     let owned = owned_by(device, h, job);
     let asked = asks(owned, h.locations, occupancy, first, second);

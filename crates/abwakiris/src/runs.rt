@@ -24,7 +24,8 @@ pub fn run(
     records: &mut [u8],
     map: &mut [u8],
 ) -> RunAnswer
-    ensures { λ r. ⌜ ended r (now (records .exit)) (now (map .exit)) ≡ runOf (now (device .entry)) (now (first .entry)) (now (second .entry)) (now (schedule .entry)) (now (records .entry)) (now (map .entry)) ⌝ }
+    ensures { λ r. ⌜ ended r (now (records .exit)) (now (map .exit))
+        ≡ runOf (now (device .entry)) (now (first .entry)) (now (second .entry)) (now (schedule .entry)) (now (records .entry)) (now (map .entry)) ⌝ }
 {
     match device::read_device(device) {
         DeviceAnswer::Read(h) => run_on(device, h, first, second, schedule, records, map),
@@ -42,9 +43,15 @@ pub extern "C" fn abwakiris_run(
     records: &mut [u8],
     map: &mut [u8],
 ) -> u64
-    ensures answer { λ r. ⌜ r ≡ packedMoved (runOf (now (device .entry)) (now (first .entry)) (now (second .entry)) (now (schedule .entry)) (now (records .entry)) (now (map .entry)) .answer) ⌝ }
-    ensures told { λ _. ⌜ now (records .exit) ≡ runOf (now (device .entry)) (now (first .entry)) (now (second .entry)) (now (schedule .entry)) (now (records .entry)) (now (map .entry)) .records ⌝ }
-    ensures mapped { λ _. ⌜ now (map .exit) ≡ runOf (now (device .entry)) (now (first .entry)) (now (second .entry)) (now (schedule .entry)) (now (records .entry)) (now (map .entry)) .map ⌝ }
+    ensures answer { λ r. ⌜ r ≡ packedMoved
+        (runOf (now (device .entry)) (now (first .entry)) (now (second .entry)) (now (schedule .entry)) (now (records .entry)) (now (map .entry))
+        .answer) ⌝ }
+    ensures told { λ _. ⌜ now (records .exit)
+        ≡ runOf (now (device .entry)) (now (first .entry)) (now (second .entry)) (now (schedule .entry)) (now (records .entry)) (now (map .entry))
+        .records ⌝ }
+    ensures mapped { λ _. ⌜ now (map .exit)
+        ≡ runOf (now (device .entry)) (now (first .entry)) (now (second .entry)) (now (schedule .entry)) (now (records .entry)) (now (map .entry))
+        .map ⌝ }
 {
     match run(device, first, second, schedule, records, map) {
         RunAnswer::Ran(moved) => (moved.first as u64) % 65536
@@ -64,7 +71,8 @@ fn run_on(
     map: &mut [u8],
 ) -> RunAnswer
     requires { ⌜ ((D : Device) × Reads (now device) h D) ⌝ }
-    ensures { λ r. ⌜ ended r (now (records .exit)) (now (map .exit)) ≡ runOf (now (device .entry)) (now (first .entry)) (now (second .entry)) (now (schedule .entry)) (now (records .entry)) (now (map .entry)) ⌝ }
+    ensures { λ r. ⌜ ended r (now (records .exit)) (now (map .exit))
+        ≡ runOf (now (device .entry)) (now (first .entry)) (now (second .entry)) (now (schedule .entry)) (now (records .entry)) (now (map .entry)) ⌝ }
 {
     let one = read_program(first, 1);
     let first_answer = one.answer;

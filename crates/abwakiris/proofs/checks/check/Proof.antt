@@ -17,7 +17,10 @@ new-requires : tie.Need-new-requires
 new-requires c κs = search needs
 
 returns : tie.Need-returns
-returns c = let a = c .before .before .before .before .before .args in ap refused (c .new .ensures) ∙ check-no-job (a .device .now) (a .program .now) (a .job) (sym (c .before .before .is-job .ensures) ∙ not-true _ (c .before .if1 .taken))
+returns c =
+    let a = c .before .before .before .before .before .args in
+    let e = sym (c .before .before .is-job .ensures) ∙ not-true _ (c .before .if1 .taken) in
+    ap refused (c .new .ensures) ∙ check-no-job (a .device .now) (a .program .now) (a .job) e
 
 read-device-requires : tie.Need-read-device-requires
 read-device-requires c κs = search needs
@@ -26,7 +29,8 @@ enum-known-h : tie.Need-enum-known-h
 enum-known-h c = search needs
 
 narrow-requires : tie.Need-narrow-requires
-narrow-requires c κs = one-or-two _ (sym (c .before .before .before .before .before .is-job .ensures) ∙ not-false _ (c .before .before .before .before .if1 .left))
+narrow-requires c κs =
+    one-or-two _ (sym (c .before .before .before .before .before .is-job .ensures) ∙ not-false _ (c .before .before .before .before .if1 .left))
 
 check-in-requires : tie.Need-check-in-requires
 check-in-requires c κs = read-gives _ Device _ (rw (c .before .before .h .given .1) at (c .before .before .before .before .read-device .ensures))
@@ -36,12 +40,19 @@ enum-known-x c = search needs
 
 returns-2 : tie.Need-returns-2
 returns-2 c =
-    let a = c .before .before .before .before .before .before .before .before .before .before .args in
-    let g = read-gives _ Device _ (rw (c .before .before .before .h .given .1) at (c .before .before .before .before .before .read-device .ensures)) in
-    check-done (a .device .now) (a .program .now) (a .job) (g .0) (sym (c .before .before .before .before .before .before .before .is-job .ensures) ∙ not-false _ (c .before .before .before .before .before .before .if1 .left)) (g .1 .reads) _ (rw (c .before .narrow .ensures) at (c .check-in .ensures (g .0) (g .1)))
+    let read = c .before .before .before in
+    let a = read .before .before .before .before .before .before .before .args in
+    let g = read-gives _ Device _ (rw (read .h .given .1) at (read .before .before .read-device .ensures)) in
+    let j = sym (read .before .before .before .before .is-job .ensures) ∙ not-false _ (read .before .before .before .if1 .left) in
+    let e = rw (c .before .narrow .ensures) at (c .check-in .ensures (g .0) (g .1)) in
+    check-done (a .device .now) (a .program .now) (a .job) (g .0) j (g .1 .reads) _ e
 
 returns-3 : tie.Need-returns-3
-returns-3 c = let a = c .before .before .before .before .before .before .before .before .args in check-no-device (a .device .now) (a .program .now) (a .job) _ (sym (c .before .before .before .before .before .is-job .ensures) ∙ not-false _ (c .before .before .before .before .if1 .left)) (read-refuses _ Device _ (rw (c .before .x .given .1) at (c .before .before .before .read-device .ensures)))
+returns-3 c =
+    let a = c .before .before .before .before .before .before .before .before .args in
+    let j = sym (c .before .before .before .before .before .is-job .ensures) ∙ not-false _ (c .before .before .before .before .if1 .left) in
+    let e = rw (c .before .x .given .1) at (c .before .before .before .read-device .ensures) in
+    check-no-device (a .device .now) (a .program .now) (a .job) _ j (read-refuses _ Device _ e)
 
 pub check-spec : {M : Type 1} → statement M
 check-spec =

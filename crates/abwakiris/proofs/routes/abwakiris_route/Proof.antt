@@ -24,13 +24,17 @@ same-length : tie.Need-same-length
 same-length c = search needs
 
 returns : tie.Need-returns
-returns c = let e = rw (c .before .n .given .1) at (c .before .before .before .before .before .route .ensures) in (ap (λ (w : Routed). packedValue (w .answer)) e, ap (λ (w : Routed). w .buffer) e)
+returns c =
+    let e = rw (c .before .n .given .1) at (c .before .before .before .before .before .route .ensures) in
+    (ap (λ (w : Routed). packedValue (w .answer)) e, ap (λ (w : Routed). w .buffer) e)
 
 same-length-2 : tie.Need-same-length-2
 same-length-2 c = search needs
 
 returns-2 : tie.Need-returns-2
-returns-2 c = let e = rw (c .before .before .x .given .1) at (c .before .before .before .before .before .before .route .ensures) in (c .packed-refusal .ensures ∙ ap (λ (w : Routed). packedValue (w .answer)) e, ap (λ (w : Routed). w .buffer) e)
+returns-2 c =
+    let e = rw (c .before .before .x .given .1) at (c .before .before .before .before .before .before .route .ensures) in
+    (c .packed-refusal .ensures ∙ ap (λ (w : Routed). packedValue (w .answer)) e, ap (λ (w : Routed). w .buffer) e)
 
 pub abwakiris-route-spec : {M : Type 1} → statement M
 abwakiris-route-spec =

@@ -34,13 +34,17 @@ same-length-2 : tie.Need-same-length-2
 same-length-2 c = search needs
 
 returns-2 : tie.Need-returns-2
-returns-2 c = λ R w. finds-as _ _ _ _ _ (c .before .before .before .before .before .find-route .ensures R w) (ap Refused (c .new .ensures) ∙ ap answered (sym (c .before .enum-told .given .1)))
+returns-2 c = λ R w.
+    let e = ap Refused (c .new .ensures) ∙ ap answered (sym (c .before .enum-told .given .1)) in
+    finds-as _ _ _ _ _ (c .before .before .before .before .before .find-route .ensures R w) e
 
 same-length-3 : tie.Need-same-length-3
 same-length-3 c = search needs
 
 returns-3 : tie.Need-returns-3
-returns-3 c = λ R w. finds-as _ _ _ _ _ (c .before .before .before .before .before .find-route .ensures R w) (ap Refused (c .new2 .ensures) ∙ ap answered (sym (c .before .enum-told2 .given .1)))
+returns-3 c = λ R w.
+    let e = ap Refused (c .new2 .ensures) ∙ ap answered (sym (c .before .enum-told2 .given .1)) in
+    finds-as _ _ _ _ _ (c .before .before .before .before .before .find-route .ensures R w) e
 
 pub search-spec : {M : Type 1} → statement M
 search-spec =

@@ -31,7 +31,9 @@ same-length-2 : tie.Need-same-length-2
 same-length-2 c = search needs
 
 returns : tie.Need-returns
-returns c = let e = rw (c .before .moved .given .1) at (c .before .before .before .before .before .before .before .run .ensures) in (ap (λ (w : Ran). packedMoved (w .answer)) e, (ap (λ (w : Ran). w .records) e, ap (λ (w : Ran). w .map) e))
+returns c =
+    let e = rw (c .before .moved .given .1) at (c .before .before .before .before .before .before .before .run .ensures) in
+    (ap (λ (w : Ran). packedMoved (w .answer)) e, (ap (λ (w : Ran). w .records) e, ap (λ (w : Ran). w .map) e))
 
 same-length-3 : tie.Need-same-length-3
 same-length-3 c = search needs
@@ -40,7 +42,10 @@ same-length-4 : tie.Need-same-length-4
 same-length-4 c = search needs
 
 returns-2 : tie.Need-returns-2
-returns-2 c = let e = rw (c .before .before .x .given .1) at (c .before .before .before .before .before .before .before .before .run .ensures) in (c .packed-refusal .ensures ∙ ap (λ (w : Ran). packedMoved (w .answer)) e, (ap (λ (w : Ran). w .records) e, ap (λ (w : Ran). w .map) e))
+returns-2 c =
+    let e = rw (c .before .before .x .given .1) at (c .before .before .before .before .before .before .before .before .run .ensures) in
+    let answer = c .packed-refusal .ensures ∙ ap (λ (w : Ran). packedMoved (w .answer)) e in
+    (answer, (ap (λ (w : Ran). w .records) e, ap (λ (w : Ran). w .map) e))
 
 pub abwakiris-run-spec : {M : Type 1} → statement M
 abwakiris-run-spec =

@@ -13,7 +13,8 @@ enum-known-h : tie.Need-enum-known-h
 enum-known-h c = search needs
 
 run-on-requires : tie.Need-run-on-requires
-run-on-requires c κs = read-gives _ Device _ (rw (c .before .before .before .h .given .1) at (c .before .before .before .before .before .read-device .ensures))
+run-on-requires c κs =
+    read-gives _ Device _ (rw (c .before .before .before .h .given .1) at (c .before .before .before .before .before .read-device .ensures))
 
 enum-known-x : tie.Need-enum-known-x
 enum-known-x c = search needs
@@ -28,7 +29,10 @@ returns : tie.Need-returns
 returns c = search needs
 
 returns-2 : tie.Need-returns-2
-returns-2 c = let a = c .before .before .before .before .before .before .before .before .before .before .args in run-no-device (a .device .now) (a .first .now) (a .second .now) (a .schedule .now) (a .records .now) (a .map .now) _ (read-refuses _ Device _ (rw (c .before .x .given .1) at (c .before .before .before .read-device .ensures)))
+returns-2 c =
+    let a = c .before .before .before .before .before .before .before .before .before .before .args in
+    let e = read-refuses _ Device _ (rw (c .before .x .given .1) at (c .before .before .before .read-device .ensures)) in
+    run-no-device (a .device .now) (a .first .now) (a .second .now) (a .schedule .now) (a .records .now) (a .map .now) _ e
 
 pub run-spec : {M : Type 1} → statement M
 run-spec =

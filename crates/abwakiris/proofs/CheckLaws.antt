@@ -5,7 +5,6 @@ use mathlib.Core.Path.{_≡_, refl, sym, ap, _∙_}
 use Prim.Native.Nat.{ℕ}
 use lib.Dec.{eqb}
 use Rattle.answers.specs.Check.{Check, ok, refused, refusal, inFile, _>>=_, _>>_, within}
-use Rattle.answers.specs.Said.{readSaid, checkSaid}
 use Rattle.answers.specs.declared.File.the-variants.{Device, Program}
 use Rattle.answers.specs.declared.Refusal.{Refusal}
 use Rattle.answers.proofs.Laws.{ok-not-refused}

@@ -1,13 +1,13 @@
 -- The run as a row: device, program 1, program 2, schedule, room, run. Each exit of the code is one place of that row.
-use mathlib.Core.Bool.{Bool, true, false, _&&_}
-use mathlib.Core.List.{List, map}
-use mathlib.Core.Path.{_≡_, refl, sym, ap, _∙_}
+use mathlib.Core.Bool.{true}
+use mathlib.Core.List.{List}
+use mathlib.Core.Path.{_≡_, refl, sym, ap}
 use native.Mathlib.Omega.{arith}
 use Prim.Native.Nat.{ℕ, _*_, _/_, _≤_, _<_}
 use borrow.Author.Tests.{le-leb, lt-leb}
 use lib.Dec.{leb}
 use lib.ListN.{length}
-use Rattle.answers.specs.Check.{Check, ok, refused, refusal, inFile, _>>=_, _>>_, need, within}
+use Rattle.answers.specs.Check.{Check, ok, refused, refusal, _>>=_, _>>_, need, within}
 use Rattle.answers.specs.declared.File.the-variants.{Device, Schedule, Program}
 use Rattle.answers.specs.declared.Moved.{Moved}
 use Rattle.answers.specs.declared.Refusal.{Refusal}
@@ -24,7 +24,6 @@ use Rattle.rules.specs.Promises.{runWritten, runOf}
 use Rattle.device.specs.Reader.{Reads}
 use Rattle.program.specs.declared.functions.FunctionTable.{FunctionTable}
 use Rattle.machine.specs.Scheduled.{scheduled}
-use Rattle.theory.specs.TheRun.{turnOf}
 use Rattle.machine.specs.Runs.{Loaded, Runs}
 use Rattle.machine.proofs.Scheduling.{Scheduled}
 use Rattle.abwakiris.specs.Runs.{ended}

@@ -14,7 +14,7 @@ use Rattle.theory.specs.Bounds.{jobNamed, Given, Within, value, refusal}
 use Rattle.theory.proofs.Base.{eqb-other}
 use Rattle.theory.proofs.Bounds.{read-device-within, read-program-within, check-within, route-within, run-within}
 use Rattle.abwakiris.specs.Packed.{fileCode, packedRefusal, packedRead, packedValue, packedMoved}
-use Rattle.abwakiris.specs.Unpacked.{valueOf, numberOf, codeOf, movedOf, fileOf, refusalOf, unpacked, unpackedRead, unpackedValue, unpackedMoved}
+use Rattle.abwakiris.specs.Unpacked.{valueOf, numberOf, codeOf, movedOf, fileOf, unpacked, unpackedRead, unpackedValue, unpackedMoved}
 use Rattle.abwakiris.specs.Unpacked.{Kept, ReadDeviceKept, ReadProgramKept, CheckKept, RouteKept, RunKept}
 
 -- a file by its code

@@ -1,5 +1,5 @@
 -- The call's answer, packed.
-use mathlib.Core.Path.{sym, ap, _∙_}
+use mathlib.Core.Path.{ap, _∙_}
 use Rattle.abwakiris.specs.Packed.{packedValue}
 use borrow.Author.Needs.{needs}
 use Rattle.abwakiris.proofs.checks.abwakiris_check.Statement.{statement}

@@ -1,7 +1,6 @@
 -- By the first test.
 use mathlib.Core.Path.{refl}
 use borrow.Author.Tests.{eq-eqb, ne-eqb}
-use borrow.Author.Needs.{needs}
 use Rattle.abwakiris.proofs.jobs.is_job.Statement.{statement}
 use Rattle.abwakiris.proofs.jobs.is_job.Tie as tie
 

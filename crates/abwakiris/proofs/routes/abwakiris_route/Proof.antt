@@ -1,9 +1,7 @@
 -- The call's answer, packed.
-use mathlib.Core.Path.{sym, ap, _∙_}
-use Rattle.answers.specs.Check.{ok, refused}
+use mathlib.Core.Path.{ap, _∙_}
 use Rattle.rules.specs.Promises.{Routed}
 use Rattle.abwakiris.specs.Packed.{packedValue}
-use Rattle.abwakiris.specs.Routing.{told}
 use borrow.Author.Needs.{needs}
 use Rattle.abwakiris.proofs.routes.abwakiris_route.Statement.{statement}
 use Rattle.abwakiris.proofs.routes.abwakiris_route.Tie as tie

@@ -1,5 +1,5 @@
 -- What is asked, then the search, whose set has the free locations of the region.
-use mathlib.Core.Path.{sym, _∙_}
+use mathlib.Core.Path.{sym}
 use native.Mathlib.Omega.{arith}
 use Rattle.sets.proofs.SetLaws.{has-lt}
 use Rattle.device.proofs.DeviceLaws.{known}

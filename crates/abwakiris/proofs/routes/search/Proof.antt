@@ -1,5 +1,5 @@
 -- Each answer of the search is one answer of the call.
-use mathlib.Core.Path.{refl, sym, ap, _∙_}
+use mathlib.Core.Path.{sym, ap, _∙_}
 use Rattle.answers.specs.declared.RouteAnswer.the-variants.{Refused}
 use Rattle.abwakiris.proofs.RouteLaws.{answered, finds-as}
 use borrow.Author.Needs.{needs}

@@ -7,35 +7,39 @@ use native.Mathlib.Omega.{arith}
 use Prim.Native.Nat.{ℕ, zero, suc, _+_, _≤_, _<_}
 use borrow.Author.Tests.{le-leb, lt-leb}
 use lib.ListN.{length}
+use Rattle.answers.specs.Check.{_>>=_, _>>_}
 use Rattle.rules.specs.Promises.{over}
 use Rattle.route.specs.declared.Found.the-variants.{Written, NoPath, Short}
-use Rattle.route.specs.Found.{foundOf, bufferOf}
+use Rattle.route.specs.Found.{fitted, saidOf, Answers}
 use Rattle.route.specs.Hops.{hops, followed}
 use Rattle.route.proofs.Hopped.{hops-length}
 
 module _ (h : List ℕ) (a : ℕ) where
-  pub none-answered : {r : Option (List ℕ)} (k : ℕ) (before : List ℕ) → r ≡ followed h a k → k ≡ 0 → (NoPath ≡ foundOf r (length before)) × (before ≡ bufferOf r before)
-  none-answered k before e z = let n : _≡_ {A = Option (List ℕ)} _ none = e ∙ ap (followed h a) z in (rw n, rw n)
+  pub none-answered : {r : Option (List ℕ)} (k : ℕ) (before : List ℕ) → r ≡ followed h a k → k ≡ 0 → Answers r before NoPath before
+  unfolding fitted _>>=_
+  none-answered k before e z = let n : _≡_ {A = Option (List ℕ)} _ none = e ∙ ap (followed h a) z in record { said = rw n }
 
   module _ (k : ℕ) (before : List ℕ) where
     long : length (hops h (suc (suc k)) a) ≡ suc (suc k)
     long = hops-length h (suc (suc k)) a
 
-    short-some : length before ≤ suc k → (Short ≡ foundOf (followed h a (suc k)) (length before)) × (before ≡ bufferOf (followed h a (suc k)) before)
-    short-some l = let f = lt-leb (length (hops h (suc (suc k)) a)) (length before) (omega (arith, long)) in (rw f, rw f)
+    short-some : length before ≤ suc k → Answers (followed h a (suc k)) before Short before
+    unfolding fitted _>>=_ _>>_
+    short-some l = let f = lt-leb (length (hops h (suc (suc k)) a)) (length before) (omega (arith, long)) in record { said = rw f }
 
-    written-some : suc k < length before
-        → (Written (suc (suc k)) ≡ foundOf (followed h a (suc k)) (length before)) × (over (hops h (suc (suc k)) a) before ≡ bufferOf (followed h a (suc k)) before)
-    written-some l = let f = le-leb (length (hops h (suc (suc k)) a)) (length before) (omega (arith, long)) in (rw (f, long), rw f)
+    written-some : (after : List ℕ) → suc k < length before → after ≡ over (hops h (suc (suc k)) a) before
+        → Answers (followed h a (suc k)) before (Written (suc (suc k))) after
+    unfolding fitted _>>=_ _>>_
+    written-some after l o =
+        let f = le-leb (length (hops h (suc (suc k)) a)) (length before) (omega (arith, long)) in
+        record { said = rw (f, long, o) }
 
   pub short-answered : {r : Option (List ℕ)} (k : ℕ) (before : List ℕ) → r ≡ followed h a k → (k ≡ 0 → ⊥) → length before ≤ k
-      → (Short ≡ foundOf r (length before)) × (before ≡ bufferOf r before)
+      → Answers r before Short before
   short-answered zero before e n l = absurd (n refl)
   short-answered (suc k) before e n l = rw e (short-some k before l)
 
-  pub written-answered : {r : Option (List ℕ)} (k : ℕ) (before after : List ℕ) → r ≡ followed h a k → (k ≡ 0 → ⊥) → k < length before → after ≡ over (hops h (suc k) a) before
-      → (Written (k + 1) ≡ foundOf r (length before)) × (after ≡ bufferOf r before)
+  pub written-answered : {r : Option (List ℕ)} (k : ℕ) (before after : List ℕ) → r ≡ followed h a k → (k ≡ 0 → ⊥) → k < length before
+      → after ≡ over (hops h (suc k) a) before → Answers r before (Written (k + 1)) after
   written-answered zero before after e n l o = absurd (n refl)
-  written-answered (suc k) before after e n l o =
-      let s = written-some k before l in
-      rw (e, add-one (suc k)) (s .0, o ∙ s .1)
+  written-answered (suc k) before after e n l o = rw (e, add-one (suc k)) (written-some k before after l o)

@@ -12,3 +12,4 @@ pub mod Turns
 pub mod Hopped
 pub mod Hunt
 pub mod Answered
+pub mod Unique

@@ -6,12 +6,11 @@ use trace::trace;
 use turn::advance;
 ghost use mathlib.Core.Path.{_≡_};
 ghost use Prim.Native.Nat.{_<_};
-ghost use lib.ListN.{length};
 ghost use Rattle.rules.specs.Region.{Region};
 ghost use Rattle.rules.specs.Path.{route};
 ghost use Rattle.sets.specs.Sets.{has};
 ghost use Rattle.device.specs.Reader.{Rows};
-ghost use Rattle.route.specs.Found.{edgesOf, foundOf, bufferOf};
+ghost use Rattle.route.specs.Found.{edgesOf, Answers};
 
 mod front;
 mod joined;
@@ -68,7 +67,7 @@ pub fn find_route(
     out: &mut [u8],
 ) -> Found
     requires { ⌜ (a < 256) × (b < 256) ⌝ }
-    ensures { λ r. ⌜ ((R : Region) → Rows R (now (rows .entry)) → (r ≡ foundOf (route R (has free) a b) (length (now (out .entry)))) × (now (out .exit) ≡ bufferOf (route R (has free) a b) (now (out .entry)))) ⌝ }
+    ensures { λ r. ⌜ ((R : Region) → Rows R (now (rows .entry)) → Answers (route R (has free) a b) (now (out .entry)) r (now (out .exit))) ⌝ }
 {
     let mut hop = [0u8; 256];
     let k = search(rows, free, a, b, &mut hop);

@@ -1,5 +1,5 @@
--- A way by its hops. From each location the hop leads to the first neighbour that is one level nearer to b; so the hops make a way as long as the level is high,
--- and among the ways of that length none is before it: at the first location where another one differs, it takes a larger neighbour.
+-- A way by its hops. From each location the hop leads to the first neighbour that is one level nearer to b; so the hops make a way as long as the level
+-- is high, and among the ways of that length none is before it: at the first location where another one differs, it takes a larger neighbour.
 use mathlib.Core.Bool.{Bool, true, false}
 use mathlib.Core.List.{List, [], _∷_}
 use mathlib.Core.Logic.{_⊎_, inl, inr, ⊎-elim}
@@ -27,8 +27,8 @@ pub hops-length : (h : List ℕ) (n x : ℕ) → length (hops h n x) ≡ n
 hops-length h zero x = refl
 hops-length h (suc n) x = ap suc (hops-length h n (getD h x 0))
 
-module _ (R : Region) (free : ℕ → Bool) (a b : ℕ) {B : ℕ → Bool} (mid : (x : ℕ) → between R free a b x ≡ B x) {P : ℕ → ℕ} {k : ℕ} (w : Known (joined R) B b P k) (h : List ℕ)
-    (f : (y n : ℕ) → P y ≡ suc (suc n) → Hop (joined R) P h y (suc n)) where
+module _ (R : Region) (free : ℕ → Bool) (a b : ℕ) {B : ℕ → Bool} (mid : (x : ℕ) → between R free a b x ≡ B x) {P : ℕ → ℕ} {k : ℕ}
+    (w : Known (joined R) B b P k) (h : List ℕ) (f : (y n : ℕ) → P y ≡ suc (suc n) → Hop (joined R) P h y (suc n)) where
   abbrev Way : ℕ → List ℕ → Type 0
   Way x p = Along R free a b x p
 
@@ -50,7 +50,8 @@ module _ (R : Region) (free : ℕ → Bool) (a b : ℕ) {B : ℕ → Bool} (mid 
   best zero (last {x = x} j) o e l far = inr (refl, inr (w .one (getD h x 0) (o .level), tt))
   best (suc n) (last j) o e l far = absurd (omega arith)
   best zero (then j t v) o e l far = let s = way-two R free a b v in absurd (omega arith)
-  best (suc n) (then {x = x} {y = y} {p = q} j t v) o e l far = inr (refl, go (getD h x 0) (o .least y j level) (ℕ-discrete (getD h x 0) y) (best n v (f y n level) (omega arith) (omega arith) on))
+  best (suc n) (then {x = x} {y = y} {p = q} j t v) o e l far =
+      inr (refl, go (getD h x 0) (o .least y j level) (ℕ-discrete (getD h x 0) y) (best n v (f y n level) (omega arith) (omega arith) on))
     where
       inside : B y ≡ true
       inside = sym (mid y) ∙ t

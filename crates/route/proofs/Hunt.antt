@@ -26,7 +26,8 @@ use Rattle.route.specs.Sweeps.{Spread}
 use Rattle.route.proofs.Edges.{joined-turn}
 use Rattle.route.proofs.Hopped.{Hop, hop-route}
 use Rattle.route.proofs.Shortest.{no-way, way-two}
-use Rattle.route.proofs.Sides.{Known, Joins, Both, Raised, raised, raise, only, only-here, only-pos, kept, newest, known-next, known-start, turn, turn-fewer, start, start-joins, joins-fewer}
+use Rattle.route.proofs.Sides.{Known, Joins, Both, Raised, raised, raise, only, only-here, only-pos, kept, newest}
+use Rattle.route.proofs.Sides.{known-next, known-start, turn, turn-fewer, start, start-joins, joins-fewer}
 use Rattle.route.proofs.Sizes.{count, count-less, count-some}
 use Rattle.route.proofs.Turns.{Inner, inner-mid, inner-first, inner-second, row-edge, edge-row}
 use Rattle.route.proofs.Walks.{joined-even, far, closed-here}
@@ -86,16 +87,18 @@ pub record Hunt (E : ℕ → ℕ → Bool) (B : ℕ → Bool) (a b : ℕ) (F : �
   pub other : Joins E (only a) F (whole left next) 1
   pub hop : (y n : ℕ) → raised P (has next) k y ≡ suc (suc n) → Hop E (raised P (has next) k) h y (suc n)
 
-pub inner-whole : {free : ℕ → Bool} {a b : ℕ} {rows : List ℕ} {S L : ℕ → Bool} {n : ℕ} {before h : List ℕ} {left next : LocationSet} → Inner free a b L → Spread rows S n L before left next h
-    → Inner free a b (whole left next)
+pub inner-whole : {free : ℕ → Bool} {a b : ℕ} {rows : List ℕ} {S L : ℕ → Bool} {n : ℕ} {before h : List ℕ} {left next : LocationSet}
+    → Inner free a b L → Spread rows S n L before left next h → Inner free a b (whole left next)
 inner-whole i u = record { is = λ y. spread-whole u y ∙ i .is y }
 
 -- each level takes one at least
-pub hunt-less : {rows : List ℕ} {h h' : List ℕ} (left next : LocationSet) {left' next' : LocationSet} → Spread rows (has next) 256 (has left) h left' next' h' → ((y : ℕ) → has next y ≡ true → has left y ≡ false)
+pub hunt-less : {rows : List ℕ} {h h' : List ℕ} (left next : LocationSet) {left' next' : LocationSet}
+    → Spread rows (has next) 256 (has left) h left' next' h' → ((y : ℕ) → has next y ≡ true → has left y ≡ false)
     → (y : ℕ) → has next y ≡ true → count (whole left' next') 256 < count (whole left next) 256
 unfolding whole
 hunt-less left next {left'} {next'} u d y p =
-    count-less (whole left' next') (whole left next) 256 (λ x q. or-left (has left x) (has next x) (sym (spread-whole u x) ∙ q)) y (has-lt next y p) (spread-whole u y ∙ d y p) (or-right (has left y) (has next y) p)
+    let sub : (x : ℕ) → whole left' next' x ≡ true → whole left next x ≡ true = λ x q. or-left (has left x) (has next x) (sym (spread-whole u x) ∙ q) in
+    count-less (whole left' next') (whole left next) 256 sub y (has-lt next y p) (spread-whole u y ∙ d y p) (whole-next left next y p)
 
 pub hunt-some : (left next : LocationSet) (y : ℕ) → has next y ≡ true → 0 < count (whole left next) 256
 hunt-some left next y p = count-some (whole left next) 256 y (has-lt next y p) (whole-next left next y p)
@@ -106,8 +109,8 @@ first-in s x y p f = ⊎-elim (λ h. h) (λ h. let m = f .most in absurd (clash 
 
 module _ {R : Region} {rows : List ℕ} (w : Rows R rows) where
   -- a sweep over a level
-  module _ {S L : ℕ → Bool} {n : ℕ} {before h : List ℕ} {left next : LocationSet} (u : Spread rows S n L before left next h) {P : ℕ → ℕ} {k : ℕ} (at : (y : ℕ) → S y ≡ true → P y ≡ k)
-      (on : (y : ℕ) → P y ≡ k → S y ≡ true) (low : (y : ℕ) → S y ≡ true → y < n) where
+  module _ {S L : ℕ → Bool} {n : ℕ} {before h : List ℕ} {left next : LocationSet} (u : Spread rows S n L before left next h)
+      {P : ℕ → ℕ} {k : ℕ} (at : (y : ℕ) → S y ≡ true → P y ≡ k) (on : (y : ℕ) → P y ≡ k → S y ≡ true) (low : (y : ℕ) → S y ≡ true → y < n) where
     spread-joins : Joins (joined R) P (has next) L k
     spread-joins =
         record {
@@ -157,7 +160,8 @@ module _ {R : Region} {rows : List ℕ} (w : Rows R rows) where
       mine : Joins (joined R) (only b) (has next) (whole left next) 1
       mine = joins-fewer (λ x p. sym (spread-whole u x) ∙ p) (spread-joins u at on low)
 
-      first : (y m : ℕ) → raised (only b) (has next) 1 y ≡ suc (suc m) → (has next y ≡ true) ⊎ (has next y ≡ false) → Hop (joined R) (raised (only b) (has next) 1) h y (suc m)
+      first : (y m : ℕ) → raised (only b) (has next) 1 y ≡ suc (suc m) → (has next y ≡ true) ⊎ (has next y ≡ false)
+          → Hop (joined R) (raised (only b) (has next) 1) h y (suc m)
       first y m e (inl p) =
           let r = raise (only b) (has next) 1 in
           let o = r .new y p in
@@ -171,8 +175,8 @@ module _ {R : Region} {rows : List ℕ} (w : Rows R rows) where
 
   -- one level further
   pub hunt-next : {B F : ℕ → Bool} {a b k : ℕ} {h h' : List ℕ} {left next : LocationSet} (left' next' : LocationSet) → Hunt (joined R) B a b F left next h k
-      → ((y : ℕ) → has next y ≡ true → has left y ≡ false) → ((y : ℕ) → has next y ≡ true → F y ≡ true → ⊥) → Spread rows (has next) 256 (has left) h left' next' h'
-      → Hunt (joined R) B a b F left' next' h' (k + 1)
+      → ((y : ℕ) → has next y ≡ true → has left y ≡ false) → ((y : ℕ) → has next y ≡ true → F y ≡ true → ⊥)
+      → Spread rows (has next) 256 (has left) h left' next' h' → Hunt (joined R) B a b F left' next' h' (k + 1)
   hunt-next {B} {F} {a} {b} {k} {h} {h'} {left} {next} left' next' v d never u =
       rw (add-one k) (record {
         P = P';
@@ -206,7 +210,8 @@ module _ {R : Region} {rows : List ℕ} (w : Rows R rows) where
       keep : (y : ℕ) → 0 < P' y → raised P' (has next') (suc k) y ≡ P' y
       keep = kept (joined-even R) both mine (and-whole left' next') r'
 
-      hop : (y m : ℕ) → raised P' (has next') (suc k) y ≡ suc (suc m) → (has next' y ≡ true) ⊎ (has next' y ≡ false) → Hop (joined R) (raised P' (has next') (suc k)) h' y (suc m)
+      hop : (y m : ℕ) → raised P' (has next') (suc k) y ≡ suc (suc m) → (has next' y ≡ true) ⊎ (has next' y ≡ false)
+          → Hop (joined R) (raised P' (has next') (suc k)) h' y (suc m)
       hop y m e (inl p) =
           let o = r' .new y p in
           let z : suc k ≡ suc m = omega arith in
@@ -223,12 +228,14 @@ module _ {R : Region} {rows : List ℕ} (w : Rows R rows) where
             least = λ z i c. let q = g .least z i (same z c (either (has next' z)) (both .here .most y) o) in omega arith;
           }
         where
-          same : (z : ℕ) → raised P' (has next') (suc k) z ≡ suc m → (has next' z ≡ true) ⊎ (has next' z ≡ false) → P' y ≤ suc k → P' y ≡ suc (suc m) → P' z ≡ suc m
+          same : (z : ℕ) → raised P' (has next') (suc k) z ≡ suc m → (has next' z ≡ true) ⊎ (has next' z ≡ false)
+              → P' y ≤ suc k → P' y ≡ suc (suc m) → P' z ≡ suc m
           same z c (inl q) i o = let g = r' .new z q in absurd (omega arith)
           same z c (inr q) i o = sym (r' .old z q) ∙ c
 
 module _ (R : Region) {free B : ℕ → Bool} {a b : ℕ} (i : Inner free a b B) where
-  pub hunt-none : {F : ℕ → Bool} {k : ℕ} {left next : LocationSet} {h : List ℕ} → Hunt (joined R) B a b F left next h k → ((y : ℕ) → has next y ≡ false) → route R free a b ≡ none
+  pub hunt-none : {F : ℕ → Bool} {k : ℕ} {left next : LocationSet} {h : List ℕ} → Hunt (joined R) B a b F left next h k
+      → ((y : ℕ) → has next y ≡ false) → route R free a b ≡ none
   hunt-none v e = no-way R free a b (λ p w. closed-here R free a b (inner-mid i R) (v .both) (v .mine) (λ y l q. clash q (e y)) w)
 
   -- a hop noted at a, where a is at no level
@@ -245,12 +252,12 @@ module _ (R : Region) {free B : ℕ → Bool} {a b : ℕ} (i : Inner free a b B)
         record { edge = ap (joined R a) s ∙ c; level = ap P s ∙ d; least = λ z c d. let q = g z c d in omega arith }
 
   -- where the next level meets what is joined to a, the first of both is the hop of a
-  pub hunt-found : {rows : List ℕ} {k : ℕ} {left next : LocationSet} {h : List ℕ} (t m : LocationSet) (x : ℕ) → Rows R rows → Hunt (joined R) B a b (has t) left next h k → (a ≡ b → ⊥) → t ≡ rowOf rows a
-      → ((y : ℕ) → has m y ≡ (has t y && has next y)) → FirstFrom m 0 x → x < 256 → a < length h → route R free a b ≡ followed (set h a x) a (k + 1)
+  pub hunt-found : {rows : List ℕ} {k : ℕ} {left next : LocationSet} {h : List ℕ} (t m : LocationSet) (x : ℕ) → Rows R rows
+      → Hunt (joined R) B a b (has t) left next h k → (a ≡ b → ⊥) → t ≡ rowOf rows a → ((y : ℕ) → has m y ≡ (has t y && has next y))
+      → FirstFrom m 0 x → x < 256 → a < length h → route R free a b ≡ followed (set h a x) a (k + 1)
   hunt-found {rows} {k} {left} {next} {h} t m x w v d e o g b' l =
-      rw (add-one k) (hop-route R free a b (inner-mid i R) K (set h a x) (hop-else K (v .hop) x) k d
-      (hop-here K (v .hop) x (suc k) l (edge x (p .0)) (r .new x (p .1)) (λ z c s. least z c s (side z x))) (omega arith) (λ z c s. near z c s (either (has next z)))
-      (λ q u. let f = far R free a b (inner-mid i R) (v .both) u in omega arith))
+      rw (add-one k) (hop-route R free a b (inner-mid i R) K (set h a x) (hop-else K (v .hop) x) k d at-a (omega arith)
+      (λ z c s. near z c s (either (has next z))) (λ q u. let f = far R free a b (inner-mid i R) (v .both) u in omega arith))
     where
       r : Raised (v .P) (raised (v .P) (has next) k) (has next) k
       r = raise (v .P) (has next) k
@@ -270,17 +277,23 @@ module _ (R : Region) {free B : ℕ → Bool} {a b : ℕ} (i : Inner free a b B)
       least : (z : ℕ) → joined R a z ≡ true → raised (v .P) (has next) k z ≡ suc k → (z < x) ⊎ (x ≤ z) → x ≤ z
       least z c s (inr q) = q
       least z c s (inl q) =
-          absurd (clash (o z ∙ both-and (has t z) (has next z) (row z ∙ c) (newest (joined-even R) (v .both) (v .mine) (and-whole left next) r z s)) (g .passed z (omega arith) q))
+          let n = newest (joined-even R) (v .both) (v .mine) (and-whole left next) r z s in
+          absurd (clash (o z ∙ both-and (has t z) (has next z) (row z ∙ c) n) (g .passed z (omega arith) q))
 
-      near : (z : ℕ) → joined R a z ≡ true → 0 < raised (v .P) (has next) k z → (has next z ≡ true) ⊎ (has next z ≡ false) → suc k ≤ raised (v .P) (has next) k z
+      near : (z : ℕ) → joined R a z ≡ true → 0 < raised (v .P) (has next) k z → (has next z ≡ true) ⊎ (has next z ≡ false)
+          → suc k ≤ raised (v .P) (has next) k z
       near z c s (inl q) = let f = r .new z q in omega arith
       near z c s (inr q) = let f = r .old z q in let u = only-here a in absurd (v .both .apart z a (omega arith) (omega arith) (joined-even R a z c))
 
+      at-a : Hop (joined R) (raised (v .P) (has next) k) (set h a x) a (suc k)
+      at-a = hop-here K (v .hop) x (suc k) l (edge x (p .0)) (r .new x (p .1)) (λ z c s. least z c s (side z x))
+
 -- ends that an edge joins
-pub ends-hop : (R : Region) (free : ℕ → Bool) (a b : ℕ) (h : List ℕ) → (a ≡ b → ⊥) → joined R a b ≡ true → a < length h → route R free a b ≡ followed (set h a b) a 1
+pub ends-hop : (R : Region) (free : ℕ → Bool) (a b : ℕ) (h : List ℕ) → (a ≡ b → ⊥) → joined R a b ≡ true → a < length h
+    → route R free a b ≡ followed (set h a b) a 1
 ends-hop R free a b h d j l =
-    hop-route R free a b (inner-mid i R) K (set h a b) (hop-else R i K none-yet b) 0 d (hop-here R i K none-yet b 1 l j (only-here b) (λ z c s. let e = only-pos b z (omega arith) in omega arith))
-    (omega arith) (λ z c s. omega arith) (λ q u. way-two R free a b u)
+    hop-route R free a b (inner-mid i R) K (set h a b) (hop-else R i K none-yet b) 0 d at-a (omega arith) (λ z c s. omega arith)
+    (λ q u. way-two R free a b u)
   where
     i : Inner free a b (λ y. not (eqb y b) && (not (eqb y a) && free y))
     i = record { is = λ y. refl }
@@ -290,3 +303,6 @@ ends-hop R free a b h d j l =
 
     none-yet : (y n : ℕ) → only b y ≡ suc (suc n) → Hop (joined R) (only b) h y (suc n)
     none-yet y n e = let m = K .most y in absurd (omega arith)
+
+    at-a : Hop (joined R) (only b) (set h a b) a 1
+    at-a = hop-here R i K none-yet b 1 l j (only-here b) (λ z c s. let e = only-pos b z (omega arith) in omega arith)

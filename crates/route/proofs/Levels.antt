@@ -31,17 +31,22 @@ two P a b c d (suc (suc x)) y h k = absurd (omega arith)
 two P a b c d zero (suc (suc y)) h k = absurd (omega arith)
 two P a b c d (suc zero) (suc (suc y)) h k = absurd (omega arith)
 
+-- a law of two bits is one of two words at each bit
+bits-on : (f g : ℕ → ℕ → Bool) → f 0 0 ≡ g 0 0 → f 0 1 ≡ g 0 1 → f 1 0 ≡ g 1 0 → f 1 1 ≡ g 1 1
+    → (a b j : ℕ) → f (bitOf a j) (bitOf b j) ≡ g (bitOf a j) (bitOf b j)
+bits-on f g p q r s a b j = two (λ x y. f x y ≡ g x y) p q r s _ _ (bit-lt a j) (bit-lt b j)
+
 and-on : (a b j : ℕ) → eqb (bitOf (bitAnd a b) j) 1 ≡ (eqb (bitOf a j) 1 && eqb (bitOf b j) 1)
-and-on a b j = ap (λ (d : ℕ). eqb d 1) (and-bit a b j) ∙ two (λ x y. eqb (bitAnd x y) 1 ≡ (eqb x 1 && eqb y 1)) refl refl refl refl _ _ (bit-lt a j) (bit-lt b j)
+and-on a b j = rw (and-bit a b j) (bits-on (λ x y. eqb (bitAnd x y) 1) (λ x y. eqb x 1 && eqb y 1) refl refl refl refl a b j)
 
 or-on : (a b j : ℕ) → eqb (bitOf (bitOr a b) j) 1 ≡ (eqb (bitOf a j) 1 || eqb (bitOf b j) 1)
-or-on a b j = ap (λ (d : ℕ). eqb d 1) (or-bit a b j) ∙ two (λ x y. eqb (bitOr x y) 1 ≡ (eqb x 1 || eqb y 1)) refl refl refl refl _ _ (bit-lt a j) (bit-lt b j)
+or-on a b j = rw (or-bit a b j) (bits-on (λ x y. eqb (bitOr x y) 1) (λ x y. eqb x 1 || eqb y 1) refl refl refl refl a b j)
 
 -- a word without what it shares with another
 less-on : (a b j : ℕ) → eqb (bitOf (bitXor b (bitAnd a b)) j) 1 ≡ (eqb (bitOf b j) 1 && not (eqb (bitOf (bitAnd a b) j) 1))
 less-on a b j =
     rw (xor-bit b (bitAnd a b) j, and-bit a b j)
-    (two (λ x y. eqb (bitXor y (bitAnd x y)) 1 ≡ (eqb y 1 && not (eqb (bitAnd x y) 1))) refl refl refl refl _ _ (bit-lt a j) (bit-lt b j))
+    (bits-on (λ x y. eqb (bitXor y (bitAnd x y)) 1) (λ x y. eqb y 1 && not (eqb (bitAnd x y) 1)) refl refl refl refl a b j)
 
 -- ---- words
 module _ {S : ℕ → Bool} {i w : ℕ} (s : Word S i w) where
@@ -97,10 +102,10 @@ turned-start left out e =
 module _ {rows : List ℕ} {N F L : ℕ → Bool} (i : ℕ) {left out : LocationSet} {any : ℕ} (u : Advanced rows N F L (i * 64) left out any) where
   -- the word of the new level
   pub level-word : {J : ℕ → Bool} (a : ℕ) → Word J i a → i < 4 → ((y : ℕ) → N y ≡ (J y && L y)) → Word N i (bitAnd a (getD (left .words) i 0))
-  level-word a s h n =
-      record {
-        bit = λ j l. n (i * 64 + j) ∙ ap₂ _&&_ (s .bit j l) (sym (u .later (i * 64 + j) (omega arith)) ∙ set-word left i h .bit j l) ∙ sym (and-on a (getD (left .words) i 0) j);
-      }
+  level-word a s h n = record { bit = λ j l. n (i * 64 + j) ∙ ap₂ _&&_ (s .bit j l) (stays j l) ∙ sym (and-on a (getD (left .words) i 0) j) }
+    where
+      stays : (j : ℕ) → j < 64 → L (i * 64 + j) ≡ eqb (bitOf (getD (left .words) i 0) j) 1
+      stays j l = sym (u .later (i * 64 + j) (omega arith)) ∙ set-word left i h .bit j l
 
   -- no location of the new level is in the word
   pub advanced-skip : {w : ℕ} → Word N i w → w ≡ 0 → Advanced rows N F L (i * 64 + 64) left out any
@@ -120,7 +125,9 @@ module _ {rows : List ℕ} {N F L : ℕ → Bool} (i : ℕ) {left out : Location
       joined-own (u .next) (λ y q f. from y q f (side y (i * 64)) (side y (i * 64 + 64))) (λ y q. to y q (side y (i * 64)) (side y (i * 64 + 64)))
     where
       both : (y : ℕ) → i * 64 ≤ y → y < i * 64 + 64 → has own y ≡ (has out y || N y)
-      both y k l = word-at (p .here) y k l ∙ or-on (getD (out .words) i 0) w (y - i * 64) ∙ ap₂ _||_ (sym (word-at (set-word out i h) y k l)) (sym (word-at s y k l))
+      both y k l =
+          word-at (p .here) y k l ∙ or-on (getD (out .words) i 0) w (y - i * 64)
+          ∙ ap₂ _||_ (sym (word-at (set-word out i h) y k l)) (sym (word-at s y k l))
 
       from : (y : ℕ) → has own y ≡ true → N y ≡ false → (y < i * 64) ⊎ (i * 64 ≤ y) → (y < i * 64 + 64) ⊎ (i * 64 + 64 ≤ y) → has out y ≡ true
       from y q f (inl k) e = sym (p .under y k) ∙ q

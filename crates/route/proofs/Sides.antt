@@ -64,7 +64,8 @@ swap t v =
 pub joins-fewer : {E : ℕ → ℕ → Bool} {P : ℕ → ℕ} {J L L' : ℕ → Bool} {k : ℕ} → ((x : ℕ) → L' x ≡ true → L x ≡ true) → Joins E P J L k → Joins E P J L' k
 joins-fewer f j = record { all = λ x y h. j .all x y (f x h); from = λ x h. j .from x (f x h) }
 
-module _ {E : ℕ → ℕ → Bool} {B : ℕ → Bool} {p q : ℕ} {P Q : ℕ → ℕ} {J L : ℕ → Bool} {k m : ℕ} (t : Even E) (v : Both E B p q P Q L k m) (j : Joins E P J L k) where
+module _ {E : ℕ → ℕ → Bool} {B : ℕ → Bool} {p q : ℕ} {P Q : ℕ → ℕ} {J L : ℕ → Bool} {k m : ℕ}
+    (t : Even E) (v : Both E B p q P Q L k m) (j : Joins E P J L k) where
   -- from the newest level an edge leads to a level or to what comes next
   pub onward : (x y : ℕ) → B x ≡ true → E x y ≡ true → 0 < P y → ((0 < P x) × (P x ≤ P y + 1)) ⊎ ((P y ≡ k) × (J x ≡ true) × (L x ≡ true))
   onward x y r e h = ⊎-elim (λ l. inl (v .here .closed x y r e h l)) (λ l. go l (eq-zero-or-pos (P x)) (eq-zero-or-pos (Q x))) (side (P y) k)
@@ -93,13 +94,17 @@ module _ {E : ℕ → ℕ → Bool} {B : ℕ → Bool} {p q : ℕ} {P Q : ℕ �
         record {
           some = omega arith;
           end = let e = v .here .end in kept p (omega arith) ∙ e;
-          one = λ y e. ⊎-elim (λ s. let o = u .new y s in let r = v .here .some in absurd (omega arith)) (λ s. v .here .one y (sym (u .old y s) ∙ e)) (either (N y));
+          one = λ y e. alone y e (either (N y));
           most = λ y. ⊎-elim (λ s. let o = u .new y s in omega arith) (λ s. let o = u .old y s in let r = v .here .most y in omega arith) (either (N y));
           inner = λ y h. ⊎-elim (λ s. v .left y (new-left y s .1) .0) (λ s. v .here .inner y (subst (λ (d : ℕ). 1 < d) (u .old y s) h)) (either (N y));
           next = λ y h. ⊎-elim (λ s. first y s) (λ s. later y s (subst (λ (d : ℕ). 1 < d) (u .old y s) h)) (either (N y));
           closed = close;
         }
       where
+        alone : (y : ℕ) → P' y ≡ 1 → (N y ≡ true) ⊎ (N y ≡ false) → y ≡ p
+        alone y e (inl s) = let o = u .new y s in let r = v .here .some in absurd (omega arith)
+        alone y e (inr s) = v .here .one y (sym (u .old y s) ∙ e)
+
         first : (y : ℕ) → N y ≡ true → (z : ℕ) × (E y z ≡ true) × (P' z + 1 ≡ P' y)
         first y s =
             let f = j .from y (new-left y s .1) (new-left y s .0) in

@@ -85,6 +85,7 @@ pub count-some : (f : ℕ → Bool) (n y : ℕ) → y < n → f y ≡ true → 0
 count-some f n y h p = let r = count-less (λ _. false) f n (λ x q. absurd (clash q refl)) y h refl p in omega arith
 
 -- a set that loses a member
-pub set-less : (N : ℕ → Bool) (l l' : LocationSet) → ((y : ℕ) → has l' y ≡ (has l y && not (N y))) → (y : ℕ) → N y ≡ true → has l y ≡ true → count (has l') 256 < count (has l) 256
+pub set-less : (N : ℕ → Bool) (l l' : LocationSet) → ((y : ℕ) → has l' y ≡ (has l y && not (N y)))
+    → (y : ℕ) → N y ≡ true → has l y ≡ true → count (has l') 256 < count (has l) 256
 set-less N l l' e y p q =
     count-less (has l') (has l) 256 (λ x h. and-both (has l x) (not (N x)) (sym (e x) ∙ h) .0) y (has-lt l y q) (e y ∙ rw (p, q)) q

@@ -34,16 +34,22 @@ module _ {rows : List ℕ} {S : ℕ → Bool} where
     pub joined-more : {to : LocationSet} → S n ≡ true → ((y : ℕ) → has to y ≡ (has out y || has (rowOf rows n) y)) → Joined rows S (n + 1) to
     joined-more {to} p e =
         record {
-          to = λ y q g. ⊎-elim (λ a. let t = u .to y a g in let k = t .1 in (t .0, omega arith, t .2, t .3)) (λ a. (n, omega arith, p, a)) (or-cases _ _ (sym (e y) ∙ q));
+          to = λ y q g. to' y g (or-cases _ _ (sym (e y) ∙ q));
           all = λ x y h q r. all x y h q r (ℕ-discrete x n);
         }
       where
+        to' : (y : ℕ) → S y ≡ false → (has out y ≡ true) ⊎ (has (rowOf rows n) y ≡ true)
+            → (x : ℕ) × (x < n + 1) × (S x ≡ true) × (has (rowOf rows x) y ≡ true)
+        to' y g (inl a) = let t = u .to y a g in let k = t .1 in (t .0, omega arith, t .2, t .3)
+        to' y g (inr a) = (n, omega arith, p, a)
+
         all : (x y : ℕ) → x < n + 1 → S x ≡ true → has (rowOf rows x) y ≡ true → Dec (x ≡ n) → has to y ≡ true
         all x y h q r (yes d) = e y ∙ or-right (has out y) _ (subst (λ (z : ℕ). has (rowOf rows z) y ≡ true) d r)
         all x y h q r (no d) = e y ∙ or-left (has out y) _ (u .all x y (omega arith) q r)
 
     -- members of S besides
-    pub joined-own : {own : LocationSet} → ((y : ℕ) → has own y ≡ true → S y ≡ false → has out y ≡ true) → ((y : ℕ) → has out y ≡ true → has own y ≡ true) → Joined rows S n own
+    pub joined-own : {own : LocationSet} → ((y : ℕ) → has own y ≡ true → S y ≡ false → has out y ≡ true)
+        → ((y : ℕ) → has out y ≡ true → has own y ≡ true) → Joined rows S n own
     joined-own e f = record { to = λ y p g. u .to y (e y p g) g; all = λ x y h q r. f y (u .all x y h q r) }
 
 module _ {S : ℕ → Bool} {v : ℕ} where
@@ -102,7 +108,8 @@ module _ {rows : List ℕ} {S L : ℕ → Bool} where
 
     -- what member n reaches: those of left that it is joined to
     module _ (left' next' new : LocationSet) {h' : List ℕ} (p : S n ≡ true) (e : (y : ℕ) → has new y ≡ (has (rowOf rows n) y && has left y))
-        (k : Noted (has new) n 256 h h') (l : (y : ℕ) → has left' y ≡ (has left y && not (has new y))) (o : (y : ℕ) → has next' y ≡ (has next y || has new y)) where
+        (k : Noted (has new) n 256 h h') (l : (y : ℕ) → has left' y ≡ (has left y && not (has new y)))
+        (o : (y : ℕ) → has next' y ≡ (has next y || has new y)) where
       fresh : (y : ℕ) → has new y ≡ true → (has (rowOf rows n) y ≡ true) × (L y ≡ true) × (has next y ≡ false)
       fresh y q =
           let r = and-both (has (rowOf rows n) y) (has left y) (sym (e y) ∙ q) in
@@ -121,14 +128,15 @@ module _ {rows : List ℕ} {S L : ℕ → Bool} where
       pub spread-more : Spread rows S (n + 1) L before left' next' h'
       spread-more =
           record {
-            stay = λ y. l y ∙ ap (λ (t : Bool). t && not (has new y)) (u .stay y) ∙ two (L y) (has next y) (has new y) ∙ ap (λ (t : Bool). L y && not t) (sym (o y));
+            stay = λ y. l y ∙ ap (λ (t : Bool). t && not (has new y)) (u .stay y) ∙ two (L y) (has next y) (has new y)
+                ∙ ap (λ (t : Bool). L y && not t) (sym (o y));
             new = λ y q. ⊎-elim (λ r. u .new y r) (λ r. fresh y r .1) (cases y q);
             all = λ x y b q r s. all x y b q r s (ℕ-discrete x n);
             under = λ y q. ⊎-elim (λ r. let a = hop-old y r in let b = u .under y r in omega arith) (λ r. let a = hop-new y r in omega arith) (cases y q);
             member = λ y q. ⊎-elim (λ r. ap S (hop-old y r) ∙ u .member y r) (λ r. ap S (hop-new y r) ∙ p) (cases y q);
-            edge = λ y q. ⊎-elim (λ r. ap (λ (z : ℕ). has (rowOf rows z) y) (hop-old y r) ∙ u .edge y r) (λ r. ap (λ (z : ℕ). has (rowOf rows z) y) (hop-new y r) ∙ fresh y r .0) (cases y q);
-            least = λ y z q r s. ⊎-elim (λ a. let b = hop-old y a in let c = u .least y z a r s in omega arith) (λ a. let b = hop-new y a in let c = first y z a r s in omega arith) (cases y q);
-            old = λ y q. ⊎-elim (λ r. absurd (clash (o y ∙ or-right (has next y) _ r) q)) (λ r. k .off y r ∙ u .old y (⊎-elim (λ a. absurd (clash (o y ∙ or-left _ (has new y) a) q)) (λ a. a) (either (has next y)))) (either (has new y));
+            edge = λ y q. edge y (cases y q);
+            least = λ y z q r s. least y z r s (cases y q);
+            old = λ y q. old y q (either (has next y)) (either (has new y));
           }
         where
           two : (s t v : Bool) → ((s && not t) && not v) ≡ (s && not (t || v))
@@ -141,7 +149,21 @@ module _ {rows : List ℕ} {S L : ℕ → Bool} where
 
           all : (x y : ℕ) → x < n + 1 → S x ≡ true → has (rowOf rows x) y ≡ true → L y ≡ true → Dec (x ≡ n) → has next' y ≡ true
           all x y b q r s (no d) = o y ∙ or-left _ (has new y) (u .all x y (omega arith) q r s)
-          all x y b q r s (yes d) = ⊎-elim
-              (λ a. o y ∙ or-left _ (has new y) a)
-              (λ a. o y ∙ or-right (has next y) _ (e y ∙ both-and _ _ (subst (λ (z : ℕ). has (rowOf rows z) y ≡ true) d r) (u .stay y ∙ both-and _ _ s (of-not _ a))))
-              (either (has next y))
+          all x y b q r s (yes d) = ⊎-elim (λ a. o y ∙ or-left _ (has new y) a) (λ a. o y ∙ or-right (has next y) _ (reached a)) (either (has next y))
+            where
+              reached : has next y ≡ false → has new y ≡ true
+              reached a = e y ∙ both-and _ _ (subst (λ (z : ℕ). has (rowOf rows z) y ≡ true) d r) (u .stay y ∙ both-and _ _ s (of-not _ a))
+
+          edge : (y : ℕ) → (has next y ≡ true) ⊎ (has new y ≡ true) → has (rowOf rows (getD h' y 0)) y ≡ true
+          edge y (inl r) = ap (λ (z : ℕ). has (rowOf rows z) y) (hop-old y r) ∙ u .edge y r
+          edge y (inr r) = ap (λ (z : ℕ). has (rowOf rows z) y) (hop-new y r) ∙ fresh y r .0
+
+          least : (y z : ℕ) → S z ≡ true → has (rowOf rows z) y ≡ true → (has next y ≡ true) ⊎ (has new y ≡ true) → getD h' y 0 ≤ z
+          least y z r s (inl a) = let b = hop-old y a in let c = u .least y z a r s in omega arith
+          least y z r s (inr a) = let b = hop-new y a in let c = first y z a r s in omega arith
+
+          old : (y : ℕ) → has next' y ≡ false → (has next y ≡ true) ⊎ (has next y ≡ false) → (has new y ≡ true) ⊎ (has new y ≡ false)
+              → getD h' y 0 ≡ getD before y 0
+          old y q (inl a) r = absurd (clash (o y ∙ or-left _ (has new y) a) q)
+          old y q (inr a) (inl r) = absurd (clash (o y ∙ or-right (has next y) _ r) q)
+          old y q (inr a) (inr r) = k .off y r ∙ u .old y a

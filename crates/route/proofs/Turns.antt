@@ -32,11 +32,16 @@ pub record Turn (E : ℕ → ℕ → Bool) (B : ℕ → Bool) (p q : ℕ) (J F L
   pub other : Joins E Q F L n
   pub sum : m + n ≡ k + 1
 
+-- it is one end's turn
+abbrev pub Turns : (ℕ → ℕ → Bool) → (ℕ → Bool) → ℕ → ℕ → (ℕ → Bool) → (ℕ → Bool) → (ℕ → Bool) → ℕ → Type 0
+Turns E B a b J F L k = Turn E B b a J F L k ⊎ Turn E B a b J F L k
+
 -- the locations that may lie between a and b
 pub record Inner (free : ℕ → Bool) (a b : ℕ) (B : ℕ → Bool) : Type 0 where
   pub is : (y : ℕ) → B y ≡ (not (eqb y b) && (not (eqb y a) && free y))
 
-pub inner-of : {free : ℕ → Bool} {a b : ℕ} (r s : LocationSet) → ((y : ℕ) → has r y ≡ (not (eqb y a) && free y)) → ((y : ℕ) → has s y ≡ (not (eqb y b) && has r y)) → Inner free a b (has s)
+pub inner-of : {free : ℕ → Bool} {a b : ℕ} (r s : LocationSet) → ((y : ℕ) → has r y ≡ (not (eqb y a) && free y))
+    → ((y : ℕ) → has s y ≡ (not (eqb y b) && has r y)) → Inner free a b (has s)
 inner-of {b = b} r s e f = record { is = λ y. f y ∙ ap (λ (t : Bool). not (eqb y b) && t) (e y) }
 
 module _ {free : ℕ → Bool} {a b : ℕ} {B : ℕ → Bool} (i : Inner free a b B) where
@@ -89,8 +94,8 @@ module _ {R : Region} {rows : List ℕ} (w : Rows R rows) where
 
   -- after one turn comes the other end's
   pub turn-next : {B J F N L L' : ℕ → Bool} {p q k : ℕ} (t : LocationSet) → Turn (joined R) B p q J F L k
-      → ((y : ℕ) → N y ≡ (J y && L y)) → ((y : ℕ) → N y ≡ true → y < 256) → ((y : ℕ) → N y ≡ true → F y ≡ true → ⊥) → ((y : ℕ) → L' y ≡ (L y && not (N y))) → Joined rows N 256 t
-      → Turn (joined R) B q p F (has t) L' (k + 1)
+      → ((y : ℕ) → N y ≡ (J y && L y)) → ((y : ℕ) → N y ≡ true → y < 256) → ((y : ℕ) → N y ≡ true → F y ≡ true → ⊥)
+      → ((y : ℕ) → L' y ≡ (L y && not (N y))) → Joined rows N 256 t → Turn (joined R) B q p F (has t) L' (k + 1)
   turn-next {N = N} {L = L} t v n small never l j =
       let u = raise (v .P) N (v .m) in
       let e = v .sum in
@@ -108,9 +113,9 @@ module _ {R : Region} {rows : List ℕ} (w : Rows R rows) where
       }
 
   -- either end's turn, then the other's
-  pub turns-next : {B J F N L L' : ℕ → Bool} {a b k : ℕ} (t : LocationSet) → Turn (joined R) B b a J F L k ⊎ Turn (joined R) B a b J F L k
-      → ((y : ℕ) → N y ≡ (J y && L y)) → ((y : ℕ) → N y ≡ true → y < 256) → ((y : ℕ) → N y ≡ true → F y ≡ true → ⊥) → ((y : ℕ) → L' y ≡ (L y && not (N y))) → Joined rows N 256 t
-      → Turn (joined R) B b a F (has t) L' (k + 1) ⊎ Turn (joined R) B a b F (has t) L' (k + 1)
+  pub turns-next : {B J F N L L' : ℕ → Bool} {a b k : ℕ} (t : LocationSet) → Turns (joined R) B a b J F L k
+      → ((y : ℕ) → N y ≡ (J y && L y)) → ((y : ℕ) → N y ≡ true → y < 256) → ((y : ℕ) → N y ≡ true → F y ≡ true → ⊥)
+      → ((y : ℕ) → L' y ≡ (L y && not (N y))) → Joined rows N 256 t → Turns (joined R) B a b F (has t) L' (k + 1)
   turns-next t (inl v) n small never l j = inr (turn-next t v n small never l j)
   turns-next t (inr v) n small never l j = inl (turn-next t v n small never l j)
 
@@ -124,15 +129,16 @@ module _ (R : Region) {free B : ℕ → Bool} {a b : ℕ} (i : Inner free a b B)
       omega arith
 
   -- where the next levels meet, one edge more than the turns so far
-  pub turns-found : {J F L : ℕ → Bool} {k : ℕ} → Turn (joined R) B b a J F L k ⊎ Turn (joined R) B a b J F L k → (y : ℕ) → L y ≡ true → J y ≡ true → F y ≡ true
+  pub turns-found : {J F L : ℕ → Bool} {k : ℕ} → Turns (joined R) B a b J F L k → (y : ℕ) → L y ≡ true → J y ≡ true → F y ≡ true
       → k + 1 ≡ edgesOf (route R free a b)
   turns-found (inl v) y l j f = found-here v y l j f
   turns-found (inr v) y l j f =
       let s = v .sum in
-      found-here (record { P = v .Q; Q = v .P; m = v .n; n = v .m; both = swap (joined-even R) (v .both); mine = v .other; other = v .mine; sum = omega arith }) y l f j
+      let e = swap (joined-even R) (v .both) in
+      found-here (record { P = v .Q; Q = v .P; m = v .n; n = v .m; both = e; mine = v .other; other = v .mine; sum = omega arith }) y l f j
 
   -- where an end has no further level there is no route
-  pub turns-none : {J F L : ℕ → Bool} {k : ℕ} → Turn (joined R) B b a J F L k ⊎ Turn (joined R) B a b J F L k → ((y : ℕ) → L y ≡ true → J y ≡ true → ⊥)
+  pub turns-none : {J F L : ℕ → Bool} {k : ℕ} → Turns (joined R) B a b J F L k → ((y : ℕ) → L y ≡ true → J y ≡ true → ⊥)
       → 0 ≡ edgesOf (route R free a b)
   turns-none (inl v) never = rw (no-way R free a b (λ p w. closed-here R free a b (inner-mid i R) (v .both) (v .mine) never w))
   turns-none (inr v) never = rw (no-way R free a b (λ p w. closed-there R free a b (inner-mid i R) (v .both) (v .mine) never w))

@@ -37,7 +37,8 @@ module _ (R : Region) (free : ℕ → Bool) (a b : ℕ) {B : ℕ → Bool} (mid 
     far-from (last {x = x} j) h = let e = v .here .end in absurd (v .apart b x (omega arith) h (joined-even R x b j))
     far-from (then {x = x} {y = y} {p = p} j t w) h = go (λ d. far-from w d) (near (v .here) w (sym (mid y) ∙ t)) (side (Q x) m) (side k (length p))
       where
-        go : (0 < Q y → m + k + 2 ≤ Q y + length p) → (length p ≤ k → (0 < P y) × (P y ≤ length p)) → (Q x < m) ⊎ (m ≤ Q x) → (k < length p) ⊎ (length p ≤ k) → m + k + 2 ≤ Q x + suc (length p)
+        go : (0 < Q y → m + k + 2 ≤ Q y + length p) → (length p ≤ k → (0 < P y) × (P y ≤ length p))
+            → (Q x < m) ⊎ (m ≤ Q x) → (k < length p) ⊎ (length p ≤ k) → m + k + 2 ≤ Q x + suc (length p)
         go rec n (inl l) d =
             let c = v .there .closed y x (sym (mid y) ∙ t) (joined-even R x y j) h l in
             let i = rec (c .0) in
@@ -96,7 +97,8 @@ module _ (R : Region) (free : ℕ → Bool) (a b : ℕ) {B : ℕ → Bool} (mid 
       closed-here (last e) = let o = v .here .end in let s = v .there .end in v .apart b a (omega arith) (omega arith) (joined-even R a b e)
       closed-here (then {y = y} e t w) = let s = v .there .end in v .apart y a (all-here w (sym (mid y) ∙ t)) (omega arith) (joined-even R a y e)
 
-  module _ {P Q : ℕ → ℕ} {F L : ℕ → Bool} {k m : ℕ} (v : Both (joined R) B a b Q P L m k) (f : Joins (joined R) Q F L m) (never : (y : ℕ) → L y ≡ true → F y ≡ true → ⊥) where
+  module _ {P Q : ℕ → ℕ} {F L : ℕ → Bool} {k m : ℕ} (v : Both (joined R) B a b Q P L m k) (f : Joins (joined R) Q F L m)
+      (never : (y : ℕ) → L y ≡ true → F y ≡ true → ⊥) where
     none-there : {x : ℕ} {p : List ℕ} → Way x p → 0 < Q x → ⊥
     none-there (last {x = x} e) h = let o = v .there .end in v .apart x b h (omega arith) e
     none-there (then {x = x} {y = y} e t w) h =

@@ -25,13 +25,14 @@ module _ {h : List ℕ} {a n : ℕ} {before out : List ℕ} {x i : ℕ} (w : Wri
 
   pub writing-more : i < n → i < length before → Writing h a n before (set out i x) (getD h x 0) (i + 1)
   writing-more b l =
+      let z : n - i ≡ suc (n - (i + 1)) = omega arith in
       record {
         done = w .done ++ (x ∷ []);
         long = length-append (w .done) (x ∷ []) ∙ (let e = w .long in omega arith);
         held = ap (λ (o : List ℕ). set o i x) (w .held ∙ ap (λ (o : List ℕ). w .done ++ o) (drop-cons before i 0 l))
             ∙ set-at (w .done) (getD before i 0) (drop (suc i) before) x i (w .long)
             ∙ sym (append-snoc (w .done) x (drop (suc i) before)) ∙ rw (add-one i);
-        whole = let z : n - i ≡ suc (n - (i + 1)) = omega arith in w .whole ∙ ap (λ (m : ℕ). w .done ++ hops h m x) z ∙ sym (append-snoc (w .done) x (hops h (n - (i + 1)) (getD h x 0)));
+        whole = w .whole ∙ ap (λ (m : ℕ). w .done ++ hops h m x) z ∙ sym (append-snoc (w .done) x (hops h (n - (i + 1)) (getD h x 0)));
       }
 
   pub writing-end : i ≡ n → out ≡ over (hops h n a) before

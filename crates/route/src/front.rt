@@ -39,7 +39,9 @@ fn reach_word(rows: &[u64; 1024], s: LocationSet, i: usize, to: Front, hop: &mut
     requires { ⌜ i < 4 ⌝ }
     requires { ⌜ length (now hop) ≡ 256 ⌝ }
     ensures long { λ _. ⌜ length (now (hop .exit)) ≡ 256 ⌝ }
-    ensures on { λ r. ⌜ ((L : ℕ → Bool) (h : List ℕ) → Spread (now (rows .entry)) (has s) (i * 64) L h (to .left) (to .next) (now (hop .entry)) → Spread (now (rows .entry)) (has s) (i * 64 + 64) L h (r .left) (r .next) (now (hop .exit))) ⌝ }
+    ensures on { λ r. ⌜ ((L : ℕ → Bool) (h : List ℕ)
+        → Spread (now (rows .entry)) (has s) (i * 64) L h (to .left) (to .next) (now (hop .entry))
+        → Spread (now (rows .entry)) (has s) (i * 64 + 64) L h (r .left) (r .next) (now (hop .exit))) ⌝ }
 {
     let mut f = to;
     let mut w = s.words[i];
@@ -56,7 +58,9 @@ pub fn reach(rows: &[u64; 1024], x: usize, f: Front, hop: &mut [u8; 256]) -> Fro
     requires { ⌜ x < 256 ⌝ }
     requires { ⌜ length (now hop) ≡ 256 ⌝ }
     ensures long { λ _. ⌜ length (now (hop .exit)) ≡ 256 ⌝ }
-    ensures on { λ r. ⌜ ((S L : ℕ → Bool) (h : List ℕ) (n : ℕ) → S x ≡ true → n ≤ x → ((z : ℕ) → n ≤ z → z < x → S z ≡ false) → Spread (now (rows .entry)) S n L h (f .left) (f .next) (now (hop .entry)) → Spread (now (rows .entry)) S (x + 1) L h (r .left) (r .next) (now (hop .exit))) ⌝ }
+    ensures on { λ r. ⌜ ((S L : ℕ → Bool) (h : List ℕ) (n : ℕ) → S x ≡ true → n ≤ x → ((z : ℕ) → n ≤ z → z < x → S z ≡ false)
+        → Spread (now (rows .entry)) S n L h (f .left) (f .next) (now (hop .entry))
+        → Spread (now (rows .entry)) S (x + 1) L h (r .left) (r .next) (now (hop .exit))) ⌝ }
 {
     let left = f.left;
     let next = f.next;

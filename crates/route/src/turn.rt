@@ -24,7 +24,8 @@ pub fn advance(
     other: LocationSet,
     left: LocationSet,
 ) -> Turn
-    ensures { λ r. ⌜ ((N : ℕ → Bool) → ((y : ℕ) → N y ≡ (has joined y && has left y)) → Turned (now (rows .entry)) N (has other) (has left) 256 (r .left) (r .joined) (r .any) (r .met)) ⌝ }
+    ensures { λ r. ⌜ ((N : ℕ → Bool) → ((y : ℕ) → N y ≡ (has joined y && has left y))
+        → Turned (now (rows .entry)) N (has other) (has left) 256 (r .left) (r .joined) (r .any) (r .met)) ⌝ }
 {
     let none = LocationSet::empty();
     let start = Turn {
@@ -49,7 +50,9 @@ fn advance_word(
     to: Turn,
 ) -> Turn
     requires { ⌜ i < 4 ⌝ }
-    ensures { λ r. ⌜ ((N L : ℕ → Bool) → ((y : ℕ) → N y ≡ (has joined y && L y)) → Turned (now (rows .entry)) N (has other) L (i * 64) (to .left) (to .joined) (to .any) (to .met) → Turned (now (rows .entry)) N (has other) L (i * 64 + 64) (r .left) (r .joined) (r .any) (r .met)) ⌝ }
+    ensures { λ r. ⌜ ((N L : ℕ → Bool) → ((y : ℕ) → N y ≡ (has joined y && L y))
+        → Turned (now (rows .entry)) N (has other) L (i * 64) (to .left) (to .joined) (to .any) (to .met)
+        → Turned (now (rows .entry)) N (has other) L (i * 64 + 64) (r .left) (r .joined) (r .any) (r .met)) ⌝ }
 {
     if to.met {
         return to;

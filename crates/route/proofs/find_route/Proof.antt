@@ -33,7 +33,9 @@ returns-3 c =
     let e = c .before .before .before .before .before .before in
     let s = e .before .search in
     let a = e .before .before .before .before .args in
-    λ R w. written-answered (s .last .1 .1 .1 .1 .0) (a .a) (s .result) (a .out .now) _ (s .ensures .0 R w) (e .if1 .left) (c .before .before .before .before .before .if2 .left) (c .before .before .trace .ensures)
+    let i = c .before .before .before .before .before .if2 .left in
+    let t = c .before .before .trace .ensures in
+    λ R w. written-answered (s .last .1 .1 .1 .1 .0) (a .a) (s .result) (a .out .now) _ (s .ensures .0 R w) (e .if1 .left) i t
 
 pub find-route-spec : {M : Type 1} → statement M
 find-route-spec =

@@ -18,8 +18,11 @@ note-word-requires-4 c κs = search needs
 
 returns : tie.Need-returns
 returns c =
-    let a = c .before .before .before .before .before .before .before .before .args in
-    c .note-word4 .ensures .1 _ (c .before .before .note-word3 .ensures .1 _ (c .before .before .before .before .note-word2 .ensures .1 _ (c .before .before .before .before .before .before .note-word .ensures .1 (a .hop .now) noted-start)))
+    let d = c .before .before in
+    let e = d .before .before in
+    let f = e .before .before in
+    let a = f .before .before .args in
+    c .note-word4 .ensures .1 _ (d .note-word3 .ensures .1 _ (e .note-word2 .ensures .1 _ (f .note-word .ensures .1 (a .hop .now) noted-start)))
 
 pub note-spec : {M : Type 1} → statement M
 note-spec =

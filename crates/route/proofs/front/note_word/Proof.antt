@@ -13,7 +13,8 @@ use Rattle.route.proofs.front.note_word.Statement.{statement}
 use Rattle.route.proofs.front.note_word.Tie as tie
 
 abbrev Inv-loop : tie.InvT-loop
-Inv-loop i v hop₀ w₀ hop w = (length hop ≡ 256) × (m : ℕ) × Rest w₀ w m × ((S : ℕ → Bool) (h : List ℕ) → Word S i w₀ → Noted S v (i * 64) h hop₀ → Noted S v (i * 64 + m) h hop)
+Inv-loop i v hop₀ w₀ hop w = (length hop ≡ 256) × (m : ℕ) × Rest w₀ w m
+    × ((S : ℕ → Bool) (h : List ℕ) → Word S i w₀ → Noted S v (i * 64) h hop₀ → Noted S v (i * 64 + m) h hop)
 
 abbrev μ-loop : tie.MeasureT-loop
 μ-loop i v hop₀ w₀ hop w = w
@@ -57,7 +58,8 @@ loop-again c =
       t + 1,
       rest-more u t _ o (c .rest .ensures),
       λ S h s k. noted-skip
-          (noted-more (noted-skip (l .inv .3 S h s k) (a .i * 64 + t) (let f = rest-first u t o in omega arith) (rest-between u s t o)) (rest-here u s t o) (omega (arith, o .small)))
+          (noted-more (noted-skip (l .inv .3 S h s k) (a .i * 64 + t) (let f = rest-first u t o in omega arith) (rest-between u s t o)) (rest-here u s t o)
+          (omega (arith, o .small)))
           _ (omega arith) (λ z f g. absurd (omega arith)),
     )
 

@@ -29,10 +29,12 @@ returns : tie.Need-returns
 returns c =
     let b = c .before .before .before .before .before .before .before .before in
     let a = b .args in
+    let o = c .before .before .before .before .common in
+    let r = c .before .before .before .before .before .row .ensures in
     let k = c .before .before .note .ensures in (
       k .long ∙ b .pre .1,
-      λ S L h n p l f u. spread-more (spread-skip u (a .x) l f) (c .before .without .result) (c .union .result) (c .before .before .before .before .common .result) p
-          (λ y. c .before .before .before .before .common .ensures y ∙ ap (λ r. has r y && has (a .f .left) y) (c .before .before .before .before .before .row .ensures)) k (c .before .without .ensures) (c .union .ensures),
+      λ S L h n p l f u. spread-more (spread-skip u (a .x) l f) (c .before .without .result) (c .union .result) (o .result) p
+          (λ y. o .ensures y ∙ ap (λ z. has z y && has (a .f .left) y) r) k (c .before .without .ensures) (c .union .ensures),
     )
 
 pub reach-spec : {M : Type 1} → statement M

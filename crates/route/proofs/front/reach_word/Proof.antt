@@ -14,7 +14,8 @@ use Rattle.route.proofs.front.reach_word.Tie as tie
 
 abbrev Inv-loop : tie.InvT-loop
 Inv-loop rows i hop₀ f₀ w₀ hop f w = (length hop ≡ 256) × (m : ℕ) × Rest w₀ w m
-    × ((S L : ℕ → Bool) (h : List ℕ) → Word S i w₀ → Spread rows S (i * 64) L h (f₀ .left) (f₀ .next) hop₀ → Spread rows S (i * 64 + m) L h (f .left) (f .next) hop)
+    × ((S L : ℕ → Bool) (h : List ℕ) → Word S i w₀ → Spread rows S (i * 64) L h (f₀ .left) (f₀ .next) hop₀
+    → Spread rows S (i * 64 + m) L h (f .left) (f .next) hop)
 
 abbrev μ-loop : tie.MeasureT-loop
 μ-loop rows i hop₀ f₀ w₀ hop f w = w
@@ -56,7 +57,9 @@ loop-again c =
       r .0,
       t + 1,
       rest-more u t _ o (c .rest .ensures),
-      λ S L h s v. spread-skip (r .1 S L h _ (rest-here u s t o) (let f = rest-first u t o in omega arith) (rest-between u s t o) (l .inv .3 S L h s v)) _ (omega arith) (λ z f g. absurd (omega arith)),
+      λ S L h s v. spread-skip
+          (r .1 S L h _ (rest-here u s t o) (let f = rest-first u t o in omega arith) (rest-between u s t o) (l .inv .3 S L h s v))
+          _ (omega arith) (λ z f g. absurd (omega arith)),
     )
 
 returns : tie.Need-returns Inv-loop μ-loop

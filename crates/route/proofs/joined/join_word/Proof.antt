@@ -46,11 +46,12 @@ loop-again c =
     let l = c .before .before .before .before .before .loop in
     let u = l .inv .1 in
     let t = c .before .before .before .low .result in
-    let o = c .before .before .before .low .ensures in (
+    let o = c .before .before .before .low .ensures in
+    let i = c .before .before .before .before .before .before .args .i in (
       t + 1,
       rest-more u t _ o (c .rest .ensures),
       λ S s j. joined-skip
-          (joined-more (joined-skip (l .inv .2 S s j) (c .before .before .before .before .before .before .args .i * 64 + t) (let h = rest-first u t o in omega arith) (rest-between u s t o)) (rest-here u s t o)
+          (joined-more (joined-skip (l .inv .2 S s j) (i * 64 + t) (let h = rest-first u t o in omega arith) (rest-between u s t o)) (rest-here u s t o)
           (λ y. c .before .union .ensures y ∙ ap (λ r. has (l .out) y || has r y) (c .before .before .row .ensures)))
           _ (omega arith) (λ z h k. absurd (omega arith)),
     )

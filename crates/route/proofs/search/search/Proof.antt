@@ -11,7 +11,8 @@ use Rattle.sets.specs.Sets.{has, rowOf}
 use Rattle.sets.proofs.Bools.{clash, and-both, both-and, not-of}
 use Rattle.device.specs.Reader.{Rows}
 use Rattle.route.specs.Sweeps.{Spread}
-use Rattle.route.proofs.Hunt.{Hunt, whole, inner-whole, spread-apart, hunt-start, hunt-next, hunt-less, hunt-some, first-in, hunt-none, hunt-found, ends-hop}
+use Rattle.route.proofs.Hunt.{Hunt, whole, inner-whole, spread-apart, hunt-start, hunt-next, hunt-less, hunt-some, first-in}
+use Rattle.route.proofs.Hunt.{hunt-none, hunt-found, ends-hop}
 use Rattle.route.proofs.Sizes.{count, count-but-two}
 use Rattle.route.proofs.Swept.{spread-start}
 use Rattle.route.proofs.Turns.{Inner, inner-of, inner-first, inner-second, ends-same}
@@ -20,7 +21,8 @@ use Rattle.route.proofs.search.search.Statement.{statement}
 use Rattle.route.proofs.search.search.Tie as tie
 
 abbrev Inv-loop : tie.InvT-loop
-Inv-loop rows a b hop₀ first f₀ k₀ hop f k = (length hop ≡ 256) × (k + count (whole (f .left) (f .next)) 256 ≤ 255) × ((y : ℕ) → has (f .next) y ≡ true → has (f .left) y ≡ false)
+Inv-loop rows a b hop₀ first f₀ k₀ hop f k = (length hop ≡ 256) × (k + count (whole (f .left) (f .next)) 256 ≤ 255)
+    × ((y : ℕ) → has (f .next) y ≡ true → has (f .left) y ≡ false)
     × ((R : Region) → Rows R rows → Hunt (joined R) (whole (f₀ .left) (f₀ .next)) a b (has first) (f .left) (f .next) hop k)
 
 abbrev μ-loop : tie.MeasureT-loop
@@ -47,9 +49,11 @@ returns-2 : tie.Need-returns-2 Inv-loop μ-loop
 returns-2 c =
     let d = c .before .before .before .before in
     let a = d .args in
-    let n : length (a .hop .now) ≡ 256 = d .pre .1 in (
-      (λ R w. ends-hop R (has (a .free)) (a .a) (a .b) (a .hop .now) (c .before .before .before .if1 .left)
-          (sym (w .row (a .a) (a .b)) ∙ ap (λ r. has r (a .b)) (sym (c .before .before .row .ensures)) ∙ sym (c .before .contains .ensures) ∙ c .if2 .taken) (omega (arith, d .pre .0 .0))),
+    let n : length (a .hop .now) ≡ 256 = d .pre .1 in
+    let e = sym (c .before .contains .ensures) ∙ c .if2 .taken in
+    let s : has (rowOf (a .rows .now) (a .a)) (a .b) ≡ true = ap (λ r. has r (a .b)) (sym (c .before .before .row .ensures)) ∙ e in (
+      (λ R w. ends-hop R (has (a .free)) (a .a) (a .b) (a .hop .now) (c .before .before .before .if1 .left) (sym (w .row (a .a) (a .b)) ∙ s)
+          (omega (arith, d .pre .0 .0))),
       omega arith,
     )
 
@@ -65,13 +69,24 @@ empty-requires c κs = search needs
 reach-requires : tie.Need-reach-requires Inv-loop μ-loop
 reach-requires c κs = search needs
 
--- the first level
-level : (c : tie.After-reach Inv-loop μ-loop) → Spread (c .before .before .before .before .before .before .before .before .before .args .rows .now) (λ z. eqb z (c .before .before .before .before .before .before .before .before .before .args .b)) (c .before .before .before .before .before .before .before .before .before .args .b + 1) (has (c .before .before .before .remove2 .result)) (c .before .before .before .before .before .before .before .before .before .args .hop .now) (c .reach .result .left) (c .reach .result .next) (c .reach .last .1 .1 .1 .0)
-level c =
-    let b : ℕ = c .before .before .before .before .before .before .before .before .before .args .b in
-    c .reach .ensures .1 (λ z. eqb z b) _ _ 0 (eq-eqb b b refl) (omega arith) (λ z l h. ne-eqb z b (λ e. absurd (omega arith))) (spread-start (λ y. refl) (c .before .before .empty .ensures))
+-- back to the start from where the first level is known, and that the ends differ
+abbrev start : tie.After-reach Inv-loop μ-loop → tie.Start Inv-loop μ-loop
+start c = c .before .before .before .before .before .before .before .before .before
 
-inner : (c : tie.After-reach Inv-loop μ-loop) → Inner (has (c .before .before .before .before .before .before .before .before .before .args .free)) (c .before .before .before .before .before .before .before .before .before .args .a) (c .before .before .before .before .before .before .before .before .before .args .b) (whole (c .reach .result .left) (c .reach .result .next))
+ends : (c : tie.After-reach Inv-loop μ-loop) → start c .args .a ≡ start c .args .b → ⊥
+ends c = c .before .before .before .before .before .before .before .before .if1 .left
+
+-- the first level
+level : (c : tie.After-reach Inv-loop μ-loop)
+    → Spread (start c .args .rows .now) (λ z. eqb z (start c .args .b)) (start c .args .b + 1) (has (c .before .before .before .remove2 .result))
+    (start c .args .hop .now) (c .reach .result .left) (c .reach .result .next) (c .reach .last .1 .1 .1 .0)
+level c =
+    let b : ℕ = start c .args .b in
+    c .reach .ensures .1 (λ z. eqb z b) _ _ 0 (eq-eqb b b refl) (omega arith) (λ z l h. ne-eqb z b (λ e. absurd (omega arith)))
+    (spread-start (λ y. refl) (c .before .before .empty .ensures))
+
+inner : (c : tie.After-reach Inv-loop μ-loop)
+    → Inner (has (start c .args .free)) (start c .args .a) (start c .args .b) (whole (c .reach .result .left) (c .reach .result .next))
 inner c =
     let r = c .before .before .before .before .remove in
     let s = c .before .before .before .remove2 in
@@ -79,17 +94,19 @@ inner c =
 
 loop-holds : tie.Need-loop-holds Inv-loop μ-loop
 loop-holds c =
-    let d = c .before .before .before .before .before .before .before .before .before in
+    let d = start c in
+    let f = c .reach .result in
     let r = c .before .before .before .before .remove in
     let s = c .before .before .before .remove2 in
     let t = c .before .before .before .before .before .before .before .row in
     let i = inner c in
-    let n = count-but-two (whole (c .reach .result .left) (c .reach .result .next)) 256 (d .args .a) (d .args .b) (d .pre .0 .0) (d .pre .0 .1) (c .before .before .before .before .before .before .before .before .if1 .left) (inner-first i) (inner-second i) in (
+    let o : Inner (has (d .args .free)) (d .args .a) (d .args .b) (has (s .result)) = inner-of (r .result) (s .result) (r .ensures) (s .ensures) in
+    let e = sym (c .before .before .before .before .before .before .contains .ensures) ∙ c .before .before .before .before .before .if2 .left in
+    let n = count-but-two (whole (f .left) (f .next)) 256 (d .args .a) (d .args .b) (d .pre .0 .0) (d .pre .0 .1) (ends c) (inner-first i) (inner-second i) in (
       c .reach .ensures .0,
       omega arith,
       spread-apart (level c),
-      λ R w. hunt-start w (t .result) (c .reach .result .left) (c .reach .result .next) (inner-of (r .result) (s .result) (r .ensures) (s .ensures)) (t .ensures)
-          (sym (c .before .before .before .before .before .before .contains .ensures) ∙ c .before .before .before .before .before .if2 .left) (level c),
+      λ R w. hunt-start w (t .result) (f .left) (f .next) o (t .ensures) e (level c),
     )
 
 is-empty-requires : tie.Need-is-empty-requires Inv-loop μ-loop
@@ -122,30 +139,34 @@ cast-hop-2 : tie.Need-cast-hop-2 Inv-loop μ-loop
 cast-hop-2 c = record { fits = meets c }
 
 element-write-hop-2 : tie.Need-element-write-hop-2 Inv-loop μ-loop
-element-write-hop-2 c = omega (arith, c .before .before .before .before .before .before .before .before .before .before .before .before .before .before .before .before .before .pre .0 .0)
+element-write-hop-2 c = omega (arith, start (c .before .before .before .before .before .before .before .before) .pre .0 .0)
 
 returns-4 : tie.Need-returns-4 Inv-loop μ-loop
 returns-4 c =
     let l = c .before .before .before .before .before .before .before .loop in
     let d = c .before .before .before .before .before .before .before .before in
-    let s = d .before .before .before .before .before .before .before .before .before in
     let t = d .before .before .before .before .before .before .before .row in
+    let o = c .before .before .before .common in
     let n : length (l .hop) ≡ 256 = l .inv .0 in
     let y = c .before .before .before .before .before .is-empty .ensures .1 (c .before .before .before .before .if3 .left) in
     let z = hunt-some (l .f .left) (l .f .next) (y .0) (y .1) in (
-      (λ R w. hunt-found R (inner d) (t .result) (c .before .before .before .common .result) (c .first-from .result) w (l .inv .3 R w) (d .before .before .before .before .before .before .before .before .if1 .left) (t .ensures)
-          (c .before .before .before .common .ensures) (c .first-from .ensures) (meets c) (omega (arith, s .pre .0 .0))),
+      (λ R w. hunt-found R (inner d) (t .result) (o .result) (c .first-from .result) w (l .inv .3 R w) (ends d) (t .ensures) (o .ensures)
+          (c .first-from .ensures) (meets c) (omega (arith, start d .pre .0 .0))),
       omega (arith, l .inv .1),
     )
 
 further-requires : tie.Need-further-requires Inv-loop μ-loop
 further-requires c κs = search needs
 
+-- back to the head of the loop
+abbrev looped : tie.After-further Inv-loop μ-loop → tie.At-loop Inv-loop μ-loop
+looped c = c .before .before .before .before .before .before .before .before .before
+
 -- a level takes one at least
 shrinks : (c : tie.After-further Inv-loop μ-loop)
-    → count (whole (c .further .result .left) (c .further .result .next)) 256 < count (whole (c .before .before .before .before .before .before .before .before .before .loop .f .left) (c .before .before .before .before .before .before .before .before .before .loop .f .next)) 256
+    → count (whole (c .further .result .left) (c .further .result .next)) 256 < count (whole (looped c .loop .f .left) (looped c .loop .f .next)) 256
 shrinks c =
-    let l = c .before .before .before .before .before .before .before .before .before .loop in
+    let l = looped c .loop in
     let t = c .before .before .before .before .before .before .before .is-empty .ensures .1 (c .before .before .before .before .before .before .if3 .left) in
     hunt-less (l .f .left) (l .f .next) (c .further .ensures .1) (l .inv .2) (t .0) (t .1)
 
@@ -154,7 +175,7 @@ loop-less c = shrinks c
 
 loop-again : tie.Need-loop-again Inv-loop μ-loop
 loop-again c =
-    let l = c .before .before .before .before .before .before .before .before .before .loop in
+    let l = looped c .loop in
     let e = c .before .before .before .before .is-empty2 .ensures .0 (not-false _ (c .before .before .before .if4 .left)) in
     let z = shrinks c in (
       c .further .ensures .0,

@@ -1,8 +1,6 @@
 -- The invariant: the locations before i are written.
-use mathlib.Core.Path.{sym, subst}
 use native.Mathlib.Omega.{arith}
 use Prim.Native.Nat.{ℕ, suc, _+_, _-_, _≤_, _<_}
-use lib.ListN.{set}
 use Rattle.route.proofs.Written.{Writing, writing-start, writing-length, writing-more, writing-end}
 use borrow.Author.Needs.{needs}
 use Rattle.route.proofs.trace.trace.Statement.{statement}
@@ -37,10 +35,9 @@ loop-less c = search needs
 
 loop-again : tie.Need-loop-again Inv-loop μ-loop
 loop-again c =
-    let b = c .before .before .before .before .before in
     let l = c .before .before .before .loop in
     let w = c .wide .ensures in
-    (w .1, omega arith, subst (λ (y : ℕ). Writing (b .args .hop .now) (b .args .a) (suc (b .args .k)) (b .args .out .now) (set (l .out) (l .i) (l .x)) y (l .i + 1)) (sym (w .0)) (writing-more (l .inv .2) (omega arith) (omega arith)))
+    (w .1, omega arith, rw (w .0) (writing-more (l .inv .2) (omega arith) (omega arith)))
 
 same-length : tie.Need-same-length Inv-loop μ-loop
 same-length c = writing-length (c .before .loop .inv .2) (omega arith)

@@ -23,8 +23,8 @@ returns : tie.Need-returns
 returns c =
     let b = c .before .before .before .before in
     let a = b .before .args in
-    λ N n. c .advance-word4 .ensures N _ n (c .before .advance-word3 .ensures N _ n (c .before .before .advance-word2 .ensures N _ n (c .before .before .before .advance-word .ensures N _ n
-    (turned-start (a .left) (b .empty .result) (b .empty .ensures)))))
+    λ N n. c .advance-word4 .ensures N _ n (c .before .advance-word3 .ensures N _ n (c .before .before .advance-word2 .ensures N _ n
+    (c .before .before .before .advance-word .ensures N _ n (turned-start (a .left) (b .empty .result) (b .empty .ensures)))))
 
 pub advance-spec : {M : Type 1} → statement M
 advance-spec =

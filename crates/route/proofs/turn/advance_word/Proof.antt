@@ -74,11 +74,13 @@ returns-4 c =
     let h = d .pre in
     let f : Fits w64 (getD (a .t2 .words) (a .i) 0) = search needs in
     let s = set-word (a .t2) (a .i) h in
+    let e = c .before .before .before .before in
+    let k = e .before .before .before in
     λ N L n u. let v = u .on (c .before .before .before .before .before .before .before .before .before .before .before .if1 .left) in
     let w = level-word (a .i) v _ s h n in
     record {
       meets = λ m. absurd (clash m refl);
-      on = λ _. advanced-more (a .i) v _ _ s (set-word (a .t3) (a .i) h) h n (f .fits) (c .before .before .before .before .before .before .before .if2 .left) (c .before .before .before .before .if3 .left) (c .before .put2 .ensures)
+      on = λ _. advanced-more (a .i) v _ _ s (set-word (a .t3) (a .i) h) h n (f .fits) (k .if2 .left) (e .if3 .left) (c .before .put2 .ensures)
           (c .join-word .ensures N w (level-own (a .i) v w h (c .before .before .put .ensures)));
     }
 

@@ -31,6 +31,7 @@ use Rattle.steps.specs.Standing.{FrameIn, FramesIn, Stands}
 use Rattle.steps.specs.Performing.{Tells, moves, fails, Named}
 use Rattle.steps.specs.Stepping.{stuckAt, movedAt, Follows, Steady}
 use Rattle.steps.proofs.Seen.{offset-seen}
+use Rattle.steps.proofs.Unique.{one-told}
 use Rattle.steps.proofs.Stand.{Head, head-of, Top, top-of, passed, put, Kept, advanced-kept, pushed-kept}
 
 pub record Next (s : List ℕ) (p : Program) (J : rules.Job) (j : Job) (at : ℕ) : Type 0 where
@@ -138,21 +139,29 @@ module _ (s : List ℕ) (p : Program) (J : rules.Job) (j : Job) (at : ℕ) (N : 
 
   -- an operation, by what it told
   told-stuck : (o : Performed) (c : Check Move) → moved ≡ c → Tells o (J .below) (N .rest) c → (n : ℕ) → o .told ≡ Stuck n → r ≡ stuckAt j n at → Follows s p (step R (p .functions) v isFree J) r
-  told-stuck o c e (moves a b d) n t k = let z : _≡_ {A = ℕ} 0 1 = cc in absurd (omega arith)
+  told-stuck o c e (moves {e = i} a b d) n t k =
+      let l : o .told ≡ Moved i = one-told (o .told) (Moved i) 0 (a 0) in
+      let z : _≡_ {A = ℕ} 0 1 = cc in
+      absurd (omega arith)
   told-stuck o c e (fails {n = i} {o = q} a) n t k =
+      let l : o .told ≡ Stuck i = one-told (o .told) (Stuck i) q a in
       let z : i ≡ n = cc in
       stays i q e (k ∙ ap (λ (z : ℕ). stuckAt j z at) (sym z))
 
   told-moved : (o : Performed) (c : Check Move) → moved ≡ c → Tells o (J .below) (N .rest) c → (e : ℕ) → o .told ≡ Moved e
       → r ≡ movedAt (withTop j (withSlots (advanced (j .top) (N .q)) (o .slots))) e (o .act) at → Follows s p (step R (p .functions) v isFree J) r
   told-moved o c u (moves {φ = φ} {a = x} {e = i} a b d) e t k =
+      let h : o .told ≡ Moved i = one-told (o .told) (Moved i) 0 (a 0) in
       let z : i ≡ e = cc in
       let l = advanced-kept (j .top) (N .q) in
       let w = N .past in
       frame-goes (record { next = record { top = φ; below = J .below; items = N .rest }; act = x; edges = i }) (withSlots (advanced (j .top) (N .q)) (o .slots)) u refl (sym b) (l .call) (l .places)
       (record { sized = w .sized; room = w .room; ranges = w .ranges })
       (k ∙ ap (λ (z : ℕ). movedAt (withTop j (withSlots (advanced (j .top) (N .q)) (o .slots))) z (o .act) at) (sym z) ∙ ap (λ (y : Act). movedAt (withTop j (withSlots (advanced (j .top) (N .q)) (o .slots))) i y at) d)
-  told-moved o c u (fails a) e t k = let z : _≡_ {A = ℕ} 0 1 = cc in absurd (omega arith)
+  told-moved o c u (fails {n = i} {o = q} a) e t k =
+      let h : o .told ≡ Stuck i = one-told (o .told) (Stuck i) q a in
+      let z : _≡_ {A = ℕ} 0 1 = cc in
+      absurd (omega arith)
 
   pub operation-stuck : (o : Performed) → Tells o (J .below) (N .rest) moved → (n : ℕ) → o .told ≡ Stuck n → r ≡ stuckAt j n at → Follows s p (step R (p .functions) v isFree J) r
   operation-stuck o T n t k = told-stuck o moved refl T n t k

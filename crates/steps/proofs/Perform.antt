@@ -24,16 +24,16 @@ use Rattle.steps.specs.declared.slots.Value.{Value}
 use Rattle.steps.specs.declared.slots.Value.the-variants.{Of, Missing}
 use Rattle.steps.specs.declared.operations.Performed.{Performed}
 use Rattle.steps.specs.State.{placeOf, slotsOf, placedSaid, valueSaid}
-use Rattle.steps.specs.Told.{actOf}
+use Rattle.steps.specs.Told.{toldSaid, actOf}
 use Rattle.steps.specs.Performing.{movedWith, stuckWith, Tells, moves, fails, Performs, Maps, Inits}
 
 -- where the code stops, and where it ends
 pub stops : (φ : Slots) {r : Performed} {φs : List Frame} {rest : List Item} {n o : ℕ} → r ≡ stuckWith φ n → Tells r φs rest (refused (refusal n o))
-stops φ k = fails (ap (λ (z : Performed). z .told) k)
+stops φ {o = o} k = fails (ap (λ (z : Performed). toldSaid (z .told) o) k)
 
 pub goes : (ψ : Slots) (a : rules.Act device) {r : Performed} {φs : List Frame} {rest : List Item} {χ : Frame} {e : ℕ} → slotsOf ψ ≡ χ → r ≡ movedWith ψ e (actOf a)
     → Tells r φs rest (ok (record { next = record { top = χ; below = φs; items = rest }; act = a; edges = e }))
-goes ψ a b k = moves (ap (λ (z : Performed). z .told) k) (ap (λ (z : Performed). slotsOf (z .slots)) k ∙ b) (ap (λ (z : Performed). z .act) k)
+goes ψ a b k = moves (λ o. ap (λ (z : Performed). toldSaid (z .told) o) k) (ap (λ (z : Performed). slotsOf (z .slots)) k ∙ b) (ap (λ (z : Performed). z .act) k)
 
 module _ (φ : Slots) where
   -- what a read of a slot said, as the rules have it

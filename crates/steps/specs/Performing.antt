@@ -26,7 +26,7 @@ use Rattle.steps.specs.declared.operations.Told.the-variants.{Moved, Stu
 use Rattle.steps.specs.declared.operations.Performed.{Performed}
 use Rattle.steps.specs.declared.job.Job.{Job}
 use Rattle.steps.specs.State.{placeOf, slotsOf, locatedIn}
-use Rattle.steps.specs.Told.{actOf}
+use Rattle.steps.specs.Told.{toldSaid, actOf}
 
 abbrev pub movedWith : Slots → ℕ → Act → Performed
 movedWith φ e a = record { slots = φ; told = Moved e; act = a }
@@ -36,9 +36,9 @@ stuckWith φ n = record { slots = φ; told = Stuck n; act = Quiet }
 
 -- r tells what a check of a move gives, the frames below and the items after being left as they are
 pub data Tells (r : Performed) (φs : List Frame) (rest : List Item) : Check Move → Type 0 where
-  moves : {φ : Frame} {a : rules.Act device} {e : ℕ} → r .told ≡ Moved e → slotsOf (r .slots) ≡ φ → r .act ≡ actOf a
+  moves : {φ : Frame} {a : rules.Act device} {e : ℕ} → ((o : ℕ) → toldSaid (r .told) o ≡ ok e) → slotsOf (r .slots) ≡ φ → r .act ≡ actOf a
       → Tells r φs rest (ok (record { next = record { top = φ; below = φs; items = rest }; act = a; edges = e }))
-  fails : {n o : ℕ} → r .told ≡ Stuck n → Tells r φs rest (refused (refusal n o))
+  fails : {n o : ℕ} → toldSaid (r .told) o ≡ refused (refusal n o) → Tells r φs rest (refused (refusal n o))
 
 -- the move of the operation a, wherever it stands and whatever comes after
 abbrev pub Does : Region → List Function → Bool → (ℕ → Bool) → {d : Side} → Actual d → Slots → Op d → Performed → Type 0

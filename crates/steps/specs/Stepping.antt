@@ -16,16 +16,17 @@ use Rattle.program.specs.Reader.{Heads}
 use Rattle.steps.specs.declared.Act.{Act}
 use Rattle.steps.specs.declared.Act.the-variants.{Quiet}
 use Rattle.steps.specs.declared.Stepped.{Stepped}
+use Rattle.steps.specs.declared.operations.Told.the-variants.{Moved, Stuck}
 use Rattle.steps.specs.declared.job.Job.{Job}
 use Rattle.steps.specs.Standing.{Stands}
 use Rattle.steps.specs.Performing.{Maps}
-use Rattle.steps.specs.Told.{actOf, recordOf}
+use Rattle.steps.specs.Told.{toldRecord, actOf, recordOf}
 
 abbrev pub stuckAt : Job → ℕ → ℕ → Stepped
-stuckAt j n o = record { job = j; «record» = record { code = n; edges = 0; offset = o }; act = Quiet }
+stuckAt j n o = record { job = j; «record» = toldRecord (Stuck n) o; act = Quiet }
 
 abbrev pub movedAt : Job → ℕ → Act → ℕ → Stepped
-movedAt j e a o = record { job = j; «record» = record { code = 0; edges = e; offset = o }; act = a }
+movedAt j e a o = record { job = j; «record» = toldRecord (Moved e) o; act = a }
 
 -- the code's step r is the rules' step S
 abbrev pub Follows : List ℕ → Program → rules.Stepped → Stepped → Type 0

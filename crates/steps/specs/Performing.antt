@@ -34,10 +34,14 @@ movedWith φ e a = record { slots = φ; told = Moved e; act = a }
 abbrev pub stuckWith : Slots → ℕ → Performed
 stuckWith φ n = record { slots = φ; told = Stuck n; act = Quiet }
 
+-- a move of an operation: other slots on top
+abbrev pub moveTo : Frame → List Frame → List Item → rules.Act device → ℕ → Move
+moveTo φ φs rest a e = record { next = record { top = φ; below = φs; items = rest }; act = a; edges = e }
+
 -- r tells what a check of a move gives, the frames below and the items after being left as they are
 pub data Tells (r : Performed) (φs : List Frame) (rest : List Item) : Check Move → Type 0 where
   moves : {φ : Frame} {a : rules.Act device} {e : ℕ} → ((o : ℕ) → toldSaid (r .told) o ≡ ok e) → slotsOf (r .slots) ≡ φ → r .act ≡ actOf a
-      → Tells r φs rest (ok (record { next = record { top = φ; below = φs; items = rest }; act = a; edges = e }))
+      → Tells r φs rest (ok (moveTo φ φs rest a e))
   fails : {n o : ℕ} → toldSaid (r .told) o ≡ refused (refusal n o) → Tells r φs rest (refused (refusal n o))
 
 -- the move of the operation a, wherever it stands and whatever comes after
@@ -55,18 +59,21 @@ pub record Maps (map occupancy : List ℕ) : Type 0 where
 
 abbrev pub Inits : Slots → ℕ → Location → LocationSet → List ℕ → Performed → Type 0
 Inits φ x l owned map r =
-    (d : Side) (σ : Actual d) (q : Preparation) (p : Place d) (R : Region) (fs : List Function) (v : Bool) (occupancy : List ℕ) → Owned R owned → Maps map occupancy → locate σ p ≡ placeOf l
-    → Does R fs v (freeIn R occupancy) σ φ (init q x p) r
+    (d : Side) (σ : Actual d) (q : Preparation) (p : Place d) (R : Region) (fs : List Function) (v : Bool) (occupancy : List ℕ)
+    → Owned R owned → Maps map occupancy → locate σ p ≡ placeOf l → Does R fs v (freeIn R occupancy) σ φ (init q x p) r
 
 -- a merge, once its qubits are known to be two at the locations l and k: what is left is its route
 abbrev pub Routes : Slots → ℕ → Location → Location → List ℕ → LocationSet → List ℕ → Bool → Performed → Type 0
 Routes φ y l k rows owned map v r =
-    (R : Region) (occupancy : List ℕ) → Owned R owned → Rows R rows → Maps map occupancy → (a : rules.Act device) → actOf a ≡ Quiet → (o : ℕ) (φs : List Frame) (rest : List Item)
-    → Tells r φs rest ((needRoute (route R (freeIn R occupancy) (l .0) (k .0)) o >>= λ p. ok (length p - 1)) >>= λ e. ok (record { next = record { top = set (slotsOf φ) y (rules.bool v); below = φs; items = rest }; act = a; edges = e }))
+    (R : Region) (occupancy : List ℕ) → Owned R owned → Rows R rows → Maps map occupancy
+    → (a : rules.Act device) → actOf a ≡ Quiet → (o : ℕ) (φs : List Frame) (rest : List Item)
+    → Tells r φs rest ((needRoute (route R (freeIn R occupancy) (l .0) (k .0)) o >>= λ p. ok (length p - 1))
+    >>= λ e. ok (moveTo (set (slotsOf φ) y (rules.bool v)) φs rest a e))
 
 abbrev pub Merges : Slots → ℕ → ℕ → ℕ → List ℕ → LocationSet → List ℕ → Bool → Performed → Type 0
 Merges φ y x z rows owned map v r =
-    (d : Side) (σ : Actual d) (b c : ℕ) (R : Region) (fs : List Function) (occupancy : List ℕ) → Owned R owned → Rows R rows → Maps map occupancy → Does R fs v (freeIn R occupancy) σ φ (merge y b x c z) r
+    (d : Side) (σ : Actual d) (b c : ℕ) (R : Region) (fs : List Function) (occupancy : List ℕ)
+    → Owned R owned → Rows R rows → Maps map occupancy → Does R fs v (freeIn R occupancy) σ φ (merge y b x c z) r
 
 -- places in the scope S are located as the code locates their bytes
 pub record Named {d : Side} (S : Scope) (σ : Actual d) (j : Job) : Type 0 where
@@ -88,5 +95,6 @@ pub record Operable (s : List ℕ) (at : ℕ) (j : Job) : Type 0 where
 
 abbrev pub Operates : List ℕ → ℕ → Job → List ℕ → LocationSet → List ℕ → Bool → Performed → Type 0
 Operates s at j rows owned map v r =
-    (d : Side) (S : Scope) (depths : ℕ) (t : Statement d) (p : ℕ) (σ : Actual d) (R : Region) (fs : List Function) (occupancy : List ℕ) → StatementIn s S depths at t p → Named S σ j
-    → Owned R owned → Rows R rows → Maps map occupancy → (φs : List Frame) (rest : List Item) → Tells r φs rest (move R fs v (freeIn R occupancy) (slotsOf (j .top .slots)) φs (run σ t) rest)
+    (d : Side) (S : Scope) (depths : ℕ) (t : Statement d) (p : ℕ) (σ : Actual d) (R : Region) (fs : List Function) (occupancy : List ℕ)
+    → StatementIn s S depths at t p → Named S σ j → Owned R owned → Rows R rows → Maps map occupancy
+    → (φs : List Frame) (rest : List Item) → Tells r φs rest (move R fs v (freeIn R occupancy) (slotsOf (j .top .slots)) φs (run σ t) rest)

@@ -28,7 +28,8 @@ module _ {d : Side} (s : List ℕ) (S : Scope) where
   unfoldable pub RangesIn : Actual d → List Range → List Item → ℕ → List Item → Type 0
   RangesIn σ rs after zero is = is ≡ after
   RangesIn σ rs after (suc i) is =
-      (depths : ℕ) × (ts : Statements d) × (rest : List Item) × RangeIn i depths (rangeAt rs i) ts × RangesIn σ rs after i rest × (is ≡ statementsBefore σ ts rest)
+      (depths : ℕ) × (ts : Statements d) × (rest : List Item) × RangeIn i depths (rangeAt rs i) ts × RangesIn σ rs after i rest
+      × (is ≡ statementsBefore σ ts rest)
 
   pub record FrameIn (σ : Actual d) (f : Frame) (after is : List Item) : Type 0 where
     pub sized : length (f .ranges) ≡ 8
@@ -53,8 +54,9 @@ module _ (s : List ℕ) (fs : List Function) where
   unfoldable pub FramesIn : List Frame → ℕ → Frame → List rules.Frame → List Item → Type 0
   FramesIn below zero f φs is = FrameIn s (mainScope fs) themselves f [] is × (φs ≡ [])
   FramesIn below (suc d) f φs is =
-      (g : ℕ) × (ls : List (Place device)) × (xs : List ℕ) × (after : List Item) × (χs : List rules.Frame) × (g + suc d ≤ length fs) × CallIn g f ls xs
-      × FrameIn s (scopeOf fs g) (locations ls) f (return (f .call) ls xs ∷ after) is × FramesIn below d (frameAt below d) χs after × (φs ≡ slotsOf (frameAt below d .slots) ∷ χs)
+      (g : ℕ) × (ls : List (Place device)) × (xs : List ℕ) × (after : List Item) × (χs : List rules.Frame) × (g + suc d ≤ length fs)
+      × CallIn g f ls xs × FrameIn s (scopeOf fs g) (locations ls) f (return (f .call) ls xs ∷ after) is
+      × FramesIn below d (frameAt below d) χs after × (φs ≡ slotsOf (frameAt below d .slots) ∷ χs)
 
 pub record Stands (s : List ℕ) (p : Program) (J : rules.Job) (j : Job) : Type 0 where
   pub top : J .top ≡ slotsOf (j .top .slots)

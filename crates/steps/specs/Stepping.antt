@@ -41,7 +41,9 @@ pub record Steady (s : List ℕ) (j : Job) : Type 0 where
 
 -- a step that asks nothing of the region
 abbrev pub Anyway : List ℕ → Job → Stepped → Type 0
-Anyway s j r = (p : Program) (J : rules.Job) (R : Region) (v : Bool) (isFree : ℕ → Bool) → ProgramIn s p → Stands s p J j → Follows s p (step R (p .functions) v isFree J) r
+Anyway s j r =
+    (p : Program) (J : rules.Job) (R : Region) (v : Bool) (isFree : ℕ → Bool) → ProgramIn s p → Stands s p J j
+    → Follows s p (step R (p .functions) v isFree J) r
 
 -- the byte is not that of an if, a while or a call
 pub record NoBlock (b : ℕ) : Type 0 where
@@ -66,14 +68,14 @@ pub record Ready (s : List ℕ) (t : FunctionTable) (j : Job) : Type 0 where
 -- the step of a call
 abbrev pub Calls : List ℕ → FunctionTable → LocationSet → List ℕ → Job → Stepped → Type 0
 Calls s t owned map j r =
-    (p : Program) (J : rules.Job) (R : Region) (v : Bool) (occupancy : List ℕ) → ProgramIn s p → Heads (p .functions) t → Stands s p J j → Owned R owned → Maps map occupancy
-    → Follows s p (step R (p .functions) v (freeIn R occupancy) J) r
+    (p : Program) (J : rules.Job) (R : Region) (v : Bool) (occupancy : List ℕ) → ProgramIn s p → Heads (p .functions) t → Stands s p J j
+    → Owned R owned → Maps map occupancy → Follows s p (step R (p .functions) v (freeIn R occupancy) J) r
 
 -- any step
 abbrev pub Steps : List ℕ → FunctionTable → List ℕ → LocationSet → List ℕ → Bool → Job → Stepped → Type 0
 Steps s t rows owned map v j r =
-    (p : Program) (J : rules.Job) (R : Region) (occupancy : List ℕ) → ProgramIn s p → Heads (p .functions) t → Stands s p J j → Owned R owned → Rows R rows → Maps map occupancy
-    → Follows s p (step R (p .functions) v (freeIn R occupancy) J) r
+    (p : Program) (J : rules.Job) (R : Region) (occupancy : List ℕ) → ProgramIn s p → Heads (p .functions) t → Stands s p J j
+    → Owned R owned → Rows R rows → Maps map occupancy → Follows s p (step R (p .functions) v (freeIn R occupancy) J) r
 
 -- a program that was read has its main block there
 pub record Begins (s : List ℕ) (main : ℕ) : Type 0 where

@@ -79,8 +79,13 @@ module _ {s : List ℕ} {h : DeviceHeader} {D : Device} (r : Reads s h D) where
       let k = known in
       ⊎-elim
       (λ l. rw (lt-ltb x (h .locations) l) (map-at (λ w. eqb w j) (D .owners) x (omega arith) ∙ ap (λ (w : ℕ). eqb w j) (k .owner x l)))
-      (λ l. rw (le-ltb x (h .locations) l) (List·getD-eq-default (map (λ w. eqb w j) (D .owners)) false (rw (length-map (D .owners) (λ w. eqb w j)) (omega arith))))
+      (λ l. rw (le-ltb x (h .locations) l) (past l))
       (side x (h .locations))
+    where
+      past : h .locations ≤ x → getD (map (λ w. eqb w j) (D .owners)) x false ≡ false
+      past l =
+          let k = known in
+          List·getD-eq-default (map (λ w. eqb w j) (D .owners)) false (rw (length-map (D .owners) (λ w. eqb w j)) (omega arith))
 
   pub owns-lt : (j x : ℕ) → owns (regionOf D j) x ≡ true → x < h .locations
   owns-lt j x e = ltb-true x (h .locations) (and-both (ltb x (h .locations)) (ownedBy s j x) (sym (owns-is j x) ∙ e) .0)
@@ -93,7 +98,13 @@ module _ {s : List ℕ} {h : DeviceHeader} {D : Device} (r : Reads s h D) where
   same-device e = let f = r .reads in cc
 
   pub reads-as : {D' : Device} → readDevice s ≡ ok D' → Reads s h D'
-  reads-as {D'} e = record { reads = e; locations = r .locations ∙ ap (λ (C : Device). length (C .owners)) (same-device e); edges = r .edges ∙ ap (λ (C : Device). length (C .edges)) (same-device e) }
+  reads-as e =
+      let d = same-device e in
+      record {
+        reads = e;
+        locations = r .locations ∙ ap (λ (C : Device). length (C .owners)) d;
+        edges = r .edges ∙ ap (λ (C : Device). length (C .edges)) d;
+      }
 
 -- ---- what an answer of the reader says of the device, whatever file is named
 pub read-gives : (s : List ℕ) (f : File) (h : DeviceHeader) → ok h ≡ within f (deviceRead s) → (D : Device) × Reads s h D

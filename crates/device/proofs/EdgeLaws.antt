@@ -11,7 +11,7 @@ use borrow.Author.Tests.{ltb-true, lt-ltb, le-ltb, eq-eqb, ne-eqb}
 use lib.Dec.{ltb}
 use lib.ListN.{length, getD}
 use Rattle.answers.proofs.Laws.{Holds, by, holds-bind, holds-then, holds-need}
-use Rattle.answers.specs.Check.{ok, refused, refusal, _>>_}
+use Rattle.answers.specs.Check.{Check, ok, refused, refusal, _>>_}
 use Rattle.answers.specs.declared.Refusal.{Refusal}
 use Rattle.rules.specs.Basics.{byte}
 use Rattle.rules.specs.Device.{Edge, edges, increases}
@@ -41,7 +41,9 @@ module _ (s : List ℕ) (start i : ℕ) (h : i ≡ 0 → ⊥) where
 
   pub rises-same : byte s (start + 2 * i - 2) ≡ byte s (start + 2 * i)
       → ltb (byte s (start + 2 * i - 1)) (byte s (start + 2 * i + 1)) ≡ increases (edgeBefore s start i) (edgeAt s (start + 2 * i))
-  rises-same e = sym (rw (before-is, eq-eqb (byte s (start + 2 * i - 2)) (byte s (start + 2 * i)) e, le-ltb (byte s (start + 2 * i - 2)) (byte s (start + 2 * i)) (omega arith)))
+  rises-same e =
+      let l = le-ltb (byte s (start + 2 * i - 2)) (byte s (start + 2 * i)) (omega arith) in
+      sym (rw (before-is, eq-eqb (byte s (start + 2 * i - 2)) (byte s (start + 2 * i)) e, l))
 
 -- the tests of an edge in a row
 module _ (s : List ℕ) (n start i : ℕ) where
@@ -70,35 +72,38 @@ module _ (s : List ℕ) (n : ℕ) where
   unfolding _>>_ tested
   stop before i m h = rw h
 
-  pub edge-start : (start e : ℕ) → tested (edges s n none start e) ≡ tested (edges s n (edgeBefore s start 0) (start + 2 * 0) (e - 0))
+  -- the tests of m edges from number i on
+  abbrev testsFrom : ℕ → ℕ → ℕ → Check (Unit {0})
+  testsFrom start i m = tested (edges s n (edgeBefore s start i) (start + 2 * i) m)
+
+  pub edge-start : (start e : ℕ) → tested (edges s n none start e) ≡ testsFrom start 0 (e - 0)
   edge-start start e =
       let p : start ≡ start + 2 * 0 = omega arith in
       let q : e ≡ e - 0 = omega arith in
       ap₂ (λ (k m : ℕ). tested (edges s n none k m)) p q
 
   -- ---- the loop, at edge i of e
-  module _ (start e i : ℕ) (same : tested (edges s n none start e) ≡ tested (edges s n (edgeBefore s start i) (start + 2 * i) (e - i))) where
+  module _ (start e i : ℕ) (same : tested (edges s n none start e) ≡ testsFrom start i (e - i)) where
     pub edge-bad : i < e → edgeStands s n start i ≡ false → (x : Refusal) → x ≡ refusal 7 (start + 2 * i) → refused x ≡ tested (edges s n none start e)
     unfolding edgeStands
     edge-bad h b x q =
         let c : e - i ≡ suc (e - (i + 1)) = omega arith in
-        ap refused q ∙ sym (same ∙ ap (λ (m : ℕ). tested (edges s n (edgeBefore s start i) (start + 2 * i) m)) c ∙ stop (edgeBefore s start i) (start + 2 * i) (e - (i + 1)) b)
+        ap refused q ∙ sym (same ∙ ap (testsFrom start i) c ∙ stop (edgeBefore s start i) (start + 2 * i) (e - (i + 1)) b)
 
-    pub edge-good : i < e → edgeStands s n start i ≡ true
-        → tested (edges s n none start e) ≡ tested (edges s n (edgeBefore s start (i + 1)) (start + 2 * (i + 1)) (e - (i + 1)))
+    pub edge-good : i < e → edgeStands s n start i ≡ true → tested (edges s n none start e) ≡ testsFrom start (i + 1) (e - (i + 1))
     unfolding edgeStands
     edge-good h b =
         let c : e - i ≡ suc (e - (i + 1)) = omega arith in
         let p : start + 2 * i + 2 ≡ start + 2 * (i + 1) = omega arith in
         let d : some (edgeAt s (start + 2 * i)) ≡ edgeBefore s start (i + 1) = rw (add-one i) in
-        same ∙ ap (λ (m : ℕ). tested (edges s n (edgeBefore s start i) (start + 2 * i) m)) c ∙ more (edgeBefore s start i) (start + 2 * i) (e - (i + 1)) b
+        same ∙ ap (testsFrom start i) c ∙ more (edgeBefore s start i) (start + 2 * i) (e - (i + 1)) b
         ∙ ap₂ (λ (o : Option Edge) (k : ℕ). tested (edges s n o k (e - (i + 1)))) d p
 
     pub edge-done : e ≤ i → ok tt ≡ tested (edges s n none start e)
     unfolding tested
     edge-done h =
         let z : e - i ≡ 0 = omega arith in
-        sym (same ∙ ap (λ (m : ℕ). tested (edges s n (edgeBefore s start i) (start + 2 * i) m)) z)
+        sym (same ∙ ap (testsFrom start i) z)
 
   -- ---- what is read
   pub record EdgesAre (i m : ℕ) (es : List Edge) : Type 0 where
@@ -108,7 +113,8 @@ module _ (s : List ℕ) (n : ℕ) where
     pub within : (k : ℕ) → k < m → byte s (i + 2 * k + 1) < n
 
   pub edges-are : (before : Option Edge) (i m : ℕ) → Holds (EdgesAre i m) (edges s n before i m)
-  edges-are before i zero = by (record { long = refl; each = λ k d h. absurd (omega arith); rises = λ k h. absurd (omega arith); within = λ k h. absurd (omega arith) })
+  edges-are before i zero =
+      by (record { long = refl; each = λ k d h. absurd (omega arith); rises = λ k h. absurd (omega arith); within = λ k h. absurd (omega arith) })
   edges-are before i (suc m) =
       holds-then (holds-need (passes s n before i) 7 i) λ u h. holds-bind (edges-are (some (edgeAt s i)) (i + 2) m) λ es a.
       let both = and-both _ _ (and-both _ _ h .0) in

@@ -31,7 +31,7 @@ or-false true = refl
 or-false false = refl
 
 pub thin-none : (owned : LocationSet) (map : List ℕ) → Thinned owned map 0 owned
-thin-none owned map y = and-true (has owned y) ∙ ap (λ (z : Bool). has owned y && z) (or-true (eqb (getD map y 0) 0) ∙ ap (λ (z : Bool). eqb (getD map y 0) 0 || z) (sym (le-leb 0 y (omega arith))))
+thin-none owned map y = rw (le-leb 0 y (omega arith), ← or-true (eqb (getD map y 0) 0)) (and-true (has owned y))
 
 -- one location more
 thin-same : (a t : Bool) → ((t || false) && (a && (t || true))) ≡ (a && (t || false))
@@ -46,14 +46,17 @@ thin-other true false = refl
 thin-other false true = refl
 thin-other false false = refl
 
-pub thin-more : (owned : LocationSet) (map : List ℕ) (x : ℕ) (free r : LocationSet) → Thinned owned map x free → ((y : ℕ) → has r y ≡ thin free x (getD map x 0) y) → Thinned owned map (x + 1) r
+pub thin-more : (owned : LocationSet) (map : List ℕ) (x : ℕ) (free r : LocationSet) → Thinned owned map x free
+    → ((y : ℕ) → has r y ≡ thin free x (getD map x 0) y) → Thinned owned map (x + 1) r
 thin-more owned map x free r h k y = go (ℕ-discrete y x)
   where
     go : Dec (y ≡ x) → has r y ≡ (has owned y && (eqb (getD map y 0) 0 || leb (x + 1) y))
     go (yes e) =
-        k y ∙ ap (λ (z : ℕ). (eqb (getD map z 0) 0 || not (eqb y x)) && has free y) (sym e) ∙ ap (λ (z : Bool). (eqb (getD map y 0) 0 || not z) && has free y) (eq-eqb y x e)
-        ∙ ap (λ (z : Bool). (eqb (getD map y 0) 0 || false) && z) (h y ∙ ap (λ (z : Bool). has owned y && (eqb (getD map y 0) 0 || z)) (le-leb x y (omega arith)))
-        ∙ thin-same (has owned y) (eqb (getD map y 0) 0) ∙ ap (λ (z : Bool). has owned y && (eqb (getD map y 0) 0 || z)) (sym (lt-leb (x + 1) y (omega arith)))
+        let t : Bool = eqb (getD map y 0) 0 in
+        let f : has free y ≡ (has owned y && (t || true)) = h y ∙ ap (λ (z : Bool). has owned y && (t || z)) (le-leb x y (omega arith)) in
+        k y ∙ ap (λ (z : ℕ). (eqb (getD map z 0) 0 || not (eqb y x)) && has free y) (sym e)
+        ∙ ap (λ (z : Bool). (t || not z) && has free y) (eq-eqb y x e) ∙ ap (λ (z : Bool). (t || false) && z) f
+        ∙ thin-same (has owned y) t ∙ ap (λ (z : Bool). has owned y && (t || z)) (sym (lt-leb (x + 1) y (omega arith)))
     go (no n) =
         k y ∙ ap (λ (z : Bool). (eqb (getD map x 0) 0 || not z) && has free y) (ne-eqb y x n) ∙ thin-other (has free y) (eqb (getD map x 0) 0) ∙ h y
         ∙ ap (λ (z : Bool). has owned y && (eqb (getD map y 0) 0 || z)) (later (decLe x y))
@@ -63,12 +66,13 @@ thin-more owned map x free r h k y = go (ℕ-discrete y x)
         later (no l) = lt-leb x y (omega (arith, l)) ∙ sym (lt-leb (x + 1) y (omega (arith, l)))
 
 -- where the map ends, it has no more as taken
-pub thin-all : (owned : LocationSet) (map : List ℕ) (x : ℕ) (free : LocationSet) → length map ≤ x → Thinned owned map x free → (y : ℕ) → has free y ≡ (has owned y && eqb (getD map y 0) 0)
+pub thin-all : (owned : LocationSet) (map : List ℕ) (x : ℕ) (free : LocationSet) → length map ≤ x → Thinned owned map x free
+    → (y : ℕ) → has free y ≡ (has owned y && eqb (getD map y 0) 0)
 thin-all owned map x free g h y = h y ∙ go (decLe x y)
   where
     go : Dec (x ≤ y) → (has owned y && (eqb (getD map y 0) 0 || leb x y)) ≡ (has owned y && eqb (getD map y 0) 0)
     go (yes k) = let b : length map ≤ y = omega arith in rw (List·getD-eq-default map 0 b) refl
-    go (no k) = ap (λ (z : Bool). has owned y && (eqb (getD map y 0) 0 || z)) (lt-leb x y (omega (arith, k))) ∙ ap (λ (z : Bool). has owned y && z) (or-false (eqb (getD map y 0) 0))
+    go (no k) = rw (lt-leb x y (omega (arith, k)), or-false (eqb (getD map y 0) 0))
 
 -- the two ways of one location
 pub thin-free : (free : LocationSet) (x t y : ℕ) → t ≡ 0 → has free y ≡ thin free x t y
@@ -78,5 +82,6 @@ pub thin-taken : (free r : LocationSet) (x t y : ℕ) → (t ≡ 0 → ⊥) → 
 thin-taken free r x t y e k = k ∙ sym (ap (λ (z : Bool). (z || not (eqb y x)) && has free y) (ne-eqb t 0 e))
 
 -- the set has the free locations, as the rules have them
-pub free-same : (owned free : LocationSet) (R : Region) (occupancy : List ℕ) → Owned R owned → ((y : ℕ) → has free y ≡ (has owned y && eqb (getD occupancy y 0) 0)) → has free ≡ freeIn R occupancy
+pub free-same : (owned free : LocationSet) (R : Region) (occupancy : List ℕ) → Owned R owned
+    → ((y : ℕ) → has free y ≡ (has owned y && eqb (getD occupancy y 0) 0)) → has free ≡ freeIn R occupancy
 free-same owned free R occupancy O h = fun-ext λ y. h y ∙ ap (λ (z : Bool). z && eqb (getD occupancy y 0) 0) (O .owned y)

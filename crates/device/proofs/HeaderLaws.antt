@@ -49,9 +49,11 @@ module _ (s : List ℕ) where
   body-is h =
       then-bind (need (eqb (length s) (9 + h .locations + 2 * h .edges)) 5 0) _ numbers
       ∙ ap (λ (m : Check DeviceHeader). need (eqb (length s) (9 + h .locations + 2 * h .edges)) 5 0 >> m)
-      (same-numbers h _ _ (holds-map (λ ws o. o .long) (owners-are s 9 (h .locations))) (holds-map (λ es a. a .long) (edges-are s (h .locations) none (9 + h .locations) (h .edges))))
+      (same-numbers h _ _ (holds-map (λ ws o. o .long) (owners-are s 9 (h .locations)))
+      (holds-map (λ es a. a .long) (edges-are s (h .locations) none (9 + h .locations) (h .edges))))
 
-  device-is : deviceRead s ≡ (need (leb 9 (length s)) 1 0 >> (need (hasMark s 0x47) 2 0 >> (need (eqb (word s 3) 1) 3 3 >> (deviceHeader (word s 5) (word s 7) >>= bodyRead s))))
+  device-is : deviceRead s
+      ≡ (need (leb 9 (length s)) 1 0 >> (need (hasMark s 0x47) 2 0 >> (need (eqb (word s 3) 1) 3 3 >> (deviceHeader (word s 5) (word s 7) >>= bodyRead s))))
   unfolding deviceRead
   device-is =
       then-bind (need (leb 9 (length s)) 1 0) _ numbers
@@ -105,11 +107,13 @@ module _ (s : List ℕ) where
       unfolding bodyRead _>>_
       body-owners x e = sym (rw (eq-eqb (length s) (9 + h .locations + 2 * h .edges) long, ← e))
 
-      pub body-edges : (x : Refusal) → ok tt ≡ tested (owners s 9 (h .locations)) → refused x ≡ tested (edges s (h .locations) none (9 + h .locations) (h .edges)) → refused x ≡ bodyRead s h
+      pub body-edges : (x : Refusal) → ok tt ≡ tested (owners s 9 (h .locations))
+          → refused x ≡ tested (edges s (h .locations) none (9 + h .locations) (h .edges)) → refused x ≡ bodyRead s h
       unfolding bodyRead _>>_
       body-edges x o e = sym (rw (eq-eqb (length s) (9 + h .locations + 2 * h .edges) long, ← o, ← e))
 
-      pub body-read : ok tt ≡ tested (owners s 9 (h .locations)) → ok tt ≡ tested (edges s (h .locations) none (9 + h .locations) (h .edges)) → ok h ≡ bodyRead s h
+      pub body-read : ok tt ≡ tested (owners s 9 (h .locations)) → ok tt ≡ tested (edges s (h .locations) none (9 + h .locations) (h .edges))
+          → ok h ≡ bodyRead s h
       unfolding bodyRead _>>_
       body-read o e = sym (rw (eq-eqb (length s) (9 + h .locations + 2 * h .edges) long, ← o, ← e))
 

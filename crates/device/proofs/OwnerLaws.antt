@@ -61,7 +61,8 @@ module _ (s : List ℕ) where
   pub owners-are : (i m : ℕ) → Holds (OwnersAre i m) (owners s i m)
   owners-are i zero = by (record { long = refl; each = λ k h. absurd (omega arith); few = λ k h. absurd (omega arith) })
   owners-are i (suc m) =
-      holds-then (holds-need (leb (byte s i) 2) 6 i) λ u h. holds-bind (owners-are (suc i) m) λ ws o. by (record { long = ap suc (o .long); each = each ws o; few = few ws o (leb-true (byte s i) 2 h) })
+      holds-then (holds-need (leb (byte s i) 2) 6 i) λ u h. holds-bind (owners-are (suc i) m) λ ws o.
+      by (record { long = ap suc (o .long); each = each ws o; few = few ws o (leb-true (byte s i) 2 h) })
     where
       each : (ws : List ℕ) → OwnersAre (suc i) m ws → (k : ℕ) → k < suc m → getD (byte s i ∷ ws) k 0 ≡ byte s (i + k)
       each ws o zero h = ap (byte s) (sym (add-zero i))

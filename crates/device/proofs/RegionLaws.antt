@@ -37,7 +37,9 @@ one-more o x y = go (ℕ-discrete y x) (side y x)
     go : Dec (y ≡ x) → (y < x) ⊎ (x ≤ y) → ((o x && eqb y x) || (ltb y x && o y)) ≡ (ltb y (x + 1) && o y)
     go (yes e) l = rw (eq-eqb y x e, le-ltb y x (omega arith), lt-ltb y (x + 1) (omega arith), e) (alone (o x))
     go (no n) (inl l) = rw (ne-eqb y x n, and-false (o x), lt-ltb y x l, lt-ltb y (x + 1) (omega arith))
-    go (no n) (inr l) = let m = n in let k : x < y = lt-of-le-of-ne l (λ q. n (sym q)) in rw (ne-eqb y x n, and-false (o x), le-ltb y x l, le-ltb y (x + 1) (omega arith))
+    go (no n) (inr l) =
+        let k : x < y = lt-of-le-of-ne l (λ q. n (sym q)) in
+        rw (ne-eqb y x n, and-false (o x), le-ltb y x l, le-ltb y (x + 1) (omega arith))
 
 pub all-taken : {s : List ℕ} {h : DeviceHeader} {D : Device} → Reads s h D → (j x y : ℕ) → x ≡ h .locations → (ltb y x && ownedBy s j y) ≡ owns (regionOf D j) y
 all-taken {s} r j x y e = ap (λ (n : ℕ). ltb y n && ownedBy s j y) e ∙ sym (owns-is r j y)
@@ -134,7 +136,8 @@ module _ {s : List ℕ} {h : DeviceHeader} {D : Device} (r : Reads s h D) (j i :
       let b = k .edge-within i l in
       go (touches x y next) (touched-lt (h .locations) (next .from) (next .to) x y (omega arith) b)
     where
-      go : (t : Bool) → (t ≡ true → (x < h .locations) × (y < h .locations)) → (ownedBy s j x && ownedBy s j y && t) ≡ (owns (regionOf D j) x && owns (regionOf D j) y && t)
+      go : (t : Bool) → (t ≡ true → (x < h .locations) × (y < h .locations))
+          → (ownedBy s j x && ownedBy s j y && t) ≡ (owns (regionOf D j) x && owns (regionOf D j) y && t)
       go true f = rw (owns-byte r j x (f refl .0), owns-byte r j y (f refl .1))
       go false f = and-false (ownedBy s j x && ownedBy s j y) ∙ sym (and-false (owns (regionOf D j) x && owns (regionOf D j) y))
 

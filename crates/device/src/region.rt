@@ -43,7 +43,9 @@ fn join_owned(s: &[u8], job: u8, a: usize, b: usize, rows: &mut [u64; 1024])
     requires { ⌜ (9 + a < length (now s)) × (9 + b < length (now s)) × (a < 256) × (b < 256) ⌝ }
     requires { ⌜ length (now rows) ≡ 1024 ⌝ }
     ensures long { λ _. ⌜ length (now (rows .exit)) ≡ 1024 ⌝ }
-    ensures here { λ _. ⌜ ((x y : ℕ) → has (rowOf (now (rows .exit)) x) y ≡ ((ownedBy (now (s .entry)) job x && ownedBy (now (s .entry)) job y && touches x y (record { from = a; to = b })) || has (rowOf (now (rows .entry)) x) y)) ⌝ }
+    ensures here { λ _. ⌜ ((x y : ℕ) → has (rowOf (now (rows .exit)) x) y
+        ≡ ((ownedBy (now (s .entry)) job x && ownedBy (now (s .entry)) job y && touches x y (record { from = a; to = b }))
+        || has (rowOf (now (rows .entry)) x) y)) ⌝ }
 {
     if !is_owner(s, job, a) {
         return;

@@ -29,7 +29,9 @@ enum-known-owned : tie.Need-enum-known-owned
 enum-known-owned c = search needs
 
 returns-2 : tie.Need-returns-2
-returns-2 c = body-owners _ _ (c .before .before .before .before .if1 .left) _ (sym (ap readSaid (c .before .owned .given .1)) ∙ c .before .before .before .test-owners .ensures)
+returns-2 c =
+    let o = sym (ap readSaid (c .before .owned .given .1)) ∙ c .before .before .before .test-owners .ensures in
+    body-owners _ _ (c .before .before .before .before .if1 .left) _ o
 
 enum-told : tie.Need-enum-told
 enum-told c = search needs
@@ -44,10 +46,17 @@ enum-known-joined : tie.Need-enum-known-joined
 enum-known-joined c = search needs
 
 returns-3 : tie.Need-returns-3
-returns-3 c = body-read _ _ (c .before .before .before .before .before .before .if1 .left) (sym (ap readSaid (c .before .before .before .enum-told .given .1)) ∙ c .before .before .before .before .before .test-owners .ensures) (sym (ap readSaid (c .enum-told2 .given .1)) ∙ c .before .before .test-edges .ensures)
+returns-3 c =
+    let o = sym (ap readSaid (c .before .before .before .enum-told .given .1)) ∙ c .before .before .before .before .before .test-owners .ensures in
+    let e = sym (ap readSaid (c .enum-told2 .given .1)) ∙ c .before .before .test-edges .ensures in
+    body-read _ _ (c .before .before .before .before .before .before .if1 .left) o e
 
 returns-4 : tie.Need-returns-4
-returns-4 c = body-edges _ _ (c .before .before .before .before .before .before .before .if1 .left) _ (sym (ap readSaid (c .before .before .before .before .enum-told .given .1)) ∙ c .before .before .before .before .before .before .test-owners .ensures) (sym (ap readSaid (c .before .joined .given .1)) ∙ c .before .before .before .test-edges .ensures)
+returns-4 c =
+    let t = c .before .before .before .before .before .before .test-owners in
+    let o = sym (ap readSaid (c .before .before .before .before .enum-told .given .1)) ∙ t .ensures in
+    let e = sym (ap readSaid (c .before .joined .given .1)) ∙ c .before .before .before .test-edges .ensures in
+    body-edges _ _ (c .before .before .before .before .before .before .before .if1 .left) _ o e
 
 pub read-body-spec : {M : Type 1} → statement M
 read-body-spec =

@@ -23,7 +23,9 @@ returns : tie.Need-returns
 returns c = ap (within Device) (sym (ap deviceSaid (c .before .answer .given .1)) ∙ c .before .before .before .read .ensures)
 
 returns-2 : tie.Need-returns-2
-returns-2 c = ap refused (c .in-file .ensures) ∙ ap (within Device) (sym (ap deviceSaid (c .before .before .answer2 .given .1)) ∙ c .before .before .before .before .read .ensures)
+returns-2 c =
+    let r = sym (ap deviceSaid (c .before .before .answer2 .given .1)) ∙ c .before .before .before .before .read .ensures in
+    ap refused (c .in-file .ensures) ∙ ap (within Device) r
 
 pub read-device-spec : {M : Type 1} → statement M
 read-device-spec =

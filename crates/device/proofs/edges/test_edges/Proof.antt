@@ -39,7 +39,8 @@ returns : tie.Need-returns Inv-loop μ-loop
 returns c =
     let a = c .before .before .before .before .before .before .args in
     let l = c .before .before .before .before .loop in
-    edge-bad (a .s .now) (a .n) (9 + a .n) (a .e) (l .i) (l .inv .1) (omega arith) (sym (c .before .before .stands .ensures) ∙ not-true _ (c .before .if1 .taken)) _ (c .new .ensures)
+    let b = sym (c .before .before .stands .ensures) ∙ not-true _ (c .before .if1 .taken) in
+    edge-bad (a .s .now) (a .n) (9 + a .n) (a .e) (l .i) (l .inv .1) (omega arith) b _ (c .new .ensures)
 
 add-i : tie.Need-add-i Inv-loop μ-loop
 add-i c = search needs
@@ -51,7 +52,8 @@ loop-again : tie.Need-loop-again Inv-loop μ-loop
 loop-again c =
     let a = c .before .before .before .before .before .args in
     let l = c .before .before .before .loop in
-    (omega arith, edge-good (a .s .now) (a .n) (9 + a .n) (a .e) (l .i) (l .inv .1) (omega arith) (sym (c .before .stands .ensures) ∙ not-false _ (c .if1 .left)))
+    let b = sym (c .before .stands .ensures) ∙ not-false _ (c .if1 .left) in
+    (omega arith, edge-good (a .s .now) (a .n) (9 + a .n) (a .e) (l .i) (l .inv .1) (omega arith) b)
 
 returns-2 : tie.Need-returns-2 Inv-loop μ-loop
 returns-2 c =

@@ -29,7 +29,8 @@ loop-less c = search needs
 
 loop-again : tie.Need-loop-again Inv-loop μ-loop
 loop-again c =
-    (omega arith, thin-more _ (c .before .before .before .before .before .args .occupancy .now) _ _ _ (c .before .before .before .loop .inv .1) (c .thinned .ensures))
+    let a = c .before .before .before .before .before .args in
+    (omega arith, thin-more _ (a .occupancy .now) _ _ _ (c .before .before .before .loop .inv .1) (c .thinned .ensures))
 
 returns : tie.Need-returns Inv-loop μ-loop
 returns c = thin-all _ (c .before .before .before .args .occupancy .now) _ _ (omega (arith, c .loop-test .left)) (c .before .loop .inv .1)

@@ -16,7 +16,8 @@ is-owner-requires c κs = search needs
 returns : tie.Need-returns
 returns c =
     let a = c .before .before .before .args in
-    (c .before .before .before .pre .1, λ x y. joined-not (ownedBy (a .s .now) (a .job)) (a .a) (a .b) (inl (sym (c .before .is-owner .ensures) ∙ not-true _ (c .if1 .taken))) x y _)
+    let n = sym (c .before .is-owner .ensures) ∙ not-true _ (c .if1 .taken) in
+    (c .before .before .before .pre .1, λ x y. joined-not (ownedBy (a .s .now) (a .job)) (a .a) (a .b) (inl n) x y _)
 
 is-owner-requires-2 : tie.Need-is-owner-requires-2
 is-owner-requires-2 c κs = search needs
@@ -24,7 +25,8 @@ is-owner-requires-2 c κs = search needs
 returns-2 : tie.Need-returns-2
 returns-2 c =
     let a = c .before .before .before .before .before .args in
-    (c .before .before .before .before .before .pre .1, λ x y. joined-not (ownedBy (a .s .now) (a .job)) (a .a) (a .b) (inr (sym (c .before .is-owner2 .ensures) ∙ not-true _ (c .if2 .taken))) x y _)
+    let n = sym (c .before .is-owner2 .ensures) ∙ not-true _ (c .if2 .taken) in
+    (c .before .before .before .before .before .pre .1, λ x y. joined-not (ownedBy (a .s .now) (a .job)) (a .a) (a .b) (inr n) x y _)
 
 join-requires : tie.Need-join-requires
 join-requires c κs = search needs
@@ -34,10 +36,14 @@ join-requires-2 c κs = search needs
 
 returns-3 : tie.Need-returns-3
 returns-3 c =
-    let a = c .before .before .before .before .before .before .before .before .before .args in (
+    let d = c .before .before .before .before in
+    let e = d .before .before in
+    let a = e .before .before .before .args in
+    let p = sym (e .before .is-owner .ensures) ∙ not-false _ (e .if1 .left) in
+    let q = sym (d .before .is-owner2 .ensures) ∙ not-false _ (d .if2 .left) in (
       c .join2 .ensures .0,
       λ x y. c .join2 .ensures .1 x y ∙ ap (λ t. (eqb x (a .b) && eqb y (a .a)) || t) (c .before .before .join .ensures .1 x y)
-          ∙ joined-both (ownedBy (a .s .now) (a .job)) (a .a) (a .b) (sym (c .before .before .before .before .before .before .before .is-owner .ensures) ∙ not-false _ (c .before .before .before .before .before .before .if1 .left)) (sym (c .before .before .before .before .before .is-owner2 .ensures) ∙ not-false _ (c .before .before .before .before .if2 .left)) x y _,
+          ∙ joined-both (ownedBy (a .s .now) (a .job)) (a .a) (a .b) p q x y _,
     )
 
 pub join-owned-spec : {M : Type 1} → statement M

@@ -17,7 +17,8 @@ use Rattle.device.proofs.region.region_rows.Statement.{statement}
 use Rattle.device.proofs.region.region_rows.Tie as tie
 
 abbrev Inv-loop : tie.InvT-loop
-Inv-loop s job rows₀ n e start i₀ rows i = (i ≤ e) × (length rows ≡ 1024) × ((D : Device) → readDevice s ≡ ok D → (x y : ℕ) → (has (rowOf rows x) y || toCome D job i x y) ≡ joined (regionOf D job) x y)
+Inv-loop s job rows₀ n e start i₀ rows i = (i ≤ e) × (length rows ≡ 1024)
+    × ((D : Device) → readDevice s ≡ ok D → (x y : ℕ) → (has (rowOf rows x) y || toCome D job i x y) ≡ joined (regionOf D job) x y)
 
 abbrev μ-loop : tie.MeasureT-loop
 μ-loop s job rows₀ n e start i₀ rows i = e - i
@@ -70,19 +71,21 @@ loop-less c = search needs
 
 loop-again : tie.Need-loop-again Inv-loop μ-loop
 loop-again c =
-    let a = c .before .before .before .before .before .before .before .before .before .args in
-    let l = c .before .before .before .before .before .before .before .loop in (
+    let d = c .before .before .before .before .before .before .before .before .before in
+    let l = c .before .before .before .before .before .before .before .loop in
+    let v = c .before .before .before .before .wide .ensures .0 in
+    let w = c .before .before .wide2 .ensures .0 in (
       omega arith,
       c .join-owned .ensures .0,
-      λ D q x y. rows-more (reads-as (c .before .before .before .before .before .before .before .before .before .pre .0 .1) q) (a .job) (l .i) (omega arith) _ _ (c .before .before .before .before .wide .ensures .0) (c .before .before .wide2 .ensures .0) x y _ _ (c .join-owned .ensures .1 x y)
-          ∙ l .inv .2 D q x y,
+      λ D q x y. rows-more (reads-as (d .pre .0 .1) q) (d .args .job) (l .i) (omega arith) _ _ v w x y _ _ (c .join-owned .ensures .1 x y) ∙ l .inv .2 D q x y,
     )
 
 returns : tie.Need-returns Inv-loop μ-loop
 returns c =
-    let l = c .before .loop in (
+    let l = c .before .loop in
+    let j = c .before .before .before .args .job in (
       l .inv .1,
-      λ D r. record { long = l .inv .1; row = λ x y. sym (rows-done D (c .before .before .before .args .job) (l .i) x y _ (omega arith)) ∙ l .inv .2 D (r .reads) x y },
+      λ D r. record { long = l .inv .1; row = λ x y. sym (rows-done D j (l .i) x y _ (omega arith)) ∙ l .inv .2 D (r .reads) x y },
     )
 
 pub region-rows-spec : {M : Type 1} → statement M

@@ -13,6 +13,7 @@ use Rattle.sets.specs.Sets.{has, rowOf}
 use Rattle.device.specs.declared.DeviceAnswer.{DeviceAnswer}
 use Rattle.device.specs.declared.DeviceAnswer.the-variants.{Read, Refused}
 
+-- the reader's answer: the numbers of the device, or the refusal
 abbrev pub deviceSaid : DeviceAnswer → Check DeviceHeader
 deviceSaid (Read h) = ok h
 deviceSaid (Refused r) = refused r

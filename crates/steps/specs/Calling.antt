@@ -22,6 +22,7 @@ use Rattle.steps.specs.declared.asks.Asked.the-variants.{Granted, Refuse
 use Rattle.steps.specs.State.{placeOf, slotsOf, locationAt, emptyFrame}
 use Rattle.steps.specs.Performing.{Maps}
 
+-- what a call at the offset o asks: granted, or the reason
 abbrev pub askedSaid : Asked → ℕ → Check (Unit {0})
 askedSaid Granted o = ok tt
 askedSaid (Refused n) o = refused (refusal n o)

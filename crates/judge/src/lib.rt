@@ -28,7 +28,8 @@ pub fn judge(
     owned: LocationSet,
 ) -> CheckAnswer
     requires { ⌜ ((p : Program) × (readProgram (now s) ≡ ok p) × Tabled p t main) ⌝ }
-    ensures { λ r. ⌜ ((p : Program) → readProgram (now (s .entry)) ≡ ok p → Tabled p t main → (R : Region) → Owned R owned → Rows R (now (rows .entry)) → checkSaid r ≡ judged R p) ⌝ }
+    ensures { λ r. ⌜ ((p : Program) → readProgram (now (s .entry)) ≡ ok p → Tabled p t main
+        → (R : Region) → Owned R owned → Rows R (now (rows .entry)) → checkSaid r ≡ judged R p) ⌝ }
 {
     let typed = type_program(s, t, main, owned);
     if let ReadAnswer::Refused(x) = typed {

@@ -54,7 +54,8 @@ pub record Seated (s : List ℕ) (c : Seat) (rows : List ℕ) (p : Program) (R :
 -- a step taken, over an occupancy that has all of the region: the job, the record and the map after it are the rules'
 abbrev pub Takes : List ℕ → Seat → List ℕ → List ℕ → Job → ℕ → Bool → Taken → List ℕ → Type 0
 Takes s c rows before j number v r now =
-    (p : Program) (J : rules.Job) (R : Region) (occupancy : List ℕ) → Seated s c rows p R → Stands s p J j → Maps before occupancy → length (R .owned) ≤ length occupancy
+    (p : Program) (J : rules.Job) (R : Region) (occupancy : List ℕ) → Seated s c rows p R → Stands s p J j → Maps before occupancy
+    → length (R .owned) ≤ length occupancy
     → Stands s p (step R (p .functions) v (freeIn R occupancy) J .next) (r .job)
     × (r .record ≡ recordOf (step R (p .functions) v (freeIn R occupancy) J .answer))
     × Maps now (written number (step R (p .functions) v (freeIn R occupancy) J .act) occupancy)
@@ -110,4 +111,5 @@ module _ (s₁ : List ℕ) (c₁ : Seat) (rows₁ s₂ : List ℕ) (c₂ : Seat)
     pub second : r .moved .second ≡ movedBy 2 (records D (programs p q) ts M)
 
   abbrev pub Deals : Machine → List ℕ → List ℕ → Ended → List ℕ → Type 0
-  Deals m schedule before r now = (D : Device) (p q : Program) (M : run.Machine) → Both D p q → Holds D p q M m → Dealt D p q M (map turnOf schedule) before r now
+  Deals m schedule before r now =
+      (D : Device) (p q : Program) (M : run.Machine) → Both D p q → Holds D p q M m → Dealt D p q M (map turnOf schedule) before r now

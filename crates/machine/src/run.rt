@@ -34,7 +34,8 @@ pub fn deal(
     records: &mut [u8],
 ) -> Ended
     requires { ⌜ Dealing (now first) one (now «first_rows») (now second) two (now «second_rows») start (now schedule) (length (now records)) ⌝ }
-    ensures { λ r. ⌜ Deals (now (first .entry)) one (now («first_rows» .entry)) (now (second .entry)) two (now («second_rows» .entry)) start (now (schedule .entry)) (now (records .entry)) r (now (records .exit)) ⌝ }
+    ensures { λ r. ⌜ Deals (now (first .entry)) one (now («first_rows» .entry)) (now (second .entry)) two (now («second_rows» .entry)) start
+        (now (schedule .entry)) (now (records .entry)) r (now (records .exit)) ⌝ }
 {
     let n = schedule.len();
     let mut machine = start;
@@ -86,8 +87,10 @@ pub fn run(
     records: &mut [u8],
     map: &mut [u8],
 ) -> Moved
-    requires { ⌜ Runnable (now device) h (now first) ones «first_main» (now second) twos «second_main» (now schedule) (length (now records)) (length (now map)) ⌝ }
-    ensures { λ r. ⌜ Runs (now (device .entry)) h (now (first .entry)) ones «first_main» (now (second .entry)) twos «second_main» (now (schedule .entry)) (now (records .entry)) (now (map .entry)) r (now (records .exit)) (now (map .exit)) ⌝ }
+    requires { ⌜ Runnable (now device) h (now first) ones «first_main» (now second) twos «second_main» (now schedule)
+        (length (now records)) (length (now map)) ⌝ }
+    ensures { λ r. ⌜ Runs (now (device .entry)) h (now (first .entry)) ones «first_main» (now (second .entry)) twos «second_main»
+        (now (schedule .entry)) (now (records .entry)) (now (map .entry)) r (now (records .exit)) (now (map .exit)) ⌝ }
 {
     let mut first_rows = [0u64; 1024];
     region_rows(device, h, 1, &mut first_rows);

@@ -53,12 +53,14 @@ module _ (s : List ℕ) (endings : Endings) (inside : LocationSet) (env : Env) (
 
 -- an operation by its operands, in whatever body it stands: up to `next`
 abbrev pub Performed : Env → ((d : Side) → Op d) → ℕ → ℕ → Outcome → Type 0
-Performed env a at next r = (d : Side) (places : ℕ) (C : Context d) (Γ : Environment d) → EnvIs places env Γ → Answers places next (typeStatement C Γ (op at (a d))) r
+Performed env a at next r =
+    (d : Side) (places : ℕ) (C : Context d) (Γ : Environment d) → EnvIs places env Γ → Answers places next (typeStatement C Γ (op at (a d))) r
 
 -- the same of one that names a place
 abbrev pub Placed : LocationSet → Env → ((d : Side) → Op d) → ℕ → ℕ → Outcome → Type 0
 Placed inside env a at next r =
-    (d : Side) (places : ℕ) (C : Context d) (Γ : Environment d) → Within inside places C → EnvIs places env Γ → Answers places next (typeStatement C Γ (op at (a d))) r
+    (d : Side) (places : ℕ) (C : Context d) (Γ : Environment d) → Within inside places C → EnvIs places env Γ
+    → Answers places next (typeStatement C Γ (op at (a d))) r
 
 -- an if after its first block, whose type is t: what is typed of the second, m, answers for both. Commands are none of the code's.
 abbrev pub Joined : Env → Outcome → ℕ → Outcome → Type 0

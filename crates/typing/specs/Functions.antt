@@ -20,7 +20,8 @@ use Rattle.typing.specs.Stands.{EnvIs, Knows}
 pub record Remembers (before : Endings) (f m : ℕ) (env : Env) (after : Endings) : Type 0 where
   pub lower : (y : ℕ) → y < 8 * f → has (after .kept) y ≡ has (before .kept) y
   pub higher : (y : ℕ) → 8 * f + m ≤ y → has (after .kept) y ≡ has (before .kept) y
-  pub its : (n : ℕ) (Γ : Environment parameter) → EnvIs n env Γ → (i : ℕ) → i < m → has (after .kept) (8 * f + i) ≡ (isQubitAt (slot (Γ .slots) i) (param i) || has (before .kept) (8 * f + i))
+  pub its : (n : ℕ) (Γ : Environment parameter) → EnvIs n env Γ → (i : ℕ) → i < m
+      → has (after .kept) (8 * f + i) ≡ (isQubitAt (slot (Γ .slots) i) (param i) || has (before .kept) (8 * f + i))
 
 -- the functions fs, typed: what main may know of them, or the refusal
 pub data Learns (fs : List Function) : Check (List Signature) → Learnt → Type 0 where

@@ -57,7 +57,8 @@ pub record Knows (endings : Endings) (S : Scope) (gs : List Signature) : Type 0 
   pub few : length (S .earlier) ≤ 15
   pub most : (f : ℕ) → f < length (S .earlier) → (function (S .earlier) f .m ≤ 8) × (function (S .earlier) f .m ≤ function (S .earlier) f .k)
   pub same : (f : ℕ) → f < length (S .earlier) → signature gs f .m ≡ function (S .earlier) f .m
-  pub kept : (f i : ℕ) → f < length (S .earlier) → i < function (S .earlier) f .m → has (endings .kept) (8 * f + i) ≡ isQubitAt (slot (signature gs f .ends .slots) i) (param i)
+  pub kept : (f i : ℕ) → f < length (S .earlier) → i < function (S .earlier) f .m
+      → has (endings .kept) (8 * f + i) ≡ isQubitAt (slot (signature gs f .ends .slots) i) (param i)
 
 -- what was typed up to p: its environment, or its refusal
 pub data Answers {d : Side} (places p : ℕ) : Check (Typed d) → Outcome → Type 0 where

@@ -27,7 +27,8 @@ ghost use Rattle.typing.specs.Cases.{StatementCase, StatementTyped};
 // Each argument in turn is a qubit (11) at its location (16).
 fn arguments_at(s: &[u8], env: Env, at: usize) -> ReadAnswer
     requires { ⌜ CallAt (now s) at ⌝ }
-    ensures { λ r. ⌜ ((d : Side) (n : ℕ) (C : Context d) (Γ : Environment d) → EnvIs n env Γ → readSaid r ≡ argumentsAt (kinds C Γ) at (Γ .slots) (slotsAt (now (s .entry)) at) (placesAt d (now (s .entry)) at)) ⌝ }
+    ensures { λ r. ⌜ ((d : Side) (n : ℕ) (C : Context d) (Γ : Environment d) → EnvIs n env Γ
+        → readSaid r ≡ argumentsAt (kinds C Γ) at (Γ .slots) (slotsAt (now (s .entry)) at) (placesAt d (now (s .entry)) at)) ⌝ }
 {
     let k = operand(s, at, 2);
     let m = operand(s, at, 3);
@@ -50,7 +51,8 @@ fn arguments_at(s: &[u8], env: Env, at: usize) -> ReadAnswer
 // 13 for each location, 15 for either list, 11 and 16 by argument, 14 for the locations that hold no argument.
 fn asks(s: &[u8], inside: LocationSet, env: Env, at: usize) -> ReadAnswer
     requires { ⌜ CallAt (now s) at ⌝ }
-    ensures { λ r. ⌜ ((d : Side) (n : ℕ) (C : Context d) (Γ : Environment d) → Within inside n C → EnvIs n env Γ → readSaid r ≡ callable (kinds C Γ) at (Γ .slots) (placesAt d (now (s .entry)) at) (slotsAt (now (s .entry)) at)) ⌝ }
+    ensures { λ r. ⌜ ((d : Side) (n : ℕ) (C : Context d) (Γ : Environment d) → Within inside n C → EnvIs n env Γ
+        → readSaid r ≡ callable (kinds C Γ) at (Γ .slots) (placesAt d (now (s .entry)) at) (slotsAt (now (s .entry)) at)) ⌝ }
 {
     let k = operand(s, at, 2);
     let m = operand(s, at, 3);
@@ -81,7 +83,8 @@ impl Env {
     fn end(self, stays: bool, x: usize, l: usize) -> Self
         requires { ⌜ (x < 32) × (l < 256) ⌝ }
         ensures { λ r. ⌜ ((d : Side) (n : ℕ) (Γ : Environment d) → EnvIs n self Γ → stays ≡ true → EnvIs n r Γ) ⌝ }
-        ensures { λ r. ⌜ ((d : Side) (n : ℕ) (Γ : Environment d) → EnvIs n self Γ → stays ≡ false → l < n → EnvIs n r (record { slots = set (Γ .slots) x unbound; free = set (Γ .free) l true })) ⌝ }
+        ensures { λ r. ⌜ ((d : Side) (n : ℕ) (Γ : Environment d) → EnvIs n self Γ → stays ≡ false → l < n
+            → EnvIs n r (record { slots = set (Γ .slots) x unbound; free = set (Γ .free) l true })) ⌝ }
     {
         if stays {
             return self;
@@ -93,7 +96,8 @@ impl Env {
 // The environment after the call.
 fn after_call(s: &[u8], endings: Endings, env: Env, at: usize) -> Env
     requires { ⌜ CallAt (now s) at ⌝ }
-    ensures { λ r. ⌜ ((d : Side) (n : ℕ) (Γ : Environment d) (g : Signature) → EnvIs n env Γ → Ends (now (s .entry)) endings at n g → EnvIs n r (afterCall g (placesAt d (now (s .entry)) at) (slotsAt (now (s .entry)) at) Γ)) ⌝ }
+    ensures { λ r. ⌜ ((d : Side) (n : ℕ) (Γ : Environment d) (g : Signature) → EnvIs n env Γ → Ends (now (s .entry)) endings at n g
+        → EnvIs n r (afterCall g (placesAt d (now (s .entry)) at) (slotsAt (now (s .entry)) at) Γ)) ⌝ }
 {
     let f = operand(s, at, 1);
     let k = operand(s, at, 2);

@@ -61,7 +61,8 @@ impl Env {
     }
 
     fn narrowed(self, entry: Env) -> Env
-        ensures { λ r. ⌜ ((d : Side) (n : ℕ) (Γ Δ : Environment d) → EnvIs n entry Γ → EnvIs n self Δ → EnvIs n r (record { slots = narrowed (Γ .slots) (Δ .slots); free = Δ .free })) ⌝ }
+        ensures { λ r. ⌜ ((d : Side) (n : ℕ) (Γ Δ : Environment d) → EnvIs n entry Γ → EnvIs n self Δ
+            → EnvIs n r (record { slots = narrowed (Γ .slots) (Δ .slots); free = Δ .free })) ⌝ }
     {
         let mut e = self;
         let mut x: usize = 0;

@@ -108,7 +108,8 @@ pub record StatementsAt (s bodies quiet : List ℕ) (g : ℕ) (n : Names) (at en
   pub stands : StatementsIn s scope depths at end tree
 
 -- over which region, with which callees and at which places it is walked
-pub record Over {d : Side} (R : Region) (rows counts : List ℕ) (fs : List Function) (g : ℕ) (S : Scope) (n : Names) (W : Walker) (σ : Place d → Place device) : Type 0 where
+pub record Over {d : Side} (R : Region) (rows counts : List ℕ) (fs : List Function) (g : ℕ) (S : Scope) (n : Names) (W : Walker)
+    (σ : Place d → Place device) : Type 0 where
   pub region : Rows R rows
   pub callees : Callees R fs counts g W
   pub places : (l : Place d) → l .no < S .places → σ l .no ≡ named n (l .no)
@@ -116,11 +117,15 @@ pub record Over {d : Side} (R : Region) (rows counts : List ℕ) (fs : List Func
 -- w is how the walk over the block ends, and over the statement, which leaves the frame as it is
 module _ (s bodies quiet rows : List ℕ) (g : ℕ) (n : Names) (at : ℕ) (frame : List ℕ) (free : LocationSet) (w : Walked) where
   abbrev pub BlockWalked : Type 0
-  BlockWalked = (b : BlockAt s bodies quiet g n at) (R : Region) (W : Walker) (σ : Place (b .side) → Place device) → Over R rows (b .counts) (b .program .functions) g (b .scope) n W σ
+  BlockWalked =
+      (b : BlockAt s bodies quiet g n at) (R : Region) (W : Walker) (σ : Place (b .side) → Place device)
+      → Over R rows (b .counts) (b .program .functions) g (b .scope) n W σ
       → walkSaid w ≡ walkBlock R W σ (b .tree) (standing frame free)
 
   abbrev pub StatementWalked : Type 0
-  StatementWalked = (t : StatementAt s bodies quiet g n at) (R : Region) (W : Walker) (σ : Place (t .side) → Place device) → Over R rows (t .counts) (t .program .functions) g (t .scope) n W σ
+  StatementWalked =
+      (t : StatementAt s bodies quiet g n at) (R : Region) (W : Walker) (σ : Place (t .side) → Place device)
+      → Over R rows (t .counts) (t .program .functions) g (t .scope) n W σ
       → kept frame (walkSaid w) ≡ walkStatement R W σ (t .tree) (standing frame free)
 
 -- the same for a call, whatever the caller's frame is

@@ -10,7 +10,8 @@ use lib.ListN.{getD}
 use Rattle.answers.specs.Check.{Check, ok, _>>=_, _>>_}
 use Rattle.rules.specs.Region.{Region}
 use Rattle.rules.specs.Path.{route}
-use Rattle.rules.specs.Syntax.{Side, device, parameter, Place, param, at, Op, init, free, gate, measure, merge, newRef, getRef, setRef, constant, Statement, op, if, while, call, Statements, done, _⨾_, Block, block, Function, function}
+use Rattle.rules.specs.Syntax.{Side, device, parameter, Place, param, at, Op, init, free, gate, measure, merge, newRef, getRef, setRef, constant}
+use Rattle.rules.specs.Syntax.{Statement, op, if, while, call, Statements, done, _⨾_, Block, block, Function, function}
 use Rattle.rules.specs.Commands.{needRoute}
 
 -- where a body stands: the location of each slot's qubit, and which locations are free
@@ -74,5 +75,6 @@ module _ {s : Side} (R : Region) (W : Walker) (σ : Place s → Place device) wh
 
 -- W walks each function before number g by its body, and where the function's count is 0 it changes nothing
 pub record Callees (R : Region) (fs : List Function) (counts : List ℕ) (g : ℕ) (W : Walker) : Type 0 where
-  pub walks : (f : ℕ) → f < g → (τ : Place parameter → Place device) (F : ℕ → Bool) → W f τ F ≡ walkBlock R W τ (function fs f .body) (enteredAt (function fs f .k) τ F)
+  pub walks : (f : ℕ) → f < g → (τ : Place parameter → Place device) (F : ℕ → Bool)
+      → W f τ F ≡ walkBlock R W τ (function fs f .body) (enteredAt (function fs f .k) τ F)
   pub skips : (f : ℕ) → f < g → getD counts f 0 ≡ 0 → (τ : Place parameter → Place device) (F : ℕ → Bool) → W f τ F ≡ ok F

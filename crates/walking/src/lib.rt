@@ -35,7 +35,10 @@ pub fn walk_program(
     owned: LocationSet,
 ) -> ReadAnswer
     requires { ⌜ ((p : Program) × ProgramIn (now s) p × Tabled p t main) ⌝ }
-    ensures { λ r. ⌜ ((p : Program) (R : Region) (d : Typed device) (e : Derives (R .owned) p d) → ProgramIn (now (s .entry)) p → Tabled p t main → Owned R owned → Rows R (now (rows .entry)) → ((f : ℕ) → f < length (p .functions) → getD counts f 0 ≡ 0 → sizeOf (signature (e .signatures) f .commands) ≡ 0) → readSaid r ≡ (walk R (R .owned) (d .commands) then ok tt)) ⌝ }
+    ensures { λ r. ⌜ ((p : Program) (R : Region) (d : Typed device) (e : Derives (R .owned) p d)
+        → ProgramIn (now (s .entry)) p → Tabled p t main → Owned R owned → Rows R (now (rows .entry))
+        → ((f : ℕ) → f < length (p .functions) → getD counts f 0 ≡ 0 → sizeOf (signature (e .signatures) f .commands) ≡ 0)
+        → readSaid r ≡ (walk R (R .owned) (d .commands) then ok tt)) ⌝ }
 {
     let mut quiet = [0; 4096];
     mark_quiet(&mut quiet, s, &counts);

@@ -46,7 +46,8 @@ pub fn walk_block(
     requires { ⌜ BlockAt (now s) (now bodies) (now quiet) g (namesOf in_main (now names)) at ⌝ }
     requires { ⌜ (length (now free) ≡ 4) × (length (now frame) ≡ 32) ⌝ }
     ensures long { λ _. ⌜ length (now (free .exit)) ≡ 4 ⌝ }
-    ensures walks { λ r. ⌜ BlockWalked (now (s .entry)) (now (bodies .entry)) (now (quiet .entry)) (now (rows .entry)) g (namesOf in_main (now (names .entry))) at (now (frame .entry)) (setOf (now (free .entry))) (leaves r (now (free .exit))) ⌝ }
+    ensures walks { λ r. ⌜ BlockWalked (now (s .entry)) (now (bodies .entry)) (now (quiet .entry)) (now (rows .entry)) g
+        (namesOf in_main (now (names .entry))) at (now (frame .entry)) (setOf (now (free .entry))) (leaves r (now (free .exit))) ⌝ }
 {
     let stop = block_end(s, at);
     let mut p = skip(quiet, at + 2, stop);
@@ -100,7 +101,8 @@ fn walk_if(
     requires { ⌜ StatementAt (now s) (now bodies) (now quiet) g (namesOf in_main (now names)) at × (byte (now s) at ≡ 10) ⌝ }
     requires { ⌜ (length (now free) ≡ 4) × (length (now frame) ≡ 32) ⌝ }
     ensures long { λ _. ⌜ length (now (free .exit)) ≡ 4 ⌝ }
-    ensures walks { λ r. ⌜ StatementWalked (now (s .entry)) (now (bodies .entry)) (now (quiet .entry)) (now (rows .entry)) g (namesOf in_main (now (names .entry))) at (now (frame .entry)) (setOf (now (free .entry))) (leaves r (now (free .exit))) ⌝ }
+    ensures walks { λ r. ⌜ StatementWalked (now (s .entry)) (now (bodies .entry)) (now (quiet .entry)) (now (rows .entry)) g
+        (namesOf in_main (now (names .entry))) at (now (frame .entry)) (setOf (now (free .entry))) (leaves r (now (free .exit))) ⌝ }
 {
     let mut other = *free;
     let mut first_frame = *frame;
@@ -149,7 +151,8 @@ fn walk_while(
 ) -> usize
     requires { ⌜ StatementAt (now s) (now bodies) (now quiet) g (namesOf in_main (now names)) at × (byte (now s) at ≡ 11) ⌝ }
     requires { ⌜ (length (now free) ≡ 4) × (length (now frame) ≡ 32) ⌝ }
-    ensures { λ r. ⌜ StatementWalked (now (s .entry)) (now (bodies .entry)) (now (quiet .entry)) (now (rows .entry)) g (namesOf in_main (now (names .entry))) at (now (frame .entry)) (setOf (now (free .entry))) (leaves r (now (free .entry))) ⌝ }
+    ensures { λ r. ⌜ StatementWalked (now (s .entry)) (now (bodies .entry)) (now (quiet .entry)) (now (rows .entry)) g
+        (namesOf in_main (now (names .entry))) at (now (frame .entry)) (setOf (now (free .entry))) (leaves r (now (free .entry))) ⌝ }
 {
     let mut inside = *free;
     let mut inner_frame = *frame;
@@ -182,7 +185,8 @@ fn walk_call(
     requires { ⌜ StatementAt (now s) (now bodies) (now quiet) g (namesOf in_main (now names)) at × (byte (now s) at ≡ 12) ⌝ }
     requires { ⌜ length (now free) ≡ 4 ⌝ }
     ensures long { λ _. ⌜ length (now (free .exit)) ≡ 4 ⌝ }
-    ensures walks { λ r. ⌜ CallWalked (now (s .entry)) (now (bodies .entry)) (now (quiet .entry)) (now (rows .entry)) g (namesOf in_main (now (names .entry))) at (setOf (now (free .entry))) (leaves r (now (free .exit))) ⌝ }
+    ensures walks { λ r. ⌜ CallWalked (now (s .entry)) (now (bodies .entry)) (now (quiet .entry)) (now (rows .entry)) g
+        (namesOf in_main (now (names .entry))) at (setOf (now (free .entry))) (leaves r (now (free .exit))) ⌝ }
 {
     let f = wide(s[at + 1]);
     let mut inner = [0; 16];

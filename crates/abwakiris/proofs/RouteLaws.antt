@@ -1,17 +1,18 @@
 -- The route call as a row of checks: what is asked before the search, then the search. Each exit of the code is one place of that row.
-use mathlib.Core.Bool.{Bool, true, false, cond, not, _||_}
+use mathlib.Core.Bool.{Bool, true, false, not, _||_}
 use mathlib.Core.List.{List}
-use mathlib.Core.Option.{Option, none, some}
+use mathlib.Core.Option.{Option}
 use mathlib.Core.Path.{_≡_, refl, sym, ap, _∙_, fun-ext}
 use native.Mathlib.Decide.{ℕ-discrete}
 use native.Mathlib.Omega.{arith}
 use Prim.Native.Nat.{ℕ, _≤_}
 use borrow.Author.Tests.{eq-eqb, ne-eqb, eqb-true}
-use lib.Dec.{eqb, leb}
+use lib.Dec.{eqb}
 use lib.ListN.{length}
 use Rattle.answers.specs.Check.{Check, ok, refused, refusal, _>>=_, _>>_, need, within}
 use Rattle.answers.specs.declared.File.the-variants.{Device}
 use Rattle.answers.specs.declared.Refusal.{Refusal}
+use Rattle.answers.specs.Said.{routeSaid}
 use Rattle.answers.specs.declared.RouteAnswer.{RouteAnswer}
 use Rattle.answers.specs.declared.RouteAnswer.the-variants.{Routed, Refused}
 use Rattle.answers.proofs.Laws.{ok-not-refused}
@@ -19,14 +20,14 @@ use Rattle.rules.specs.Device as rules
 use Rattle.rules.specs.Device.{readDevice}
 use Rattle.rules.specs.Region.{Region, regionOf, owns, freeIn}
 use Rattle.rules.specs.Path.{route}
-use Rattle.rules.specs.Promises.{over, routed, routeWritten, routeOf}
+use Rattle.rules.specs.Promises.{routed, routeWritten, routeOf}
 use Rattle.sets.specs.declared.LocationSet.{LocationSet}
 use Rattle.sets.specs.Sets.{has}
 use Rattle.device.specs.Reader.{Owned}
 use Rattle.route.specs.declared.Found.{Found}
 use Rattle.route.specs.declared.Found.the-variants.{Written, NoPath, Short}
-use Rattle.route.specs.Found.{foundOf, bufferOf}
-use Rattle.abwakiris.specs.Routing.{told, asked, fitted, Finds, Routes}
+use Rattle.route.specs.Found.{foundSaid, fitted, Answers}
+use Rattle.abwakiris.specs.Routing.{told, asked, Finds, Routes}
 
 -- ---- the search
 -- what the call answers for each answer of the search
@@ -35,19 +36,15 @@ answered (Written n) = Routed n
 answered NoPath = Refused (refusal 21 0)
 answered Short = Refused (refusal 24 0)
 
-finds : (o : Option (List ℕ)) (before after : List ℕ) → after ≡ bufferOf o before → Finds o before (answered (foundOf o (length before))) after
-unfolding fitted _>>=_ _>>_
-finds none before after e = ap (λ b. told (answered NoPath) b) e
-finds (some p) before after e = go (leb (length p) (length before)) e
-  where
-    go : (t : Bool) → after ≡ cond t (over p before) before
-        → told (answered (cond t (Written (length p)) Short)) after ≡ routeWritten before (need t 24 0 >> ok p)
-    go true e = ap (λ b. told (Routed (length p)) b) e
-    go false e = ap (λ b. told (answered Short) b) e
+-- both say the same
+same-said : (f : Found) → routeSaid (answered f) ≡ foundSaid f
+same-said (Written n) = refl
+same-said NoPath = refl
+same-said Short = refl
 
 pub finds-as : (o : Option (List ℕ)) (before after : List ℕ) (f : Found) (r : RouteAnswer)
-    → (f ≡ foundOf o (length before)) × (after ≡ bufferOf o before) → r ≡ answered f → Finds o before r after
-finds-as o before after f r (e, b) q = rw (q, e) (finds o before after b)
+    → Answers o before f after → r ≡ answered f → Finds o before r after
+finds-as o before after f r a q = rw (q, same-said f) (a .said)
 
 -- ---- what is asked before it
 module _ (inside : ℕ → Bool) (n : ℕ) (occupancy : List ℕ) (a b : ℕ) where

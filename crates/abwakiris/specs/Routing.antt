@@ -4,15 +4,15 @@ use mathlib.Core.List.{List}
 use mathlib.Core.Option.{Option}
 use mathlib.Core.Path.{_≡_}
 use Prim.Native.Nat.{ℕ}
-use lib.Dec.{eqb, leb}
+use lib.Dec.{eqb}
 use lib.ListN.{length}
-use Rattle.answers.specs.Check.{Check, ok, refused, _>>=_, _>>_, need}
+use Rattle.answers.specs.Check.{Check, _>>_, need}
 use Rattle.answers.specs.Said.{routeSaid}
 use Rattle.answers.specs.declared.RouteAnswer.{RouteAnswer}
 use Rattle.rules.specs.Region.{Region, owns, freeIn}
 use Rattle.rules.specs.Path.{route}
-use Rattle.rules.specs.Commands.{needRoute}
 use Rattle.rules.specs.Promises.{Routed, routeWritten}
+use Rattle.route.specs.Found.{fitted}
 
 -- an answer and the buffer's bytes at the end, in the promise's terms
 abbrev pub told : RouteAnswer → List ℕ → Routed
@@ -25,13 +25,6 @@ asked inside n occupancy a b = do
   need (inside a) 13 0
   need (inside b) 13 1
   need (not (eqb a b)) 15 0
-
--- 21, then 24
-unfoldable pub fitted : Option (List ℕ) → ℕ → Check (List ℕ)
-fitted found room = do
-  p ← needRoute found 0
-  need (leb (length p) room) 24 0
-  ok p
 
 -- a search's answer and what it writes
 abbrev pub Finds : Option (List ℕ) → List ℕ → RouteAnswer → List ℕ → Type 0

@@ -36,4 +36,5 @@ module _ (s bodies : List ℕ) (g : ℕ) where
     pub block : (d : Side) (x : Block d) (q : ℕ) → BlockBelow s g at x q → (r .next ≡ q) × Found (λ φ. blockSize φ x) m (r .count) (r .memory)
 
   pub record StatementFound (at : ℕ) (m : Memory) (r : Sum) : Type 0 where
-    pub statement : (d : Side) (x : Statement d) (q : ℕ) → StatementBelow s g at x q → (r .next ≡ q) × Found (λ φ. statementSize φ x) m (r .count) (r .memory)
+    pub statement : (d : Side) (x : Statement d) (q : ℕ) → StatementBelow s g at x q
+        → (r .next ≡ q) × Found (λ φ. statementSize φ x) m (r .count) (r .memory)

@@ -64,7 +64,8 @@ abbrev passes : List ℕ → ℕ → Option Edge → ℕ → Bool
 passes s n before i = ltb (byte s i) (byte s (i + 1)) && ltb (byte s (i + 1)) n && increases before (edgeAt s i)
 
 module _ (s : List ℕ) (n : ℕ) where
-  more : (before : Option Edge) (i m : ℕ) → passes s n before i ≡ true → tested (edges s n before i (suc m)) ≡ tested (edges s n (some (edgeAt s i)) (i + 2) m)
+  more : (before : Option Edge) (i m : ℕ) → passes s n before i ≡ true
+      → tested (edges s n before i (suc m)) ≡ tested (edges s n (some (edgeAt s i)) (i + 2) m)
   unfolding _>>_
   more before i m h = rw h (tested-map (edges s n (some (edgeAt s i)) (i + 2) m) (λ rest. edgeAt s i ∷ rest))
 
@@ -84,7 +85,8 @@ module _ (s : List ℕ) (n : ℕ) where
 
   -- ---- the loop, at edge i of e
   module _ (start e i : ℕ) (same : tested (edges s n none start e) ≡ testsFrom start i (e - i)) where
-    pub edge-bad : i < e → edgeStands s n start i ≡ false → (x : Refusal) → x ≡ refusal 7 (start + 2 * i) → refused x ≡ tested (edges s n none start e)
+    pub edge-bad : i < e → edgeStands s n start i ≡ false → (x : Refusal) → x ≡ refusal 7 (start + 2 * i)
+        → refused x ≡ tested (edges s n none start e)
     unfolding edgeStands
     edge-bad h b x q =
         let c : e - i ≡ suc (e - (i + 1)) = omega arith in
@@ -130,7 +132,8 @@ module _ (s : List ℕ) (n : ℕ) where
       each es a zero d h = ap (edgeAt s) here
       each es a (suc k) d h = a .each k d (omega arith) ∙ ap (edgeAt s) (at k)
 
-      rises : (es : List Edge) → EdgesAre (i + 2) m es → byte s i < byte s (i + 1) → (k : ℕ) → k < suc m → byte s (i + 2 * k) < byte s (i + 2 * k + 1)
+      rises : (es : List Edge) → EdgesAre (i + 2) m es → byte s i < byte s (i + 1) → (k : ℕ) → k < suc m
+          → byte s (i + 2 * k) < byte s (i + 2 * k + 1)
       rises es a f zero h = rw (← here) f
       rises es a f (suc k) h = rw (← at k) (a .rises k (omega arith))
 

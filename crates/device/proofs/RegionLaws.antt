@@ -41,7 +41,8 @@ one-more o x y = go (ℕ-discrete y x) (side y x)
         let k : x < y = lt-of-le-of-ne l (λ q. n (sym q)) in
         rw (ne-eqb y x n, and-false (o x), le-ltb y x l, le-ltb y (x + 1) (omega arith))
 
-pub all-taken : {s : List ℕ} {h : DeviceHeader} {D : Device} → Reads s h D → (j x y : ℕ) → x ≡ h .locations → (ltb y x && ownedBy s j y) ≡ owns (regionOf D j) y
+pub all-taken : {s : List ℕ} {h : DeviceHeader} {D : Device} → Reads s h D → (j x y : ℕ) → x ≡ h .locations
+    → (ltb y x && ownedBy s j y) ≡ owns (regionOf D j) y
 all-taken {s} r j x y e = ap (λ (n : ℕ). ltb y n && ownedBy s j y) e ∙ sym (owns-is r j y)
 
 -- ---- the rows: what joining the ends p and q of an edge comes to
@@ -55,7 +56,8 @@ eqb-turn a b = go (ℕ-discrete a b)
 touches-is : (p q x y : ℕ) → touches x y (record { from = p; to = q }) ≡ ((eqb x p && eqb y q) || (eqb x q && eqb y p))
 touches-is p q x y = rw (eqb-turn p x, eqb-turn q y, eqb-turn p y, eqb-turn q x) (ap (λ (t : Bool). (eqb x p && eqb y q) || t) (and-comm (eqb y p) (eqb x q)))
 
-both-own : (A B h s t : Bool) → (A ≡ true → (s ≡ true) × (t ≡ true)) → (B ≡ true → (s ≡ true) × (t ≡ true)) → (B || (A || h)) ≡ ((s && t && (A || B)) || h)
+both-own : (A B h s t : Bool) → (A ≡ true → (s ≡ true) × (t ≡ true)) → (B ≡ true → (s ≡ true) × (t ≡ true))
+    → (B || (A || h)) ≡ ((s && t && (A || B)) || h)
 both-own true B h s t f g = let e = f refl in or-true B h ∙ sym (rw (e .0, e .1))
   where
     or-true : (t h : Bool) → (t || (true || h)) ≡ true
@@ -64,10 +66,12 @@ both-own true B h s t f g = let e = f refl in or-true B h ∙ sym (rw (e .0, e .
 both-own false true h s t f g = let e = g refl in sym (rw (e .0, e .1))
 both-own false false h s t f g = sym (rw (and-false (s && t)))
 
-not-both : (A B h s t : Bool) → (A ≡ true → (s ≡ false) ⊎ (t ≡ false)) → (B ≡ true → (s ≡ false) ⊎ (t ≡ false)) → h ≡ ((s && t && (A || B)) || h)
+not-both : (A B h s t : Bool) → (A ≡ true → (s ≡ false) ⊎ (t ≡ false)) → (B ≡ true → (s ≡ false) ⊎ (t ≡ false))
+    → h ≡ ((s && t && (A || B)) || h)
 not-both A B h true true f g = none A B f g
   where
-    none : (A B : Bool) → (A ≡ true → (true ≡ false) ⊎ (true ≡ false)) → (B ≡ true → (true ≡ false) ⊎ (true ≡ false)) → h ≡ ((A || B) || h)
+    none : (A B : Bool) → (A ≡ true → (true ≡ false) ⊎ (true ≡ false)) → (B ≡ true → (true ≡ false) ⊎ (true ≡ false))
+        → h ≡ ((A || B) || h)
     none true B f g = ⊎-elim (λ e. absurd (clash refl e)) (λ e. absurd (clash refl e)) (f refl)
     none false true f g = ⊎-elim (λ e. absurd (clash refl e)) (λ e. absurd (clash refl e)) (g refl)
     none false false f g = refl
@@ -148,7 +152,8 @@ module _ {s : List ℕ} {h : DeviceHeader} {D : Device} (r : Reads s h D) (j i :
       rw (drop-cons (D .edges) i none (omega arith), k .edge i none l, add-one i)
 
   pub rows-more : (a b : ℕ) → a ≡ byte s (9 + h .locations + 2 * i) → b ≡ byte s (9 + h .locations + 2 * i + 1) → (x y : ℕ) (g g' : Bool)
-      → g' ≡ ((ownedBy s j x && ownedBy s j y && touches x y (record { from = a; to = b })) || g) → (g' || toCome D j (i + 1) x y) ≡ (g || toCome D j i x y)
+      → g' ≡ ((ownedBy s j x && ownedBy s j y && touches x y (record { from = a; to = b })) || g)
+      → (g' || toCome D j (i + 1) x y) ≡ (g || toCome D j i x y)
   unfolding toCome
   rows-more a b ea eb x y g g' e =
       rw (e, ea, eb, owned-touched x y, split x y)

@@ -24,7 +24,8 @@ pub record Loaded (s : List ℕ) (t : FunctionTable) (main : ℕ) (p : Program) 
   pub reads : readProgram s ≡ ok p
   pub tabled : Tabled p t main
 
-module _ (device : List ℕ) (h : DeviceHeader) (s₁ : List ℕ) (t₁ : FunctionTable) (main₁ : ℕ) (s₂ : List ℕ) (t₂ : FunctionTable) (main₂ : ℕ)
+module _ (device : List ℕ) (h : DeviceHeader) (s₁ : List ℕ) (t₁ : FunctionTable) (main₁ : ℕ) (s₂ : List ℕ) (t₂ : FunctionTable)
+    (main₂ : ℕ)
     (schedule : List ℕ) where
   -- all that a run asks
   pub record Runnable (room₁ room₂ : ℕ) : Type 0 where

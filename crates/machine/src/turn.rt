@@ -70,7 +70,8 @@ pub fn turn(
     byte: u8,
 ) -> Turned
     requires { ⌜ Running (now first) one (now «first_rows») (now second) two (now «second_rows») machine byte ⌝ }
-    ensures { λ r. ⌜ Turns (now (first .entry)) one (now («first_rows» .entry)) (now (second .entry)) two (now («second_rows» .entry)) machine byte r ⌝ }
+    ensures { λ r. ⌜ Turns (now (first .entry)) one (now («first_rows» .entry)) (now (second .entry)) two (now («second_rows» .entry))
+        machine byte r ⌝ }
 {
     let outcome = byte % 16 == 1;
     let mut map = machine.map;

@@ -67,7 +67,8 @@ module _ (R : Region) (free : ℕ → Bool) (a b : ℕ) {B : ℕ → Bool} (mid 
       go z s (no d) rec = subst (λ (p : List ℕ). NotAfter (hops h (suc (suc n)) z) p) (sym (head v .1)) (inl (omega arith))
 
   -- the hops from a make the route
-  pub hop-route : (n : ℕ) → (a ≡ b → ⊥) → Hop (joined R) P h a (suc n) → suc n ≤ k → ((z : ℕ) → joined R a z ≡ true → 0 < P z → suc n ≤ P z)
+  pub hop-route : (n : ℕ) → (a ≡ b → ⊥) → Hop (joined R) P h a (suc n) → suc n ≤ k
+      → ((z : ℕ) → joined R a z ≡ true → 0 < P z → suc n ≤ P z)
       → ((q : List ℕ) → Way a q → suc (suc n) ≤ length q) → route R free a b ≡ some (hops h (suc (suc n)) a)
   hop-route n d o l far s =
       let e = hops-length h (suc (suc n)) a in

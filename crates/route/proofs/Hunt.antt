@@ -56,7 +56,8 @@ module _ {rows : List ℕ} {S L : ℕ → Bool} {n : ℕ} {before h : List ℕ} 
       go false t e = refl
 
 -- what is left is the whole without the newest level
-pub whole-left : (left next : LocationSet) → ((y : ℕ) → has next y ≡ true → has left y ≡ false) → (y : ℕ) → has left y ≡ (whole left next y && not (has next y))
+pub whole-left : (left next : LocationSet) → ((y : ℕ) → has next y ≡ true → has left y ≡ false) → (y : ℕ)
+    → has left y ≡ (whole left next y && not (has next y))
 unfolding whole
 whole-left left next f y = go (has left y) (has next y) (f y)
   where
@@ -97,7 +98,8 @@ pub hunt-less : {rows : List ℕ} {h h' : List ℕ} (left next : LocationSet) {l
     → (y : ℕ) → has next y ≡ true → count (whole left' next') 256 < count (whole left next) 256
 unfolding whole
 hunt-less left next {left'} {next'} u d y p =
-    let sub : (x : ℕ) → whole left' next' x ≡ true → whole left next x ≡ true = λ x q. or-left (has left x) (has next x) (sym (spread-whole u x) ∙ q) in
+    let sub : (x : ℕ) → whole left' next' x ≡ true → whole left next x ≡ true =
+    λ x q. or-left (has left x) (has next x) (sym (spread-whole u x) ∙ q) in
     count-less (whole left' next') (whole left next) 256 sub y (has-lt next y p) (spread-whole u y ∙ d y p) (whole-next left next y p)
 
 pub hunt-some : (left next : LocationSet) (y : ℕ) → has next y ≡ true → 0 < count (whole left next) 256
@@ -110,7 +112,8 @@ first-in s x y p f = ⊎-elim (λ h. h) (λ h. let m = f .most in absurd (clash 
 module _ {R : Region} {rows : List ℕ} (w : Rows R rows) where
   -- a sweep over a level
   module _ {S L : ℕ → Bool} {n : ℕ} {before h : List ℕ} {left next : LocationSet} (u : Spread rows S n L before left next h)
-      {P : ℕ → ℕ} {k : ℕ} (at : (y : ℕ) → S y ≡ true → P y ≡ k) (on : (y : ℕ) → P y ≡ k → S y ≡ true) (low : (y : ℕ) → S y ≡ true → y < n) where
+      {P : ℕ → ℕ} {k : ℕ} (at : (y : ℕ) → S y ≡ true → P y ≡ k) (on : (y : ℕ) → P y ≡ k → S y ≡ true)
+      (low : (y : ℕ) → S y ≡ true → y < n) where
     spread-joins : Joins (joined R) P (has next) L k
     spread-joins =
         record {
@@ -118,7 +121,8 @@ module _ {R : Region} {rows : List ℕ} (w : Rows R rows) where
           from = λ x l p. (getD h x 0, row-edge w (getD h x 0) x (u .edge x p), at (getD h x 0) (u .member x p));
         }
 
-    spread-hop : {P' : ℕ → ℕ} → Raised P P' (has next) k → ((y : ℕ) → P y ≡ k → P' y ≡ k) → (y : ℕ) → has next y ≡ true → Hop (joined R) P' h y k
+    spread-hop : {P' : ℕ → ℕ} → Raised P P' (has next) k → ((y : ℕ) → P y ≡ k → P' y ≡ k) → (y : ℕ) → has next y ≡ true
+        → Hop (joined R) P' h y k
     spread-hop {P'} r f y p =
         record {
           edge = row-edge w (getD h y 0) y (u .edge y p);
@@ -131,7 +135,8 @@ module _ {R : Region} {rows : List ℕ} (w : Rows R rows) where
         old z d (inr s) = sym (r .old z s) ∙ d
 
   -- the level of b's neighbours
-  pub hunt-start : {free L : ℕ → Bool} {a b : ℕ} {before h : List ℕ} (t left next : LocationSet) → Inner free a b L → t ≡ rowOf rows a → has t b ≡ false
+  pub hunt-start : {free L : ℕ → Bool} {a b : ℕ} {before h : List ℕ} (t left next : LocationSet) → Inner free a b L → t ≡ rowOf rows a
+      → has t b ≡ false
       → Spread rows (λ z. eqb z b) (b + 1) L before left next h → Hunt (joined R) (whole left next) a b (has t) left next h 1
   hunt-start {L = L} {a = a} {b = b} {h = h} t left next i f n u =
       record {
@@ -174,7 +179,8 @@ module _ {R : Region} {rows : List ℕ} (w : Rows R rows) where
           absurd (omega arith)
 
   -- one level further
-  pub hunt-next : {B F : ℕ → Bool} {a b k : ℕ} {h h' : List ℕ} {left next : LocationSet} (left' next' : LocationSet) → Hunt (joined R) B a b F left next h k
+  pub hunt-next : {B F : ℕ → Bool} {a b k : ℕ} {h h' : List ℕ} {left next : LocationSet} (left' next' : LocationSet)
+      → Hunt (joined R) B a b F left next h k
       → ((y : ℕ) → has next y ≡ true → has left y ≡ false) → ((y : ℕ) → has next y ≡ true → F y ≡ true → ⊥)
       → Spread rows (has next) 256 (has left) h left' next' h' → Hunt (joined R) B a b F left' next' h' (k + 1)
   hunt-next {B} {F} {a} {b} {k} {h} {h'} {left} {next} left' next' v d never u =
@@ -239,14 +245,16 @@ module _ (R : Region) {free B : ℕ → Bool} {a b : ℕ} (i : Inner free a b B)
   hunt-none v e = no-way R free a b (λ p w. closed-here R free a b (inner-mid i R) (v .both) (v .mine) (λ y l q. clash q (e y)) w)
 
   -- a hop noted at a, where a is at no level
-  module _ {P : ℕ → ℕ} {k : ℕ} (K : Known (joined R) B b P k) {h : List ℕ} (f : (y n : ℕ) → P y ≡ suc (suc n) → Hop (joined R) P h y (suc n)) (x : ℕ) where
+  module _ {P : ℕ → ℕ} {k : ℕ} (K : Known (joined R) B b P k) {h : List ℕ}
+      (f : (y n : ℕ) → P y ≡ suc (suc n) → Hop (joined R) P h y (suc n)) (x : ℕ) where
     hop-else : (y n : ℕ) → P y ≡ suc (suc n) → Hop (joined R) P (set h a x) y (suc n)
     hop-else y n e =
         let g = f y n e in
         let s : getD (set h a x) y 0 ≡ getD h y 0 = getD-set-other h a y x 0 (λ d. clash (K .inner y (omega arith)) (ap B d ∙ inner-first i)) in
         record { edge = ap (joined R y) s ∙ g .edge; level = ap P s ∙ g .level; least = λ z c d. let q = g .least z c d in omega arith }
 
-    hop-here : (n : ℕ) → a < length h → joined R a x ≡ true → P x ≡ n → ((z : ℕ) → joined R a z ≡ true → P z ≡ n → x ≤ z) → Hop (joined R) P (set h a x) a n
+    hop-here : (n : ℕ) → a < length h → joined R a x ≡ true → P x ≡ n → ((z : ℕ) → joined R a z ≡ true → P z ≡ n → x ≤ z)
+        → Hop (joined R) P (set h a x) a n
     hop-here n l c d g =
         let s : getD (set h a x) a 0 ≡ x = getD-set-same h a x 0 l in
         record { edge = ap (joined R a) s ∙ c; level = ap P s ∙ d; least = λ z c d. let q = g z c d in omega arith }

@@ -85,7 +85,8 @@ all-kept true s e = rw e
 all-kept false s e = refl
 
 -- ---- a turn
-pub turned-start : {rows : List ℕ} {N F : ℕ → Bool} (left out : LocationSet) → ((y : ℕ) → has out y ≡ false) → Turned rows N F (has left) 0 left out 0 false
+pub turned-start : {rows : List ℕ} {N F : ℕ → Bool} (left out : LocationSet) → ((y : ℕ) → has out y ≡ false)
+    → Turned rows N F (has left) 0 left out 0 false
 turned-start left out e =
     record {
       meets = λ m. absurd (clash m refl);
@@ -101,7 +102,8 @@ turned-start left out e =
 
 module _ {rows : List ℕ} {N F L : ℕ → Bool} (i : ℕ) {left out : LocationSet} {any : ℕ} (u : Advanced rows N F L (i * 64) left out any) where
   -- the word of the new level
-  pub level-word : {J : ℕ → Bool} (a : ℕ) → Word J i a → i < 4 → ((y : ℕ) → N y ≡ (J y && L y)) → Word N i (bitAnd a (getD (left .words) i 0))
+  pub level-word : {J : ℕ → Bool} (a : ℕ) → Word J i a → i < 4 → ((y : ℕ) → N y ≡ (J y && L y))
+      → Word N i (bitAnd a (getD (left .words) i 0))
   level-word a s h n = record { bit = λ j l. n (i * 64 + j) ∙ ap₂ _&&_ (s .bit j l) (stays j l) ∙ sym (and-on a (getD (left .words) i 0) j) }
     where
       stays : (j : ℕ) → j < 64 → L (i * 64 + j) ≡ eqb (bitOf (getD (left .words) i 0) j) 1
@@ -129,7 +131,8 @@ module _ {rows : List ℕ} {N F L : ℕ → Bool} (i : ℕ) {left out : Location
           word-at (p .here) y k l ∙ or-on (getD (out .words) i 0) w (y - i * 64)
           ∙ ap₂ _||_ (sym (word-at (set-word out i h) y k l)) (sym (word-at s y k l))
 
-      from : (y : ℕ) → has own y ≡ true → N y ≡ false → (y < i * 64) ⊎ (i * 64 ≤ y) → (y < i * 64 + 64) ⊎ (i * 64 + 64 ≤ y) → has out y ≡ true
+      from : (y : ℕ) → has own y ≡ true → N y ≡ false → (y < i * 64) ⊎ (i * 64 ≤ y) → (y < i * 64 + 64) ⊎ (i * 64 + 64 ≤ y)
+          → has out y ≡ true
       from y q f (inl k) e = sym (p .under y k) ∙ q
       from y q f (inr k) (inl l) = ⊎-elim (λ a. a) (λ a. absurd (clash a f)) (or-cases (has out y) (N y) (sym (both y k l) ∙ q))
       from y q f (inr k) (inr l) = sym (p .above y l) ∙ q
@@ -179,10 +182,12 @@ module _ {rows : List ℕ} {N F L : ℕ → Bool} (i : ℕ) {left out : Location
             ∙ ap₂ (λ (t v : Bool). t && not v) (sym (word-at (set-word left i h) y k l) ∙ u .later y k) (sym (word-at s y k l))
 
 -- ---- the whole turn
-pub level-left : {N : ℕ → Bool} (J L : ℕ → Bool) → ((y : ℕ) → N y ≡ (J y && L y)) → (y : ℕ) → N y ≡ true → (J y ≡ true) × (L y ≡ true)
+pub level-left : {N : ℕ → Bool} (J L : ℕ → Bool) → ((y : ℕ) → N y ≡ (J y && L y)) → (y : ℕ) → N y ≡ true
+    → (J y ≡ true) × (L y ≡ true)
 level-left J L n y q = and-both (J y) (L y) (sym (n y) ∙ q)
 
-module _ {rows : List ℕ} {N F : ℕ → Bool} (J : ℕ → Bool) (before : LocationSet) {left out : LocationSet} {any : ℕ} (n : (y : ℕ) → N y ≡ (J y && has before y))
+module _ {rows : List ℕ} {N F : ℕ → Bool} (J : ℕ → Bool) (before : LocationSet) {left out : LocationSet} {any : ℕ}
+    (n : (y : ℕ) → N y ≡ (J y && has before y))
     (u : Advanced rows N F (has before) 256 left out any) where
   pub level-lt : (y : ℕ) → N y ≡ true → y < 256
   level-lt y q = has-lt before y (level-left J (has before) n y q .1)

@@ -21,7 +21,8 @@ zero-bit : (w : ℕ) → bitOf w 0 ≡ w % 2
 unfolding bitOf
 zero-bit w = ap (λ (x : ℕ). x % 2) (div-one w)
 
-one-less : (t w : ℕ) → bitOf w t ≡ 1 → ((j : ℕ) → j < t → bitOf w j ≡ 0) → (bitOf (w - 1) t ≡ 0) × ((j : ℕ) → t < j → bitOf (w - 1) j ≡ bitOf w j)
+one-less : (t w : ℕ) → bitOf w t ≡ 1 → ((j : ℕ) → j < t → bitOf w j ≡ 0)
+    → (bitOf (w - 1) t ≡ 0) × ((j : ℕ) → t < j → bitOf (w - 1) j ≡ bitOf w j)
 one-less zero w on below = (zero-bit (w - 1) ∙ (omega (arith, odd)), above)
   where
     odd : w % 2 ≡ 1

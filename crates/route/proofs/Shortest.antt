@@ -25,7 +25,8 @@ module _ (R : Region) (free : ℕ → Bool) (a b : ℕ) where
   not-end y t e = clash (eq-eqb y b e) (not-of (eqb y b) (and-both (free y && not (eqb y a)) (not (eqb y b)) t .1))
 
   -- a way that meets x goes on from x
-  suffix : {c : ℕ} {p : List ℕ} (x : ℕ) → Way c p → any (eqb x) p ≡ true → (x ≡ b → ⊥) → (q : List ℕ) × (length q ≤ length p) × Way x q
+  suffix : {c : ℕ} {p : List ℕ} (x : ℕ) → Way c p → any (eqb x) p ≡ true → (x ≡ b → ⊥)
+      → (q : List ℕ) × (length q ≤ length p) × Way x q
   suffix x (last {x = c} j) h n = go (ℕ-discrete x c)
     where
       go : Dec (x ≡ c) → (q : List ℕ) × (length q ≤ 2) × Way x q
@@ -33,7 +34,8 @@ module _ (R : Region) (free : ℕ → Bool) (a b : ℕ) where
       go (no e) = absurd (false≢true (rw (ne-eqb x c e, ne-eqb x b n) at h))
   suffix x (then {x = c} {y = y} {p = p} j t w) h n = go (ℕ-discrete x c) (λ k. suffix x w k n)
     where
-      go : Dec (x ≡ c) → (any (eqb x) p ≡ true → (q : List ℕ) × (length q ≤ length p) × Way x q) → (q : List ℕ) × (length q ≤ suc (length p)) × Way x q
+      go : Dec (x ≡ c) → (any (eqb x) p ≡ true → (q : List ℕ) × (length q ≤ length p) × Way x q)
+          → (q : List ℕ) × (length q ≤ suc (length p)) × Way x q
       go (yes e) rec = (x ∷ p, omega arith, then {x = x} {y = y} (rw e j) t w)
       go (no e) rec = let s = rec (rw (ne-eqb x c e) at h) in (s .0, let l = s .1 in omega arith, s .2)
 

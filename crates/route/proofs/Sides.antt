@@ -51,7 +51,8 @@ raise P N k = record { new = λ y e. rw e; old = λ y e. rw e }
 abbrev pub Even : (ℕ → ℕ → Bool) → Type 0
 Even E = (x y : ℕ) → E x y ≡ true → E y x ≡ true
 
-pub swap : {E : ℕ → ℕ → Bool} {B : ℕ → Bool} {p q : ℕ} {P Q : ℕ → ℕ} {L : ℕ → Bool} {k m : ℕ} → Even E → Both E B p q P Q L k m → Both E B q p Q P L m k
+pub swap : {E : ℕ → ℕ → Bool} {B : ℕ → Bool} {p q : ℕ} {P Q : ℕ → ℕ} {L : ℕ → Bool} {k m : ℕ} → Even E
+    → Both E B p q P Q L k m → Both E B q p Q P L m k
 swap t v =
     record {
       here = v .there;
@@ -61,16 +62,19 @@ swap t v =
       apart = λ x y h l e. v .apart y x l h (t x y e);
     }
 
-pub joins-fewer : {E : ℕ → ℕ → Bool} {P : ℕ → ℕ} {J L L' : ℕ → Bool} {k : ℕ} → ((x : ℕ) → L' x ≡ true → L x ≡ true) → Joins E P J L k → Joins E P J L' k
+pub joins-fewer : {E : ℕ → ℕ → Bool} {P : ℕ → ℕ} {J L L' : ℕ → Bool} {k : ℕ} → ((x : ℕ) → L' x ≡ true → L x ≡ true)
+    → Joins E P J L k → Joins E P J L' k
 joins-fewer f j = record { all = λ x y h. j .all x y (f x h); from = λ x h. j .from x (f x h) }
 
 module _ {E : ℕ → ℕ → Bool} {B : ℕ → Bool} {p q : ℕ} {P Q : ℕ → ℕ} {J L : ℕ → Bool} {k m : ℕ}
     (t : Even E) (v : Both E B p q P Q L k m) (j : Joins E P J L k) where
   -- from the newest level an edge leads to a level or to what comes next
-  pub onward : (x y : ℕ) → B x ≡ true → E x y ≡ true → 0 < P y → ((0 < P x) × (P x ≤ P y + 1)) ⊎ ((P y ≡ k) × (J x ≡ true) × (L x ≡ true))
+  pub onward : (x y : ℕ) → B x ≡ true → E x y ≡ true → 0 < P y
+      → ((0 < P x) × (P x ≤ P y + 1)) ⊎ ((P y ≡ k) × (J x ≡ true) × (L x ≡ true))
   onward x y r e h = ⊎-elim (λ l. inl (v .here .closed x y r e h l)) (λ l. go l (eq-zero-or-pos (P x)) (eq-zero-or-pos (Q x))) (side (P y) k)
     where
-      go : k ≤ P y → (P x ≡ 0) ⊎ (0 < P x) → (Q x ≡ 0) ⊎ (0 < Q x) → ((0 < P x) × (P x ≤ P y + 1)) ⊎ ((P y ≡ k) × (J x ≡ true) × (L x ≡ true))
+      go : k ≤ P y → (P x ≡ 0) ⊎ (0 < P x) → (Q x ≡ 0) ⊎ (0 < Q x)
+          → ((0 < P x) × (P x ≤ P y + 1)) ⊎ ((P y ≡ k) × (J x ≡ true) × (L x ≡ true))
       go l (inr z) d = inl (z, let s = v .here .most x in omega arith)
       go l (inl z) (inr d) = absurd (v .apart y x h d (t x y e))
       go l (inl z) (inl d) =
@@ -131,7 +135,8 @@ module _ {E : ℕ → ℕ → Bool} {B : ℕ → Bool} {p q : ℕ} {P Q : ℕ �
                 (λ c. let g = u .new x (n x ∙ both-and (J x) (L x) (c .1) (c .2)) in let d : P y ≡ k = c .0 in (omega arith, omega arith))
                 (onward x y r e (omega arith))
 
-    module _ {F L' : ℕ → Bool} (f : Joins E Q F L m) (never : (y : ℕ) → N y ≡ true → F y ≡ true → ⊥) (l : (y : ℕ) → L' y ≡ (L y && not (N y))) where
+    module _ {F L' : ℕ → Bool} (f : Joins E Q F L m) (never : (y : ℕ) → N y ≡ true → F y ≡ true → ⊥)
+        (l : (y : ℕ) → L' y ≡ (L y && not (N y))) where
       fewer : (y : ℕ) → L' y ≡ true → (L y ≡ true) × (N y ≡ false)
       fewer y h = let r = and-both (L y) (not (N y)) (sym (l y) ∙ h) in (r .0, not-of (N y) (r .1))
 

@@ -45,7 +45,8 @@ count-le f g zero h = omega arith
 count-le f g (suc n) h = let r = count-le f g n h in let s = one-le (f n) (g n) (h n) in omega arith
 
 -- one that passes no more
-pub count-less : (f g : ℕ → Bool) (n : ℕ) → ((y : ℕ) → f y ≡ true → g y ≡ true) → (y : ℕ) → y < n → f y ≡ false → g y ≡ true → count f n < count g n
+pub count-less : (f g : ℕ → Bool) (n : ℕ) → ((y : ℕ) → f y ≡ true → g y ≡ true) → (y : ℕ) → y < n → f y ≡ false
+    → g y ≡ true → count f n < count g n
 unfolding count
 count-less f g zero h y l p q = absurd (omega arith)
 count-less f g (suc n) h y l p q = go (ℕ-discrete y n) (λ k. count-less f g n h y k p q)

@@ -75,7 +75,8 @@ module _ {S : ℕ → Bool} {v : ℕ} where
         at y k q (no d) = getD-set-other h n y v 0 d ∙ u .at y (omega arith) q
 
 module _ {rows : List ℕ} {S L : ℕ → Bool} where
-  pub spread-start : {left next : LocationSet} {h : List ℕ} → ((y : ℕ) → has left y ≡ L y) → ((y : ℕ) → has next y ≡ false) → Spread rows S 0 L h left next h
+  pub spread-start : {left next : LocationSet} {h : List ℕ} → ((y : ℕ) → has left y ≡ L y) → ((y : ℕ) → has next y ≡ false)
+      → Spread rows S 0 L h left next h
   spread-start {left} {next} e f =
       record {
         stay = λ y. e y ∙ all-left (L y) ∙ ap (λ (t : Bool). L y && not t) (sym (f y));

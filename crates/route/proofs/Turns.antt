@@ -78,7 +78,8 @@ module _ {R : Region} {rows : List ℕ} (w : Rows R rows) where
   row-joins : (c : ℕ) (s : LocationSet) {L : ℕ → Bool} → s ≡ rowOf rows c → Joins (joined R) (only c) (has s) L 1
   row-joins c s e = start-joins c (λ x. ap (λ (r : LocationSet). has r x) e ∙ w .row c x ∙ joined-turn R c x)
 
-  pub turn-start : {free B : ℕ → Bool} {a b : ℕ} (s t : LocationSet) → Inner free a b B → s ≡ rowOf rows b → t ≡ rowOf rows a → has t b ≡ false
+  pub turn-start : {free B : ℕ → Bool} {a b : ℕ} (s t : LocationSet) → Inner free a b B → s ≡ rowOf rows b → t ≡ rowOf rows a
+      → has t b ≡ false
       → Turn (joined R) B b a (has s) (has t) B 1
   turn-start {a = a} {b = b} s t i e f n =
       record {
@@ -120,7 +121,8 @@ module _ {R : Region} {rows : List ℕ} (w : Rows R rows) where
   turns-next t (inr v) n small never l j = inl (turn-next t v n small never l j)
 
 module _ (R : Region) {free B : ℕ → Bool} {a b : ℕ} (i : Inner free a b B) (d : a ≡ b → ⊥) where
-  found-here : {J F L : ℕ → Bool} {k : ℕ} → Turn (joined R) B b a J F L k → (y : ℕ) → L y ≡ true → J y ≡ true → F y ≡ true → k + 1 ≡ edgesOf (route R free a b)
+  found-here : {J F L : ℕ → Bool} {k : ℕ} → Turn (joined R) B b a J F L k → (y : ℕ) → L y ≡ true → J y ≡ true → F y ≡ true
+      → k + 1 ≡ edgesOf (route R free a b)
   found-here v y l j f =
       let r = meet R free a b (inner-mid i R) (v .both) (v .mine) (v .other) y l j f in
       let n = r .2 in

@@ -21,7 +21,8 @@ module _ (R : Region) (free : ℕ → Bool) (a b : ℕ) {B : ℕ → Bool} (mid 
   Way x p = Along R free a b x p
 
   -- a short way from x lies in the levels of b
-  pub near : {P : ℕ → ℕ} {k : ℕ} → Known (joined R) B b P k → {x : ℕ} {p : List ℕ} → Way x p → B x ≡ true → length p ≤ k → (0 < P x) × (P x ≤ length p)
+  pub near : {P : ℕ → ℕ} {k : ℕ} → Known (joined R) B b P k → {x : ℕ} {p : List ℕ} → Way x p → B x ≡ true → length p ≤ k
+      → (0 < P x) × (P x ≤ length p)
   near w (last {x = x} j) r h =
       let e = w .end in
       let c = w .closed x b r j (omega arith) (omega arith) in

@@ -10,7 +10,8 @@ ghost use Rattle.route.specs.Sweeps.{Word, Joined};
 // With what the members in word i of a set are joined to.
 pub fn join_word(rows: &[u64; 1024], i: usize, word: u64, to: LocationSet) -> LocationSet
     requires { ⌜ i < 4 ⌝ }
-    ensures { λ r. ⌜ ((S : ℕ → Bool) → Word S i word → Joined (now (rows .entry)) S (i * 64) to → Joined (now (rows .entry)) S (i * 64 + 64) r) ⌝ }
+    ensures { λ r. ⌜ ((S : ℕ → Bool) → Word S i word → Joined (now (rows .entry)) S (i * 64) to
+        → Joined (now (rows .entry)) S (i * 64 + 64) r) ⌝ }
 {
     let mut out = to;
     let mut w = word;

@@ -58,8 +58,10 @@ module _ {s : Side} where
         → OpRule C Γ o (init magic x l) (bind (take Γ l) x (qubit l)) (alloc magic l ε)
     T-Free : {x : ℕ} {l : Place s} → slot (Γ .slots) x ≡ qubit l → OpRule C Γ o (free x) (bind (give Γ l) x unbound) (release l ε)
     T-Gate : {g x : ℕ} {l : Place s} → slot (Γ .slots) x ≡ qubit l → OpRule C Γ o (gate g x) Γ ε
-    T-Meas1 : {y b x : ℕ} {l : Place s} → slot (Γ .slots) y ≡ unbound → slot (Γ .slots) x ≡ qubit l → OpRule C Γ o (measure y b x) (bind Γ y (bool tt)) ε
-    T-Meas2 : {y b x e z : ℕ} {l k : Place s} → slot (Γ .slots) y ≡ unbound → slot (Γ .slots) x ≡ qubit l → slot (Γ .slots) z ≡ qubit k → x ≢ z
+    T-Meas1 : {y b x : ℕ} {l : Place s} → slot (Γ .slots) y ≡ unbound → slot (Γ .slots) x ≡ qubit l
+        → OpRule C Γ o (measure y b x) (bind Γ y (bool tt)) ε
+    T-Meas2 : {y b x e z : ℕ} {l k : Place s} → slot (Γ .slots) y ≡ unbound → slot (Γ .slots) x ≡ qubit l → slot (Γ .slots) z ≡ qubit k
+        → x ≢ z
         → OpRule C Γ o (merge y b x e z) (bind Γ y (bool tt)) (connect o b l e k ε)
     T-MkRef : {r y : ℕ} → slot (Γ .slots) r ≡ unbound → slot (Γ .slots) y ≡ bool tt → OpRule C Γ o (newRef r y) (bind Γ r (ref tt)) ε
     T-Deref : {y r : ℕ} → slot (Γ .slots) y ≡ unbound → slot (Γ .slots) r ≡ ref tt → OpRule C Γ o (getRef y r) (bind Γ y (bool tt)) ε
@@ -69,7 +71,8 @@ module _ {s : Side} where
   -- argument i is a qubit at location i
   pub data Arguments (Γ : Env s) : List ℕ → List (Place s) → Type 0 where
     no-more : {ls : List (Place s)} → Arguments Γ [] ls
-    and : {x : ℕ} {xs : List ℕ} {l : Place s} {ls : List (Place s)} → slot (Γ .slots) x ≡ qubit l → Arguments Γ xs ls → Arguments Γ (x ∷ xs) (l ∷ ls)
+    and : {x : ℕ} {xs : List ℕ} {l : Place s} {ls : List (Place s)} → slot (Γ .slots) x ≡ qubit l → Arguments Γ xs ls
+        → Arguments Γ (x ∷ xs) (l ∷ ls)
 
   pub record Callable (C : Context s) (Γ : Env s) (f : ℕ) (ls : List (Place s)) (xs : List ℕ) : Type 0 where
     pub earlier : f < length (C .functions)
@@ -84,7 +87,8 @@ module _ {s : Side} where
 mutual
   pub data StatementRule {s : Side} (C : Context s) : Env s → Statement s → Env s → Commands s → Type 0 where
     T-Op : {Γ Δ : Env s} {o : ℕ} {a : Op s} {c : Commands s} → OpRule C Γ o a Δ c → StatementRule C Γ (op o a) Δ c
-    T-If : {Γ Δ : Env s} {o y : ℕ} {b b′ : Block s} {c c′ : Commands s} → slot (Γ .slots) y ≡ bool tt → BlockRule C Γ b Δ c → BlockRule C Γ b′ Δ c′
+    T-If : {Γ Δ : Env s} {o y : ℕ} {b b′ : Block s} {c c′ : Commands s} → slot (Γ .slots) y ≡ bool tt → BlockRule C Γ b Δ c
+        → BlockRule C Γ b′ Δ c′
         → StatementRule C Γ (if o y b b′) Δ (either c c′ ε)
     T-While : {Γ : Env s} {o r : ℕ} {b : Block s} {c : Commands s} → slot (Γ .slots) r ≡ ref tt → BlockRule C Γ b Γ c
         → StatementRule C Γ (while o r b) Γ (repeat c ε)
@@ -106,7 +110,8 @@ mutual
 pub data FunctionsRule : List Function → List Signature → List Signature → Type 0 where
   T-NoFun : {gs : List Signature} → FunctionsRule [] gs gs
   T-Fundecl : {g : Function} {fs : List Function} {gs hs : List Signature} {d : Typed parameter}
-      → BlockRule (bodyContext gs g) (entry g) (g .body) (d .env) (d .commands) → FunctionsRule fs (signatureOf g d ∷ gs) hs → FunctionsRule (g ∷ fs) gs hs
+      → BlockRule (bodyContext gs g) (entry g) (g .body) (d .env) (d .commands) → FunctionsRule fs (signatureOf g d ∷ gs) hs
+      → FunctionsRule (g ∷ fs) gs hs
 
 -- `G | L ⊢ l ~ k`: a path over free locations of the region joins the ends
 abbrev pub Linked : Region → List Bool → Place device → Place device → Type 0
@@ -115,10 +120,12 @@ Linked R L l k = (p : List ℕ) × Path R (λ i. getD L i false) (l .no) (k .no)
 -- Figure 12
 pub data Connects (R : Region) : List Bool → Commands device → List Bool → Type 0 where
   C-Empty : {L : List Bool} → Connects R L ε L
-  C-Alloc : {L M : List Bool} {q : Preparation} {l : Place device} {c : Commands device} → getD L (l .no) false ≡ true → Connects R (set L (l .no) false) c M
+  C-Alloc : {L M : List Bool} {q : Preparation} {l : Place device} {c : Commands device} → getD L (l .no) false ≡ true
+      → Connects R (set L (l .no) false) c M
       → Connects R L (alloc q l c) M
   C-Free : {L M : List Bool} {l : Place device} {c : Commands device} → Connects R (set L (l .no) true) c M → Connects R L (release l c) M
-  C-Merge : {L M : List Bool} {o b e : ℕ} {l k : Place device} {c : Commands device} → Linked R L l k → Connects R L c M → Connects R L (connect o b l e k c) M
+  C-Merge : {L M : List Bool} {o b e : ℕ} {l k : Place device} {c : Commands device} → Linked R L l k → Connects R L c M
+      → Connects R L (connect o b l e k c) M
   C-If : {L M N : List Bool} {a b c : Commands device} → Connects R L a M → Connects R L b M → Connects R M c N → Connects R L (either a b c) N
   C-Loop : {L M : List Bool} {a c : Commands device} → Connects R L a L → Connects R L c M → Connects R L (repeat a c) M
 

@@ -70,7 +70,8 @@ silent φ φs is = record { next = record { top = φ; below = φs; items = is };
 module _ (R : Region) (fs : List Function) (outcome : Bool) (isFree : ℕ → Bool) where
   -- binding overwrites a bool or a reference but not a qubit
   abbrev pub floor : {s : Side} → Actual s → Setting s device Bool
-  floor σ = record { named = locate σ; mayBind = holdsNoQubit; inside = λ l. owns R (l .no); isFree = λ l. isFree (l .no); outcome = outcome; known = λ v. v }
+  floor σ =
+      record { named = locate σ; mayBind = holdsNoQubit; inside = λ l. owns R (l .no); isFree = λ l. isFree (l .no); outcome = outcome; known = λ v. v }
 
   -- 21 comes last
   abbrev pub edgesOf : Act device → ℕ → Check ℕ

@@ -20,4 +20,5 @@ Within n (merges b l e k) = Unit {0}
 
 abbrev pub Applies : Act → ℕ → List ℕ → List ℕ → Type 0
 Applies act j before after =
-    (a : slots.Act device) (occupancy : List ℕ) → actOf a ≡ act → Within (length occupancy) a → Maps before occupancy → Maps after (written j a occupancy)
+    (a : slots.Act device) (occupancy : List ℕ) → actOf a ≡ act → Within (length occupancy) a → Maps before occupancy
+    → Maps after (written j a occupancy)

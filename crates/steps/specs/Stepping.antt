@@ -54,7 +54,8 @@ pub record NoBlock (b : ℕ) : Type 0 where
 -- the step of an operation
 abbrev pub Acts : List ℕ → List ℕ → LocationSet → List ℕ → Bool → Job → Stepped → Type 0
 Acts s rows owned map v j r =
-    (p : Program) (J : rules.Job) (R : Region) (occupancy : List ℕ) → ProgramIn s p → Stands s p J j → Owned R owned → Rows R rows → Maps map occupancy
+    (p : Program) (J : rules.Job) (R : Region) (occupancy : List ℕ) → ProgramIn s p → Stands s p J j → Owned R owned → Rows R rows
+    → Maps map occupancy
     → Follows s p (step R (p .functions) v (freeIn R occupancy) J) r
 
 -- with the table of the program's functions

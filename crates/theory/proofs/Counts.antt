@@ -77,7 +77,8 @@ mutual
   statements-sum C done T-Unit = refl
   statements-sum C (t ⨾ ts) (T-Seq {c = c} {d = d} r rs) = size-then c d ∙ ap₂ _+_ (statement-sum C t r) (statements-sum C ts rs)
 
-  block-sum : {s : Side} (C : Context s) (b : Block s) {Γ Δ : Env s} {c : Commands s} → BlockRule C Γ b Δ c → sizeOf c ≡ blockSize (callees (C .functions)) b
+  block-sum : {s : Side} (C : Context s) (b : Block s) {Γ Δ : Env s} {c : Commands s} → BlockRule C Γ b Δ c
+      → sizeOf c ≡ blockSize (callees (C .functions)) b
   block-sum C (block o ts) (T-Close r e) = statements-sum C ts r
 
 pub block-size : BlockSize

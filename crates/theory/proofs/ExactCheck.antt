@@ -52,7 +52,8 @@ judged-sound R size p read =
         connected : Connects R (R .owned) (t .commands) L
         connected = walk-decides R size p t L read d .0 w
 
-judged-complete : (R : Region) (size n : ℕ) (p : trees.Program) (c : Commands trees.device) → ProgramRead size p → ProgramRule R p c → sizeOf c ≡ n → n ≤ 65535
+judged-complete : (R : Region) (size n : ℕ) (p : trees.Program) (c : Commands trees.device) → ProgramRead size p → ProgramRule R p c
+    → sizeOf c ≡ n → n ≤ 65535
     → judged R p ≡ ok n
 unfolding _>>=_ _>>_
 judged-complete R size n p c read rule count small =

@@ -76,15 +76,18 @@ module _ {s : Side} where
       by (T-MInit p q r)
   op-sound C Γ o (free x) = holds-bind (qubit-held (slot (Γ .slots) x) o) λ l p. by (T-Free p)
   op-sound C Γ o (gate g x) = holds-bind (qubit-held (slot (Γ .slots) x) o) λ l p. by (T-Gate p)
-  op-sound C Γ o (measure y b x) = holds-then (unbound-sound (slot (Γ .slots) y) o) λ _ p. holds-bind (qubit-held (slot (Γ .slots) x) o) λ l q. by (T-Meas1 p q)
+  op-sound C Γ o (measure y b x) =
+      holds-then (unbound-sound (slot (Γ .slots) y) o) λ _ p. holds-bind (qubit-held (slot (Γ .slots) x) o) λ l q. by (T-Meas1 p q)
   op-sound C Γ o (merge y b x c z) =
       holds-then (unbound-sound (slot (Γ .slots) y) o) λ _ p.
       holds-bind (qubit-held (slot (Γ .slots) x) o) λ l q.
       holds-bind (qubit-held (slot (Γ .slots) z) o) λ k r.
       holds-then (differ-sound x z o) λ _ n.
       by (T-Meas2 p q r n)
-  op-sound C Γ o (newRef r y) = holds-then (unbound-sound (slot (Γ .slots) r) o) λ _ p. holds-bind (bool-sound (slot (Γ .slots) y) o) λ b q. by (T-MkRef p q)
-  op-sound C Γ o (getRef y r) = holds-then (unbound-sound (slot (Γ .slots) y) o) λ _ p. holds-bind (ref-sound (slot (Γ .slots) r) o) λ b q. by (T-Deref p q)
+  op-sound C Γ o (newRef r y) =
+      holds-then (unbound-sound (slot (Γ .slots) r) o) λ _ p. holds-bind (bool-sound (slot (Γ .slots) y) o) λ b q. by (T-MkRef p q)
+  op-sound C Γ o (getRef y r) =
+      holds-then (unbound-sound (slot (Γ .slots) y) o) λ _ p. holds-bind (ref-sound (slot (Γ .slots) r) o) λ b q. by (T-Deref p q)
   op-sound C Γ o (setRef r y) = holds-bind (ref-sound (slot (Γ .slots) r) o) λ _ p. holds-bind (bool-sound (slot (Γ .slots) y) o) λ b q. by (T-Assign p q)
   op-sound C Γ o (constant y v) = holds-then (unbound-sound (slot (Γ .slots) y) o) λ _ p. by (T-Bool p)
 
@@ -152,7 +155,8 @@ module _ {s : Side} (C : Context s) (Γ : Env s) where
   arguments-complete o no-more = refl
   arguments-complete o (and {l = l} p r) = rw (p, eqb-same (l .no)) (arguments-complete o r)
 
-  callable-sound : (S : Scope) (o f : ℕ) (ls : List (Place s)) (xs : List ℕ) → CallRead S f ls xs → Matches (C .functions) (S .earlier) → AllEnd (C .functions)
+  callable-sound : (S : Scope) (o f : ℕ) (ls : List (Place s)) (xs : List ℕ) → CallRead S f ls xs → Matches (C .functions) (S .earlier)
+      → AllEnd (C .functions)
       → Holds (λ u. Callable C Γ f ls xs) (callable (kinds C Γ) o (Γ .slots) ls xs)
   callable-sound S o f ls xs R M H =
       let e : f < length (C .functions) = subst (λ (n : ℕ). f < n) (sym (M .count)) (R .earlier) in
@@ -185,7 +189,8 @@ abbrev BlockOk : {s : Side} → Context s → Env s → Block s → Typed s → 
 BlockOk C Γ b d = BlockRule C Γ b (d .env) (d .commands)
 
 -- T-Call, with the environment as typing has it after a call
-call-rule : {s : Side} (C : Context s) (Γ : Env s) (i f : ℕ) (ls : List (Place s)) (xs : List ℕ) → Callable C Γ f ls xs → AllEnd (C .functions) → Linear C Γ
+call-rule : {s : Side} (C : Context s) (Γ : Env s) (i f : ℕ) (ls : List (Place s)) (xs : List ℕ) → Callable C Γ f ls xs → AllEnd (C .functions)
+    → Linear C Γ
     → StatementRule C Γ (call i f ls xs) (afterCall (signature (C .functions) f) ls xs Γ)
     (commandsAt (λ p. at ls (p .no)) (signature (C .functions) f .commands))
 call-rule C Γ i f ls xs J H I = rw (callable-agrees C Γ f ls xs J H I) at (T-Call {o = i} J)
@@ -196,11 +201,14 @@ pub record Known {s : Side} (C : Context s) (S : Scope) : Type 0 where
   pub match : Matches (C .functions) (S .earlier)
 
 mutual
-  pub statement-sound : {s : Side} (C : Context s) (S : Scope) (Γ : Env s) (t : Statement s) {d o p : ℕ} → StatementRead S d o p t → Known C S → Linear C Γ
+  pub statement-sound : {s : Side} (C : Context s) (S : Scope) (Γ : Env s) (t : Statement s) {d o p : ℕ} → StatementRead S d o p t → Known C S
+      → Linear C Γ
       → Holds (StatementOk C Γ t) (typeStatement C Γ t)
   statement-sound C S Γ (op i a) r K I = holds-bind (op-sound C Γ i a) λ d j. by (T-Op j)
   statement-sound C S Γ (if i y b b′) (if-read h r r′) K I =
-      holds-then (bool-sound (slot (Γ .slots) y) i) λ _ p. holds-bind (block-sound C S Γ b r K I) λ d q. holds-bind (block-sound C S Γ b′ r′ K I) λ e w.
+      holds-then (bool-sound (slot (Γ .slots) y) i) λ _ p.
+      holds-bind (block-sound C S Γ b r K I) λ d q.
+      holds-bind (block-sound C S Γ b′ r′ K I) λ e w.
       holds-then (holds-need (sameEnv (d .env) (e .env)) 18 i) λ _ z. by (T-If p q (rw (env-sound (d .env) (e .env) z) w))
   statement-sound C S Γ (while i y b) (while-read h r) K I =
       holds-then (ref-sound (slot (Γ .slots) y) i) λ _ p. holds-bind (block-sound C S Γ b r K I) λ d q.
@@ -208,7 +216,8 @@ mutual
   statement-sound C S Γ (call i f ls xs) (call-read R) K I =
       holds-then (callable-sound C Γ S i f ls xs R (K .match) (K .end)) λ _ J. by (call-rule C Γ i f ls xs J (K .end) I)
 
-  pub statements-sound : {s : Side} (C : Context s) (S : Scope) (Γ : Env s) (ts : Statements s) {d o p : ℕ} → StatementsRead S d o p ts → Known C S → Linear C Γ
+  pub statements-sound : {s : Side} (C : Context s) (S : Scope) (Γ : Env s) (ts : Statements s) {d o p : ℕ} → StatementsRead S d o p ts → Known C S
+      → Linear C Γ
       → Holds (StatementsOk C Γ ts) (typeStatements C Γ ts)
   statements-sound C S Γ done r K I = by T-Unit
   statements-sound C S Γ (t ⨾ ts) (next-read r r′) K I =
@@ -232,7 +241,8 @@ mutual
   statement-complete C S (while i y b) (T-While {Γ = Γ} p j) (while-read h r) H I = rw (p, block-complete C S b j r H I, env-refl Γ)
   statement-complete C S (call i f ls xs) (T-Call {Γ = Γ} J) r H I = rw (callable-complete C Γ i f ls xs J, callable-agrees C Γ f ls xs J H I)
 
-  pub statements-complete : {s : Side} (C : Context s) (S : Scope) (ts : Statements s) {Γ Δ : Env s} {c : Commands s} {d o p : ℕ} → StatementsRule C Γ ts Δ c
+  pub statements-complete : {s : Side} (C : Context s) (S : Scope) (ts : Statements s) {Γ Δ : Env s} {c : Commands s} {d o p : ℕ}
+      → StatementsRule C Γ ts Δ c
       → StatementsRead S d o p ts → AllEnd (C .functions) → Linear C Γ → typeStatements C Γ ts ≡ ok (record { env = Δ; commands = c })
   statements-complete C S done T-Unit r H I = refl
   statements-complete C S (t ⨾ ts) (T-Seq j k) (next-read r r′) H I =
@@ -243,14 +253,16 @@ mutual
   block-complete C S (block i ts) (T-Close j e) (block-read r) H I = rw (statements-complete C S ts j r H I, e)
 
 -- functions, each by those before it
-functions-sound : (fs : List Function) {earlier : List Function} {o q : ℕ} (gs : List Signature) → FunctionsRead earlier o fs q → AllEnd gs → Matches gs earlier
+functions-sound : (fs : List Function) {earlier : List Function} {o q : ℕ} (gs : List Signature) → FunctionsRead earlier o fs q → AllEnd gs
+    → Matches gs earlier
     → Holds (λ hs. FunctionsRule fs gs hs) (typeFunctions gs fs)
 functions-sound [] gs none-read H M = by T-NoFun
 functions-sound (g ∷ fs) {earlier = earlier} gs (function-read k m h b r) H M =
     holds-bind (block-sound (bodyContext gs g) _ (entry g) (g .body) b (record { end = H; match = M }) (linear-entry gs g h (omega arith))) λ d j.
     holds-map (λ hs w. T-Fundecl j w) (functions-sound fs (signatureOf g d ∷ gs) r (function-ends gs g _ h m H b j, H) (more-match gs earlier g d M))
 
-functions-complete : (fs : List Function) {earlier : List Function} {o q : ℕ} {gs hs : List Signature} → FunctionsRule fs gs hs → FunctionsRead earlier o fs q
+functions-complete : (fs : List Function) {earlier : List Function} {o q : ℕ} {gs hs : List Signature} → FunctionsRule fs gs hs
+    → FunctionsRead earlier o fs q
     → AllEnd gs → typeFunctions gs fs ≡ ok hs
 unfolding _>>=_ _>>_
 functions-complete [] T-NoFun none-read H = refl
@@ -265,7 +277,8 @@ program-sound owned size p R = holds-bind (functions-sound (p .functions) [] (R 
     known : (gs : List Signature) → FunctionsRule (p .functions) [] gs → Known (mainContext owned gs) (record { places = 256; earlier = p .functions })
     known gs w = record { end = functions-end (p .functions) (R .functions) w tt; match = functions-match (p .functions) [] w no-match }
 
-program-complete : (owned : List Bool) (size : ℕ) (p : Program) (t : Typed device) → ProgramRead size p → Derives owned p t → typeProgram owned p ≡ ok t
+program-complete : (owned : List Bool) (size : ℕ) (p : Program) (t : Typed device) → ProgramRead size p → Derives owned p t
+    → typeProgram owned p ≡ ok t
 unfolding _>>=_ _>>_
 program-complete owned size p t R D =
     let gs : List Signature = D .signatures in
@@ -278,10 +291,12 @@ exact-typing owned size p t R = ((λ e. holds-at (program-sound owned size p R) 
 
 -- a bool or a reference stays as it is
 module _ {s : Side} where
-  other-stays : (φ : List (Kind s)) (y x : ℕ) (k : Kind s) → isClassical (slot φ y) ≡ false → isClassical (slot φ x) ≡ true → slot (set φ y k) x ≡ slot φ x
+  other-stays : (φ : List (Kind s)) (y x : ℕ) (k : Kind s) → isClassical (slot φ y) ≡ false → isClassical (slot φ x) ≡ true
+      → slot (set φ y k) x ≡ slot φ x
   other-stays φ y x k n h = getD-set-other φ y x k unbound (λ e. false≢true (sym n ∙ ap (λ (z : ℕ). isClassical (slot φ z)) (sym e) ∙ h))
 
-  op-stays : {C : Context s} {Γ Δ : Env s} {o : ℕ} {a : Op s} {c : Commands s} → OpRule C Γ o a Δ c → (x : ℕ) → isClassical (slot (Γ .slots) x) ≡ true
+  op-stays : {C : Context s} {Γ Δ : Env s} {o : ℕ} {a : Op s} {c : Commands s} → OpRule C Γ o a Δ c → (x : ℕ)
+      → isClassical (slot (Γ .slots) x) ≡ true
       → slot (Δ .slots) x ≡ slot (Γ .slots) x
   op-stays {Γ = Γ} (T-Init {x = y} p q r) x h = other-stays (Γ .slots) y x _ (ap isClassical p) h
   op-stays {Γ = Γ} (T-MInit {x = y} p q r) x h = other-stays (Γ .slots) y x _ (ap isClassical p) h
@@ -320,7 +335,8 @@ mutual
       let e = statement-stays C t j x r h in
       statements-stay C ts k x r (ap isClassical e ∙ h) ∙ e
 
-  pub block-alike : {s : Side} (C : Context s) (b : Block s) {Γ Δ : Env s} {c : Commands s} → BlockRule C Γ b Δ c → (x : ℕ) → x < 32 → Alike Γ Δ x
+  pub block-alike : {s : Side} (C : Context s) (b : Block s) {Γ Δ : Env s} {c : Commands s} → BlockRule C Γ b Δ c → (x : ℕ) → x < 32
+      → Alike Γ Δ x
   block-alike C (block i ts) (T-Close {Γ = Γ} {Δ = Δ} j e) x r = ⊎-elim
       (λ q. inl (slot-narrowed (Γ .slots) (Δ .slots) x r ∙ q))
       (λ q. inr (q .0, q .1, slot-narrowed (Γ .slots) (Δ .slots) x r ∙ q .2))

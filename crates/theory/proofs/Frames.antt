@@ -56,7 +56,11 @@ module _ {s : Side} (ρ : Place s → Place device) where
 
   pub fits-set : {vs : List (Kind s)} {φ : Frame} (x : ℕ) (k : Kind s) (v : Slot device Bool) → Fits vs φ → Match k v → Fits (set vs x k) (set φ x v)
   fits-set {vs} {φ} x k v F m =
-      record { kinds-long = length-set vs x k ∙ F .kinds-long; slots-long = length-set φ x v ∙ F .slots-long; each = λ y. go y (ℕ-discrete y x) (decLt x 32) }
+      record {
+        kinds-long = length-set vs x k ∙ F .kinds-long;
+        slots-long = length-set φ x v ∙ F .slots-long;
+        each = λ y. go y (ℕ-discrete y x) (decLt x 32);
+      }
     where
       go : (y : ℕ) → Dec (y ≡ x) → Dec (x < 32) → Match (slot (set vs x k) y) (slot (set φ x v) y)
       go y (no n) d = rw (getD-set-other vs x y k unbound n, getD-set-other φ x y v unbound n) (F .each y)
@@ -87,7 +91,8 @@ module _ {s : Side} (ρ : Place s → Place device) where
       go x (no h) = let r = length-narrowed vs₀ vs in rw (slot-out (narrowed vs₀ vs) x (omega arith), slot-out φ x (omega (arith, F .slots-long)))
 
   -- the return, argument by argument
-  pub fits-back : {Γ : Env s} {χ : Frame} (i : ℕ) (f : ℕ → Kind s) (g : ℕ → Bool) (xs : List ℕ) (ls : List (Place s)) → Fits (Γ .slots) χ → Arguments Γ xs ls
+  pub fits-back : {Γ : Env s} {χ : Frame} (i : ℕ) (f : ℕ → Kind s) (g : ℕ → Bool) (xs : List ℕ) (ls : List (Place s)) → Fits (Γ .slots) χ
+      → Arguments Γ xs ls
       → distinct xs ≡ true → ((j : ℕ) → j < length xs → Settled (f (i + j)) (g (i + j)) (at ls j))
       → Fits (stored (upTo i (length xs) f) xs (Γ .slots)) (setAll unbound (without (upTo i (length xs) g) xs) χ)
   fits-back i f g [] ls F no-more d h = F

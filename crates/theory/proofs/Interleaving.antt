@@ -57,7 +57,8 @@ turns-in-order j (i ∷ js) ts h =
     go (no n) k = rw (eqb-other j i n) (rw (turns-other i j ts (λ e. n (sym e))) k)
 
 -- a job that is none of the jobs has no turn
-none-of : (j : ℕ) (js : List ℕ) (ts : List Turn) → all (λ (t : Turn). any (eqb (t .job)) js) ts ≡ true → any (eqb j) js ≡ false → turnsOf j ts ≡ []
+none-of : (j : ℕ) (js : List ℕ) (ts : List Turn) → all (λ (t : Turn). any (eqb (t .job)) js) ts ≡ true → any (eqb j) js ≡ false
+    → turnsOf j ts ≡ []
 none-of j js [] h k = refl
 none-of j js (t ∷ ts) h k = go (ℕ-discrete (t .job) j) (none-of j js ts (and-right (any (eqb (t .job)) js) _ h) k)
   where
@@ -89,7 +90,8 @@ or-none true b h = refl
 or-none false true h = refl
 or-none false false h = h
 
-one-of-two : (ts : List Turn) → all (λ (t : Turn). eqb (t .job) 1 || eqb (t .job) 2) ts ≡ true → all (λ (t : Turn). any (eqb (t .job)) (1 ∷ 2 ∷ [])) ts ≡ true
+one-of-two : (ts : List Turn) → all (λ (t : Turn). eqb (t .job) 1 || eqb (t .job) 2) ts ≡ true
+    → all (λ (t : Turn). any (eqb (t .job)) (1 ∷ 2 ∷ [])) ts ≡ true
 one-of-two [] h = refl
 one-of-two (t ∷ ts) h =
     and-both _ _ (or-none (eqb (t .job) 1) (eqb (t .job) 2) (and-left here _ h)) (one-of-two ts (and-right here _ h))

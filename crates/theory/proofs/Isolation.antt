@@ -82,7 +82,8 @@ module _ (R : Region) (fs : List Function) (v : Bool) (isFree : ℕ → Bool) wh
   abbrev OwnDone : Done device Bool → Type 0
   OwnDone d = OwnFrame (owns R) (d .slots) × OwnAct (owns R) (d .act)
 
-  own-perform : {s : Side} (σ : Actual s) (o : ℕ) (φ : Frame) (a : Op s) → OwnFrame (owns R) φ → Holds OwnDone (perform (floor R fs v isFree σ) o φ a)
+  own-perform : {s : Side} (σ : Actual s) (o : ℕ) (φ : Frame) (a : Op s) → OwnFrame (owns R) φ
+      → Holds OwnDone (perform (floor R fs v isFree σ) o φ a)
   own-perform σ o φ (init q x l) h =
       holds-then (holds-any _) λ _ _. holds-then (holds-need (owns R (locate σ l .no)) 13 o) λ _ p. holds-then (holds-any _) λ _ _.
       by (own-set (owns R) φ x (qubit (locate σ l)) h p, p)
@@ -139,7 +140,8 @@ owns-owner (w ∷ ws) j zero h = (omega arith, eqb-true w j h)
 owns-owner (w ∷ ws) j (suc l) h = let r : (l < length ws) × (getD ws l 0 ≡ j) = owns-owner ws j l h in (let k : l < length ws = r .0 in omega arith, r .1)
 
 -- and no other job
-pub owns-other : (ws : List ℕ) (i j l : ℕ) → i ≢ j → getD (map (λ w. eqb w j) ws) l false ≡ true → getD (map (λ w. eqb w i) ws) l false ≡ false
+pub owns-other : (ws : List ℕ) (i j l : ℕ) → i ≢ j → getD (map (λ w. eqb w j) ws) l false ≡ true
+    → getD (map (λ w. eqb w i) ws) l false ≡ false
 owns-other [] i j l n h = refl
 owns-other (w ∷ ws) i j zero n h = eqb-other w i (λ e. n (sym e ∙ eqb-true w j h))
 owns-other (w ∷ ws) i j (suc l) n h = owns-other ws i j l n h
@@ -157,7 +159,8 @@ part-set-own (w ∷ ws) j [] l x h = refl
 part-set-own (w ∷ ws) j (y ∷ occ) zero x h = rw h
 part-set-own (w ∷ ws) j (y ∷ occ) (suc l) x h = ap (λ r. chosen (eqb w j) y 0 ∷ r) (part-set-own ws j occ l x h)
 
-pub part-set-other : (ws : List ℕ) (j : ℕ) (occ : List ℕ) (l x : ℕ) → getD (map (λ w. eqb w j) ws) l false ≡ false → part ws j (set occ l x) ≡ part ws j occ
+pub part-set-other : (ws : List ℕ) (j : ℕ) (occ : List ℕ) (l x : ℕ) → getD (map (λ w. eqb w j) ws) l false ≡ false
+    → part ws j (set occ l x) ≡ part ws j occ
 part-set-other [] j occ l x h = refl
 part-set-other (w ∷ ws) j [] l x h = refl
 part-set-other (w ∷ ws) j (y ∷ occ) zero x h = rw h
@@ -288,7 +291,8 @@ module _ (D : Device) (programs : ℕ → Program) where
   pub acts-own : (t : Turn) (M : Machine) → Sound M → OwnAct (owns (regionOf D (t .job))) (stepOf D programs t M .act)
   acts-own t M S = turn-own t M S .1
 
-  bytes-written : (j : ℕ) (a : Act device) (occ : List ℕ) → OwnAct (owns (regionOf D j)) a → ((l : ℕ) → Byte D occ l) → (l : ℕ) → Byte D (written j a occ) l
+  bytes-written : (j : ℕ) (a : Act device) (occ : List ℕ) → OwnAct (owns (regionOf D j)) a → ((l : ℕ) → Byte D occ l) → (l : ℕ)
+      → Byte D (written j a occ) l
   bytes-written j quiet occ h b l = b l
   bytes-written j (takes q k) occ h b l = ⊎-elim
       (λ c. inr (c .1 ∙ sym (owns-owner (D .owners) j (k .no) h .1) ∙ ap (λ x. getD (D .owners) x 0) (sym (c .0))))
@@ -331,7 +335,8 @@ module _ (D : Device) (programs : ℕ → Program) where
       go : (l : ℕ) (b : Bool) → owns (regionOf D j) l ≡ b → Byte D (M .occupancy) l → OwnByte j (view j M .mine) l
       go l true e (inl z) = inl (getD-part (D .owners) j (M .occupancy) l (S .fits) ∙ ap (λ b. chosen b (getD (M .occupancy) l 0) 0) e ∙ z)
       go l true e (inr z) =
-          inr (getD-part (D .owners) j (M .occupancy) l (S .fits) ∙ ap (λ b. chosen b (getD (M .occupancy) l 0) 0) e ∙ z ∙ owns-owner (D .owners) j l e .1, e)
+          let mine = getD-part (D .owners) j (M .occupancy) l (S .fits) ∙ ap (λ b. chosen b (getD (M .occupancy) l 0) 0) e in
+          inr (mine ∙ z ∙ owns-owner (D .owners) j l e .1, e)
       go l false e z = inl (getD-part (D .owners) j (M .occupancy) l (S .fits) ∙ ap (λ b. chosen b (getD (M .occupancy) l 0) 0) e)
 
   own-bytes-written : (j : ℕ) (a : Act device) (occ : List ℕ) → OwnAct (owns (regionOf D j)) a → ((l : ℕ) → OwnByte j occ l)
@@ -408,7 +413,8 @@ module _ (D : Device) (programs : ℕ → Program) where
   abbrev told-by : Turn → Machine → Told
   told-by t M = record { job = t .job; told = stepOf D programs t M .answer }
 
-  told-own : (i : ℕ) (t : Turn) (us : List Turn) (rs : List Told) (M : Machine) → Sound M → i ≡ t .job → rs ≡ view-records i us (view i (after D programs t M))
+  told-own : (i : ℕ) (t : Turn) (us : List Turn) (rs : List Told) (M : Machine) → Sound M → i ≡ t .job
+      → rs ≡ view-records i us (view i (after D programs t M))
       → chosen (eqb (t .job) i) (told-by t M ∷ rs) rs ≡ view-records i (chosen (eqb (t .job) i) (t ∷ us) us) (view i M)
   told-own i t us rs M S e h =
       let k : rs ≡ view-records (t .job) us (view (t .job) (after D programs t M)) = rw e at h in

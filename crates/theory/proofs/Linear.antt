@@ -17,7 +17,8 @@ use Prim.Native.Nat.{ℕ, _-_, _≤_, _<_}
 use lib.ListN.{getD, set, length, drop, length-set, length-append, List·getD-append, List·getD-eq-default}
 use lib.Seq.{getD-set-same, getD-set-other, getD-append-seam, append-snoc}
 use Rattle.rules.specs.Basics.{all, upTo, without, setAll, distinct}
-use Rattle.rules.specs.Syntax.{Side, parameter, Place, param, at, Op, Statement, op, if, while, call, Statements, done, _⨾_, Block, block, Function, function}
+use Rattle.rules.specs.Syntax.{Side, parameter, Place, param, at, Op, Statement, op, if, while, call, Statements, done, _⨾_, Block, block}
+use Rattle.rules.specs.Syntax.{Function, function}
 use Rattle.rules.specs.Program.{Scope}
 use Rattle.rules.specs.Slots.{unbound, qubit, bool, ref, slot, holdsNoQubit, isQubitAt, kept}
 use Rattle.rules.specs.Commands.{Commands}
@@ -59,7 +60,8 @@ AllEnd gs = AllOf Ends gs
 
 module _ {s : Side} where
   -- something that is no qubit, in a slot that holds none
-  pub linear-put : (C : Context s) (Γ : Env s) (x : ℕ) (k : Kind s) → holdsNoQubit (slot (Γ .slots) x) ≡ true → holdsNoQubit k ≡ true → Linear C Γ
+  pub linear-put : (C : Context s) (Γ : Env s) (x : ℕ) (k : Kind s) → holdsNoQubit (slot (Γ .slots) x) ≡ true → holdsNoQubit k ≡ true
+      → Linear C Γ
       → Linear C (bind Γ x k)
   linear-put C Γ x k m n I = record {
     inside = λ y l h. I .inside y l (old-qubit (Γ .slots) x y k l n h);
@@ -95,7 +97,8 @@ module _ {s : Side} where
       found k (no e) (inr w) = inr (w .0, kept-qubit (Γ .slots) x (w .0) (qubit l) k (ap holdsNoQubit u) (w .1))
 
   -- a slot's qubit given back
-  pub linear-released : (C : Context s) (Γ : Env s) (x : ℕ) (l : Place s) → slot (Γ .slots) x ≡ qubit l → Linear C Γ → Linear C (bind (give Γ l) x unbound)
+  pub linear-released : (C : Context s) (Γ : Env s) (x : ℕ) (l : Place s) → slot (Γ .slots) x ≡ qubit l → Linear C Γ
+      → Linear C (bind (give Γ l) x unbound)
   linear-released C Γ x l p I = record {
     inside = λ y k h. I .inside y k (old y k h);
     taken = λ y k h. getD-set-other (Γ .free) (l .no) (k .no) true false (λ e. other y k h (I .once y x k l (old y k h) p e)) ∙ I .taken y k (old y k h);
@@ -119,7 +122,8 @@ module _ {s : Side} where
           let same : w .0 ≡ x → k ≡ l = λ q. same-qubit _ k l (ap (λ (y : ℕ). slot (Γ .slots) y) (sym q) ∙ w .1) p in
           inr (w .0, getD-set-other (Γ .slots) x (w .0) unbound unbound (λ q. e (ap (λ (t : Place s). t .no) (same q))) ∙ w .1)
 
-  pub linear-op : (C : Context s) (S : Scope) {Γ Δ : Env s} {o : ℕ} {a : Op s} {c : Commands s} → OpRule C Γ o a Δ c → OpRead S a → Linear C Γ → Linear C Δ
+  pub linear-op : (C : Context s) (S : Scope) {Γ Δ : Env s} {o : ℕ} {a : Op s} {c : Commands s} → OpRule C Γ o a Δ c → OpRead S a → Linear C Γ
+      → Linear C Δ
   linear-op C S {Γ = Γ} (T-Init {x = x} {l = l} p q r) d I = linear-held C Γ x l (d .0) p q r I
   linear-op C S {Γ = Γ} (T-MInit {x = x} {l = l} p q r) d I = linear-held C Γ x l (d .0) p q r I
   linear-op C S {Γ = Γ} (T-Free {x = x} {l = l} p) d I = linear-released C Γ x l p I
@@ -148,7 +152,8 @@ module _ {s : Side} where
       in-range x l h = let r = qubit-in-range (Δ .slots) x l h in let e = I .slots32 in omega arith
 
 -- A call: what it leaves in a slot and at a place that it names, and in the others.
-module _ {s : Side} (C : Context s) (Γ : Env s) (g : Signature) (ls : List (Place s)) (xs : List ℕ) (N : Ends g) (k : length ls ≡ g .k) (m : length xs ≡ g .m)
+module _ {s : Side} (C : Context s) (Γ : Env s) (g : Signature) (ls : List (Place s)) (xs : List ℕ) (N : Ends g) (k : length ls ≡ g .k)
+    (m : length xs ≡ g .m)
     (ins : all (C .inside) ls ≡ true) (u : distinct (numbers ls) ≡ true) (w : distinct xs ≡ true) (a : Arguments Γ xs ls)
     (f : all (λ l. getD (Γ .free) (l .no) false) (drop (length xs) ls) ≡ true) (I : Linear C Γ) where
   abbrev left : List (Kind s)
@@ -184,7 +189,8 @@ module _ {s : Side} (C : Context s) (Γ : Env s) (g : Signature) (ls : List (Pla
 
   pub call-old : (y : ℕ) (l : Place s) → slot (substituted g ls xs Γ .slots) y ≡ qubit l → slot (Γ .slots) y ≡ qubit l
   call-old y l e = ⊎-elim
-      (λ c. let r : slot (substituted g ls xs Γ .slots) (getD xs (c .0) 0) ≡ qubit l = ap (λ (z : ℕ). slot (substituted g ls xs Γ .slots) z) (c .2) ∙ e in
+      (λ c. let r : slot (substituted g ls xs Γ .slots) (getD xs (c .0) 0) ≡ qubit l =
+      ap (λ (z : ℕ). slot (substituted g ls xs Γ .slots) z) (c .2) ∙ e in
       let q : at ls (c .0) ≡ l = call-kept (c .0) l (omega (arith, c .1)) r .1 in
       ap (λ (z : ℕ). slot (Γ .slots) z) (sym (c .2)) ∙ argument-at xs ls (c .0) a (c .1) ∙ ap (λ (p : Place s). qubit p) q)
       (λ c. sym (call-other-slot y c) ∙ e)
@@ -240,8 +246,8 @@ module _ {s : Side} (C : Context s) (Γ : Env s) (g : Signature) (ls : List (Pla
       found l (inr c) (inr r) =
           inr (
             r .0,
-            call-other-slot (r .0) (λ i j e. c i (omega (arith, arguments-length a))
-                (ap (λ (p : Place s). p .no) (same-qubit _ (at ls i) l (argument-at xs ls i a j) (ap (λ (z : ℕ). slot (Γ .slots) z) e ∙ r .1)))) ∙ r .1,
+            call-other-slot (r .0) (λ i j e. let there = ap (λ (z : ℕ). slot (Γ .slots) z) e ∙ r .1 in
+                c i (omega (arith, arguments-length a)) (ap (λ (p : Place s). p .no) (same-qubit _ (at ls i) l (argument-at xs ls i a j) there))) ∙ r .1,
           )
 
   abbrev stay : List Bool
@@ -293,14 +299,16 @@ module _ {s : Side} (C : Context s) (Γ : Env s) (g : Signature) (ls : List (Pla
           each i h (no d) = inl (past i (omega arith), N .rest-free i (omega arith) h ∙ sym (other-free i (omega arith) h) ∙ by-number i)
 
 -- the same from the rule's premises
-pub linear-callable : {s : Side} (C : Context s) (Γ : Env s) (f : ℕ) (ls : List (Place s)) (xs : List ℕ) → Callable C Γ f ls xs → AllEnd (C .functions)
+pub linear-callable : {s : Side} (C : Context s) (Γ : Env s) (f : ℕ) (ls : List (Place s)) (xs : List ℕ) → Callable C Γ f ls xs
+    → AllEnd (C .functions)
     → Linear C Γ → Linear C (substituted (signature (C .functions) f) ls xs Γ)
 linear-callable C Γ f ls xs J H I =
     let g : Signature = signature (C .functions) f in
     let N : Ends g = all-of-at Ends (C .functions) f H (J .earlier) in
     linear-call C Γ g ls xs N (J .locations) (J .slots) (J .inside) (J .different) (J .different-slots) (J .arguments) (J .others-free) I
 
-pub callable-agrees : {s : Side} (C : Context s) (Γ : Env s) (f : ℕ) (ls : List (Place s)) (xs : List ℕ) → Callable C Γ f ls xs → AllEnd (C .functions)
+pub callable-agrees : {s : Side} (C : Context s) (Γ : Env s) (f : ℕ) (ls : List (Place s)) (xs : List ℕ) → Callable C Γ f ls xs
+    → AllEnd (C .functions)
     → Linear C Γ → substituted (signature (C .functions) f) ls xs Γ ≡ afterCall (signature (C .functions) f) ls xs Γ
 callable-agrees C Γ f ls xs J H I =
     let g : Signature = signature (C .functions) f in
@@ -315,17 +323,20 @@ mutual
   linear-statement C S (while i y b) (T-While e j) (while-read h r) H I = I
   linear-statement C S (call i f ls xs) (T-Call {Γ = Γ} J) r H I = linear-callable C Γ f ls xs J H I
 
-  pub linear-statements : {s : Side} (C : Context s) (S : Scope) (ts : Statements s) {Γ Δ : Env s} {c : Commands s} {d o p : ℕ} → StatementsRule C Γ ts Δ c
+  pub linear-statements : {s : Side} (C : Context s) (S : Scope) (ts : Statements s) {Γ Δ : Env s} {c : Commands s} {d o p : ℕ}
+      → StatementsRule C Γ ts Δ c
       → StatementsRead S d o p ts → AllEnd (C .functions) → Linear C Γ → Linear C Δ
   linear-statements C S done T-Unit r H I = I
   linear-statements C S (t ⨾ ts) (T-Seq j k) (next-read r r′) H I = linear-statements C S ts k r′ H (linear-statement C S t j r H I)
 
-  pub linear-block : {s : Side} (C : Context s) (S : Scope) (b : Block s) {Γ Δ : Env s} {c : Commands s} {d o p : ℕ} → BlockRule C Γ b Δ c → BlockRead S d o p b
+  pub linear-block : {s : Side} (C : Context s) (S : Scope) (b : Block s) {Γ Δ : Env s} {c : Commands s} {d o p : ℕ} → BlockRule C Γ b Δ c
+      → BlockRead S d o p b
       → AllEnd (C .functions) → Linear C Γ → Linear C Δ
   linear-block C S (block i ts) (T-Close {Γ = Γ} {Δ = Δ} j e) (block-read r) H I = linear-close C Γ Δ (linear-statements C S ts j r H I)
 
 -- as many places as before
-pub free-length-op : {s : Side} {C : Context s} {Γ Δ : Env s} {o : ℕ} {a : Op s} {c : Commands s} → OpRule C Γ o a Δ c → length (Δ .free) ≡ length (Γ .free)
+pub free-length-op : {s : Side} {C : Context s} {Γ Δ : Env s} {o : ℕ} {a : Op s} {c : Commands s} → OpRule C Γ o a Δ c
+    → length (Δ .free) ≡ length (Γ .free)
 free-length-op {Γ = Γ} (T-Init {l = l} p q r) = length-set (Γ .free) (l .no) false
 free-length-op {Γ = Γ} (T-MInit {l = l} p q r) = length-set (Γ .free) (l .no) false
 free-length-op {Γ = Γ} (T-Free {l = l} p) = length-set (Γ .free) (l .no) true
@@ -350,7 +361,8 @@ mutual
   free-length-statements C done T-Unit = refl
   free-length-statements C (t ⨾ ts) (T-Seq j k) = free-length-statements C ts k ∙ free-length-statement C t j
 
-  pub free-length-block : {s : Side} (C : Context s) (b : Block s) {Γ Δ : Env s} {c : Commands s} → BlockRule C Γ b Δ c → length (Δ .free) ≡ length (Γ .free)
+  pub free-length-block : {s : Side} (C : Context s) (b : Block s) {Γ Δ : Env s} {c : Commands s} → BlockRule C Γ b Δ c
+      → length (Δ .free) ≡ length (Γ .free)
   free-length-block C (block i ts) (T-Close j e) = free-length-statements C ts j
 
 -- a qubit at a block's end sat there on entry, and a slot that held one ends with it or unbound
@@ -394,8 +406,10 @@ linear-entry gs g h r = record {
     found l k (no d) = inl (entry-rest (g .m) (g .k - g .m) (l .no) (omega arith) (omega arith))
 
 -- a typed function's signature
-pub function-ends : (gs : List Signature) (g : Function) (S : Scope) {Δ : Env parameter} {c : Commands parameter} {d o p : ℕ} → g .m ≤ g .k → g .m ≤ 8
-    → AllEnd gs → BlockRead S d o p (g .body) → BlockRule (bodyContext gs g) (entry g) (g .body) Δ c → Ends (signatureOf g (record { env = Δ; commands = c }))
+pub function-ends : (gs : List Signature) (g : Function) (S : Scope) {Δ : Env parameter} {c : Commands parameter} {d o p : ℕ} → g .m ≤ g .k
+    → g .m ≤ 8
+    → AllEnd gs → BlockRead S d o p (g .body) → BlockRule (bodyContext gs g) (entry g) (g .body) Δ c
+    → Ends (signatureOf g (record { env = Δ; commands = c }))
 function-ends gs g S {Δ = Δ} h r H b j = record {
   arity = h;
   few = few;
@@ -425,7 +439,8 @@ function-ends gs g S {Δ = Δ} h r H b j = record {
         (λ c. let q = home (c .0) i (c .1) in inr (ap (λ (x : ℕ). slot (Δ .slots) x) (q .0) ∙ c .1, q .1))
         (I .covered (param i) (is-below i (g .k) k))
 
-pub functions-end : (fs : List Function) {earlier : List Function} {o q : ℕ} {gs hs : List Signature} → FunctionsRead earlier o fs q → FunctionsRule fs gs hs
+pub functions-end : (fs : List Function) {earlier : List Function} {o q : ℕ} {gs hs : List Signature} → FunctionsRead earlier o fs q
+    → FunctionsRule fs gs hs
     → AllEnd gs → AllEnd hs
 functions-end [] none-read T-NoFun H = H
 functions-end (g ∷ fs) {gs = gs} (function-read k m h b r) (T-Fundecl j w) H = functions-end fs r w (function-ends gs g _ h m H b j, H)
@@ -448,7 +463,8 @@ more-match gs fs g d M = record {
 }
   where
     each : (f : ℕ) → f < length (fs ++ (g ∷ [])) → Dec (f ≡ length gs)
-        → (signature (signatureOf g d ∷ gs) f .k ≡ function (fs ++ (g ∷ [])) f .k) × (signature (signatureOf g d ∷ gs) f .m ≡ function (fs ++ (g ∷ [])) f .m)
+        → (signature (signatureOf g d ∷ gs) f .k ≡ function (fs ++ (g ∷ [])) f .k)
+        × (signature (signatureOf g d ∷ gs) f .m ≡ function (fs ++ (g ∷ [])) f .m)
     each f h (yes e) =
         let last : function (fs ++ (g ∷ [])) f ≡ g = ap (λ (n : ℕ). function (fs ++ (g ∷ [])) n) (e ∙ M .count) ∙ getD-append-seam fs g [] _ in
         let newest = signature-newest (signatureOf g d) gs f e in

@@ -116,7 +116,8 @@ from-here : (P : Function → Type 0) → P (record { k = 0; m = 0; body = block
     → EachRead P (fs ++ gs) → (f : ℕ) → length fs ≤ f → P (function (fs ++ gs) f)
 from-here P z [] fs r each f h = subst P (sym (ap (λ (hs : List Function). function hs f) (append-nil fs) ∙ List·getD-eq-default fs _ h)) z
 from-here P z (g ∷ gs) fs (function-read {o = o} {p = p} a b c r rest) each f h =
-    go (ℕ-discrete f (length fs)) (λ h′. from-here P z gs (fs ++ (g ∷ [])) rest (λ hs is k o′ p′ e. each hs is k o′ p′ (sym (append-snoc fs g gs) ∙ e)) f h′)
+    go (ℕ-discrete f (length fs)) λ h′.
+    from-here P z gs (fs ++ (g ∷ [])) rest (λ hs is k o′ p′ e. each hs is k o′ p′ (sym (append-snoc fs g gs) ∙ e)) f h′
   where
     go : Dec (f ≡ length fs) → (length (fs ++ (g ∷ [])) ≤ f → P (function ((fs ++ (g ∷ [])) ++ gs) f)) → P (function (fs ++ (g ∷ gs)) f)
     go (yes e) next = rw (e, getD-append-seam fs g gs _) (each fs gs g (o + 2) p refl c r)
@@ -190,7 +191,8 @@ pub data Stack (fs : List Function) (j : ℕ) (occ : List ℕ) : (s : Side) → 
   todo : {s : Side} {σ : Actual s} {n : ℕ} {t : Statement s} {φs : List Frame} {is : List Item} → Scoped fs n t → Stack fs j occ s σ n φs is
       → Stack fs j occ s σ n φs (run σ t ∷ is)
   back : {ls : List (Place device)} {k o : ℕ} {χ : Frame} {xs : List ℕ} {φs : List Frame} {is : List Item}
-      → (w : Waits j occ k ls χ xs) → Stack fs j occ (w .s) (w .σ) (w .size) φs is → Stack fs j occ parameter (locations ls) k (χ ∷ φs) (return o ls xs ∷ is)
+      → (w : Waits j occ k ls χ xs) → Stack fs j occ (w .s) (w .σ) (w .size) φs is
+      → Stack fs j occ parameter (locations ls) k (χ ∷ φs) (return o ls xs ∷ is)
 
 pub record Neat (fs : List Function) (j : ℕ) (occ : List ℕ) (J : Job) : Type 0 where
   pub s : Side
@@ -249,14 +251,16 @@ module _ {j : ℕ} where
   }
 
   module _ {fs : List Function} where
-    stack-keep : {occ occ′ : List ℕ} {s : Side} {σ : Actual s} {n : ℕ} {φs : List Frame} {is : List Item} → Keeps j occ occ′ → Stack fs j occ s σ n φs is
+    stack-keep : {occ occ′ : List ℕ} {s : Side} {σ : Actual s} {n : ℕ} {φs : List Frame} {is : List Item} → Keeps j occ occ′
+        → Stack fs j occ s σ n φs is
         → Stack fs j occ′ s σ n φs is
     unfolding waits-keep
     stack-keep K empty = empty
     stack-keep K (todo c r) = todo c (stack-keep K r)
     stack-keep K (back w r) = back (waits-keep K w) (stack-keep K r)
 
-    stack-give : {occ : List ℕ} {s : Side} {σ : Actual s} {n : ℕ} {φs : List Frame} {is : List Item} (p : Place s) → p .no < n → Stack fs j occ s σ n φs is
+    stack-give : {occ : List ℕ} {s : Side} {σ : Actual s} {n : ℕ} {φs : List Frame} {is : List Item} (p : Place s) → p .no < n
+        → Stack fs j occ s σ n φs is
         → Stack fs j (set occ (locate σ p .no) 0) s σ n φs is
     unfolding waits-give
     stack-give p r empty = empty
@@ -280,7 +284,8 @@ module _ {j : ℕ} where
 
 -- 5. What the operations do to the body on top
 module _ {j : ℕ} {s : Side} {σ : Actual s} {size : ℕ} where
-  tidy-store : {occ : List ℕ} {φ : Frame} (x : ℕ) (k : Slot device Bool) → holdsNoQubit k ≡ true → Tidy j occ σ size φ → Tidy j occ σ size (set φ x k)
+  tidy-store : {occ : List ℕ} {φ : Frame} (x : ℕ) (k : Slot device Bool) → holdsNoQubit k ≡ true → Tidy j occ σ size φ
+      → Tidy j occ σ size (set φ x k)
   tidy-store {φ = φ} x k n T = record {
     held = λ y l h. T .held y l (old-qubit φ x y k l n h);
     taken = λ y l h. T .taken y l (old-qubit φ x y k l n h);
@@ -288,7 +293,8 @@ module _ {j : ℕ} {s : Side} {σ : Actual s} {size : ℕ} where
   }
 
   -- no qubit of the frame was on the location taken, since its byte was 0
-  tidy-take : {occ : List ℕ} {φ : Frame} (x : ℕ) (p : Place s) → 1 ≤ j → p .no < size → getD occ (locate σ p .no) 0 ≡ 0 → locate σ p .no < length occ
+  tidy-take : {occ : List ℕ} {φ : Frame} (x : ℕ) (p : Place s) → 1 ≤ j → p .no < size → getD occ (locate σ p .no) 0 ≡ 0
+      → locate σ p .no < length occ
       → Tidy j occ σ size φ → Tidy j (set occ (locate σ p .no) j) σ size (set φ x (qubit (locate σ p)))
   tidy-take {occ = occ} {φ = φ} x p pos r f w T = record {
     held = λ y k h. ⊎-elim (λ e. (p, r, e)) (T .held y k) (new-qubit φ x y (locate σ p) k h);
@@ -322,7 +328,8 @@ module _ {j : ℕ} {s : Side} {σ : Actual s} {size : ℕ} where
       other y k h e = unbound-qubit _ k (ap (λ (z : ℕ). slot (set φ x unbound) z) e ∙ getD-set-default φ x unbound) h
 
 -- what is free to a job has byte 0, and is on the map
-free-there : (R : Region) (occ : List ℕ) (l : ℕ) → length (R .owned) ≡ length occ → freeIn R occ l ≡ true → (getD occ l 0 ≡ 0) × (l < length occ)
+free-there : (R : Region) (occ : List ℕ) (l : ℕ) → length (R .owned) ≡ length occ → freeIn R occ l ≡ true
+    → (getD occ l 0 ≡ 0) × (l < length occ)
 free-there R occ l e h = (eqb-true (getD occ l 0) 0 (and-right (owns R l) _ h), omega (arith, true-in-range (R .owned) l (and-left (owns R l) _ h)))
 
 -- 6. The moves of job j
@@ -445,7 +452,8 @@ module _ (R : Region) (fs : List Function) (bodies : (f : ℕ) → ScopedBlock f
   abbrev NeatMove : Move → Type 0
   NeatMove m = Counts j occ (m .act) × Neat fs j (written j (m .act) occ) (m .next)
 
-  neat-move : {s : Side} {σ : Actual s} {n : ℕ} (φ : Frame) (φs : List Frame) (i : Item) (is : List Item) → Tidy j occ σ n φ → Stack fs j occ s σ n φs (i ∷ is)
+  neat-move : {s : Side} {σ : Actual s} {n : ℕ} (φ : Frame) (φs : List Frame) (i : Item) (is : List Item) → Tidy j occ σ n φ
+      → Stack fs j occ s σ n φs (i ∷ is)
       → Holds NeatMove (move R fs v (freeIn R occ) φ φs i is)
   unfolding waits
   neat-move {s = s} {σ = σ} {n = n} φ φs i is T (todo {t = op o a} c S) =
@@ -483,7 +491,9 @@ module _ (R : Region) (fs : List Function) (bodies : (f : ℕ) → ScopedBlock f
       → NeatStep (stepItems R fs v (freeIn R occ) φ φs is)
   neat-items {s = s} {σ = σ} {n = n} φ φs [] T S = (tt, record { s = s; σ = σ; size = n; tidy = T; stack = S })
   neat-items {s = s} {σ = σ} {n = n} φ φs (i ∷ is) T S =
-      neat-stepped (record { top = φ; below = φs; items = i ∷ is }) _ _ (record { s = s; σ = σ; size = n; tidy = T; stack = S }) (neat-move φ φs i is T S)
+      let J : Job = record { top = φ; below = φs; items = i ∷ is } in
+      let here : Neat fs j occ J = record { s = s; σ = σ; size = n; tidy = T; stack = S } in
+      neat-stepped J _ _ here (neat-move φ φs i is T S)
 
   -- a step keeps the job neat, over the map that the step leaves
   pub neat-step : (J : Job) → Neat fs j occ J
@@ -504,7 +514,8 @@ neat-fresh p r j occ = record {
     no-qubit x l h = unbound-qubit _ l (getD-replicate-default 32 x unbound) h
 
 -- no frame of the stack holds a location in two slots
-below-once : {fs : List Function} {j : ℕ} {occ : List ℕ} {s : Side} {σ : Actual s} {n : ℕ} {φs : List Frame} {is : List Item} → Stack fs j occ s σ n φs is
+below-once : {fs : List Function} {j : ℕ} {occ : List ℕ} {s : Side} {σ : Actual s} {n : ℕ} {φs : List Frame} {is : List Item}
+    → Stack fs j occ s σ n φs is
     → (i : ℕ) → Once (getD φs i [])
 below-once empty i = λ x y l k h h′ e. let z : _≡_ {A = ℕ} 0 1 = cc in absurd (omega arith)
 below-once (todo c S) i = below-once S i

@@ -62,7 +62,8 @@ first-typed R p c m A =
       Γ = start (R .owned);
       good = record {
         known = known-all R (p .functions) (A .functions) refl m known-none;
-        placed = record { agree = λ l h. refl; own = λ l h. h; range = λ l h. true-in-range (R .owned) (l .no) h; apart = λ l k h i e. e; room = λ l h. h };
+        placed =
+            record { agree = λ l h. refl; own = λ l h. h; range = λ l h. true-in-range (R .owned) (l .no) h; apart = λ l k h i e. e; room = λ l h. h };
         sized = refl;
         long = refl;
         fits = record { kinds-long = refl; slots-long = refl; each = λ x. rw (no-kind x, nothing x) };
@@ -122,7 +123,8 @@ module _ (D : Device) (programs : ℕ → Program) (j len : ℕ) where
 
   unstuck-view : (ts : List Turn) (W : View) → TypedView W → all (λ r. leb (r .told .code) 1) (view-records D programs j ts W) ≡ true
   unstuck-view [] W T = refl
-  unstuck-view (t ∷ ts) W T = rw (fine-view (t .outcome) W T .unstuck) (unstuck-view ts (view-after D programs j (t .outcome) W) (typed-after (t .outcome) W T))
+  unstuck-view (t ∷ ts) W T =
+      rw (fine-view (t .outcome) W T .unstuck) (unstuck-view ts (view-after D programs j (t .outcome) W) (typed-after (t .outcome) W T))
 
 pub never-stuck-derived : (D : Device) (programs : ℕ → Program) (j size : ℕ) (c : Commands device) → ProgramRead size (programs j)
     → ProgramRule (regionOf D j) (programs j) c

@@ -67,7 +67,8 @@ module _ {A : Type 0} where
   stored-other (v ∷ vs) (k ∷ ns) φ n d h =
       getD-set-other (stored vs ns φ) k n v d (λ e. h 0 (omega arith) (sym e)) ∙ stored-other vs ns φ n d (λ i l. h (suc i) (omega arith))
 
-  pub stored-at : (vs : List A) (ns : List ℕ) (φ : List A) (i : ℕ) (d : A) → distinct ns ≡ true → length vs ≡ length ns → i < length ns → getD ns i 0 < length φ
+  pub stored-at : (vs : List A) (ns : List ℕ) (φ : List A) (i : ℕ) (d : A) → distinct ns ≡ true → length vs ≡ length ns → i < length ns
+      → getD ns i 0 < length φ
       → getD (stored vs ns φ) (getD ns i 0) d ≡ getD vs i d
   stored-at [] [] φ i d u e h r = absurd (omega arith)
   stored-at [] (n ∷ ns) φ i d u e h r = absurd (omega arith)
@@ -79,7 +80,8 @@ module _ {A : Type 0} where
 
   -- Stores that say again what stands there, but for those that store v: the same as v at the numbers that do not stay.
   pub stored-agrees : (d v : A) (bs : List Bool) (vs : List A) (ns : List ℕ) (φ : List A) → distinct ns ≡ true → length vs ≡ length ns
-      → ((j : ℕ) → j < length ns → ((getD bs j true ≡ true) × (getD vs j d ≡ getD φ (getD ns j 0) d)) ⊎ ((getD bs j true ≡ false) × (getD vs j d ≡ v)))
+      → ((j : ℕ) → j < length ns
+      → ((getD bs j true ≡ true) × (getD vs j d ≡ getD φ (getD ns j 0) d)) ⊎ ((getD bs j true ≡ false) × (getD vs j d ≡ v)))
       → stored vs ns φ ≡ setAll v (without bs ns) φ
   stored-agrees d v [] [] [] φ u e h = refl
   stored-agrees d v (b ∷ bs) [] [] φ u e h = refl
@@ -91,12 +93,14 @@ module _ {A : Type 0} where
   stored-agrees d v (true ∷ bs) (w ∷ vs) (n ∷ ns) φ u e h =
       let t : distinct ns ≡ true = distinct-tail n ns u in
       let r : stored vs ns φ ≡ setAll v (without bs ns) φ = stored-agrees d v bs vs ns φ t (omega arith) (λ j k. h (suc j) (omega arith)) in
-      ⊎-elim (λ c. ap (λ (a : A). set (stored vs ns φ) n a) (c .1 ∙ sym (stored-other vs ns φ n d (distinct-first n ns u))) ∙ set-getD (stored vs ns φ) n d ∙ r)
+      let other = stored-other vs ns φ n d (distinct-first n ns u) in
+      ⊎-elim (λ c. ap (λ (a : A). set (stored vs ns φ) n a) (c .1 ∙ sym other) ∙ set-getD (stored vs ns φ) n d ∙ r)
       (λ c. absurd (false≢true (sym (c .0)))) (h 0 (omega arith))
   stored-agrees d v (false ∷ bs) (w ∷ vs) (n ∷ ns) φ u e h =
       let t : distinct ns ≡ true = distinct-tail n ns u in
       let r : stored vs ns φ ≡ setAll v (without bs ns) φ = stored-agrees d v bs vs ns φ t (omega arith) (λ j k. h (suc j) (omega arith)) in
-      ⊎-elim (λ c. absurd (false≢true (c .0))) (λ c. ap (λ (a : A). set (stored vs ns φ) n a) (c .1) ∙ ap (λ (l : List A). set l n v) r) (h 0 (omega arith))
+      ⊎-elim (λ c. absurd (false≢true (c .0)))
+      (λ c. ap (λ (a : A). set (stored vs ns φ) n a) (c .1) ∙ ap (λ (l : List A). set l n v) r) (h 0 (omega arith))
 
 -- places
 module _ {s : Side} where
@@ -119,7 +123,8 @@ module _ {s : Side} where
   all-at f (l ∷ ls) zero h k = and-left _ _ h
   all-at f (l ∷ ls) (suc i) h k = all-at f ls i (and-right (f l) _ h) (omega arith)
 
-  pub drop-at : (f : Place s → Bool) (m : ℕ) (ls : List (Place s)) (i : ℕ) → all f (drop m ls) ≡ true → m ≤ i → i < length ls → f (at ls i) ≡ true
+  pub drop-at : (f : Place s → Bool) (m : ℕ) (ls : List (Place s)) (i : ℕ) → all f (drop m ls) ≡ true → m ≤ i → i < length ls
+      → f (at ls i) ≡ true
   drop-at f zero ls i h j k = all-at f ls i h k
   drop-at f (suc m) [] i h j k = absurd (omega arith)
   drop-at f (suc m) (l ∷ ls) zero h j k = absurd (omega arith)
@@ -130,13 +135,15 @@ module _ {s : Side} where
   at-map f (l ∷ ls) zero h = refl
   at-map f (l ∷ ls) (suc i) h = at-map f ls i (omega arith)
 
-  pub distinct-places : (ls : List (Place s)) (i j : ℕ) → distinct (numbers ls) ≡ true → i < length ls → j < length ls → at ls i .no ≡ at ls j .no → i ≡ j
+  pub distinct-places : (ls : List (Place s)) (i j : ℕ) → distinct (numbers ls) ≡ true → i < length ls → j < length ls
+      → at ls i .no ≡ at ls j .no → i ≡ j
   distinct-places ls i j h k m e =
       let n = length-numbers ls in
       distinct-at (numbers ls) i j h (omega arith) (omega arith) (number-at ls i ∙ e ∙ sym (number-at ls j))
 
   -- which of the places has the number, if one has
-  pub find-place : (ls : List (Place s)) (l : Place s) → ((i : ℕ) × (i < length ls) × (at ls i ≡ l)) ⊎ ((i : ℕ) → i < length ls → at ls i .no ≢ l .no)
+  pub find-place : (ls : List (Place s)) (l : Place s)
+      → ((i : ℕ) × (i < length ls) × (at ls i ≡ l)) ⊎ ((i : ℕ) → i < length ls → at ls i .no ≢ l .no)
   find-place ls l =
       let n = length-numbers ls in
       ⊎-elim
@@ -151,7 +158,8 @@ module _ {s : Side} where
   map-without (false ∷ bs) (l ∷ ls) = ap (λ (ns : List ℕ). l .no ∷ ns) (map-without bs ls)
 
   -- stores at the numbers of places
-  pub stored-place : (bs : List Bool) (ls : List (Place s)) (fs : List Bool) (i : ℕ) → distinct (numbers ls) ≡ true → length bs ≡ length ls → i < length ls
+  pub stored-place : (bs : List Bool) (ls : List (Place s)) (fs : List Bool) (i : ℕ) → distinct (numbers ls) ≡ true → length bs ≡ length ls
+      → i < length ls
       → at ls i .no < length fs → getD (stored bs (numbers ls) fs) (at ls i .no) false ≡ getD bs i false
   stored-place bs ls fs i u e h r =
       let n = length-numbers ls in
@@ -187,7 +195,8 @@ module _ {s : Side} {B : Type 0} where
       go (no d) = unbound-qubit (slot φ x) l (slot-out φ x (omega arith)) h
 
   -- a qubit after a store of something else was there before
-  pub old-qubit : (φ : List (Slot s B)) (x y : ℕ) (v : Slot s B) (l : Place s) → holdsNoQubit v ≡ true → slot (set φ x v) y ≡ qubit l → slot φ y ≡ qubit l
+  pub old-qubit : (φ : List (Slot s B)) (x y : ℕ) (v : Slot s B) (l : Place s) → holdsNoQubit v ≡ true → slot (set φ x v) y ≡ qubit l
+      → slot φ y ≡ qubit l
   old-qubit φ x y v l n h = ⊎-elim (λ c. not-qubit v l n (sym (c .1) ∙ h)) (λ c. sym c ∙ h) (getD-set-cases φ x y v unbound)
 
   -- a qubit after a store of a qubit is the one stored, or was there before
@@ -204,7 +213,8 @@ module _ {s : Side} {B : Type 0} where
   Once φ = (x y : ℕ) (l k : Place s) → slot φ x ≡ qubit l → slot φ y ≡ qubit k → l .no ≡ k .no → x ≡ y
 
   -- this stays so with a new qubit at a place that none held
-  pub once-held : (φ : List (Slot s B)) (x : ℕ) (l : Place s) → Once φ → ((y : ℕ) (k : Place s) → slot φ y ≡ qubit k → k .no ≢ l .no) → Once (set φ x (qubit l))
+  pub once-held : (φ : List (Slot s B)) (x : ℕ) (l : Place s) → Once φ → ((y : ℕ) (k : Place s) → slot φ y ≡ qubit k → k .no ≢ l .no)
+      → Once (set φ x (qubit l))
   once-held φ x l O new y z k m h h′ e = go (getD-set-cases φ x y (qubit l) unbound) (getD-set-cases φ x z (qubit l) unbound)
     where
       is : (y : ℕ) (k : Place s) → slot (set φ x (qubit l)) y ≡ qubit l → slot (set φ x (qubit l)) y ≡ qubit k → k .no ≡ l .no
@@ -398,8 +408,10 @@ module _ {s : Side} where
   kind-refl v = eqb-same (kindNumber v)
 
   -- what the test at a block's end says of one slot
-  pub all-stay-at : (vs ws : List (Kind s)) (x : ℕ) → allStay vs ws ≡ true → x < 32 → (holdsNoQubit (slot ws x) || sameKind (slot vs x) (slot ws x)) ≡ true
-  all-stay-at vs ws x h r = T→eq _ (all-upTo (λ y. holdsNoQubit (slot ws y) || sameKind (slot vs y) (slot ws y)) 0 32 (eq→T _ h) x (omega arith) (omega arith))
+  pub all-stay-at : (vs ws : List (Kind s)) (x : ℕ) → allStay vs ws ≡ true → x < 32
+      → (holdsNoQubit (slot ws x) || sameKind (slot vs x) (slot ws x)) ≡ true
+  all-stay-at vs ws x h r =
+      T→eq _ (all-upTo (λ y. holdsNoQubit (slot ws y) || sameKind (slot vs y) (slot ws y)) 0 32 (eq→T _ h) x (omega arith) (omega arith))
 
   stay-qubit : (v w : Kind s) (l : Place s) → (holdsNoQubit w || sameKind v w) ≡ true → w ≡ qubit l → v ≡ qubit l
   stay-qubit v w l h e = kind-sound v (qubit l) (rw e at h)

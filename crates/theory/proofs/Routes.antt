@@ -31,7 +31,8 @@ any-some : (p : ℕ → Bool) (i m y : ℕ) → i ≤ y → y < i + m → p y �
 any-some p i zero y h l e = absurd (omega arith)
 any-some p i (suc m) y h l e = go (p i) refl (ℕ-discrete y i) (λ k. any-some p (suc i) m y k (omega arith) e)
   where
-    go : (t : Bool) → p i ≡ t → Dec (y ≡ i) → (suc i ≤ y → any p (upTo (suc i) m λ k. k) ≡ true) → (t || any p (upTo (suc i) m λ k. k)) ≡ true
+    go : (t : Bool) → p i ≡ t → Dec (y ≡ i) → (suc i ≤ y → any p (upTo (suc i) m λ k. k) ≡ true)
+        → (t || any p (upTo (suc i) m λ k. k)) ≡ true
     go true f d rec = refl
     go false f (yes q) rec = absurd (false≢true (sym f ∙ ap p (sym q) ∙ e))
     go false f (no q) rec = rec (omega arith)
@@ -41,7 +42,8 @@ first-passes : (p : ℕ → Bool) (i m : ℕ) → any p (upTo i m λ k. k) ≡ t
 first-passes p i zero h = absurd (false≢true h)
 first-passes p i (suc m) h = go (p i) refl h (λ k. first-passes p (suc i) m k)
   where
-    go : (t : Bool) → p i ≡ t → (t || any p (upTo (suc i) m λ k. k)) ≡ true → (any p (upTo (suc i) m λ k. k) ≡ true → p (firstFrom p (suc i) m) ≡ true)
+    go : (t : Bool) → p i ≡ t → (t || any p (upTo (suc i) m λ k. k)) ≡ true
+        → (any p (upTo (suc i) m λ k. k) ≡ true → p (firstFrom p (suc i) m) ≡ true)
         → p (elim t as (λ _. ℕ) [ true ↦ i | false ↦ firstFrom p (suc i) m ]) ≡ true
     go true e k rec = e
     go false e k rec = rec k
@@ -51,7 +53,8 @@ first-least : (p : ℕ → Bool) (i m y : ℕ) → i ≤ y → y < i + m → p y
 first-least p i zero y h l e = omega arith
 first-least p i (suc m) y h l e = go (p i) refl (ℕ-discrete y i) (λ k. first-least p (suc i) m y k (omega arith) e)
   where
-    go : (t : Bool) → p i ≡ t → Dec (y ≡ i) → (suc i ≤ y → firstFrom p (suc i) m ≤ y) → (elim t as (λ _. ℕ) [ true ↦ i | false ↦ firstFrom p (suc i) m ]) ≤ y
+    go : (t : Bool) → p i ≡ t → Dec (y ≡ i) → (suc i ≤ y → firstFrom p (suc i) m ≤ y)
+        → (elim t as (λ _. ℕ) [ true ↦ i | false ↦ firstFrom p (suc i) m ]) ≤ y
     go true f d rec = h
     go false f (yes q) rec = absurd (false≢true (sym f ∙ ap p (sym q) ∙ e))
     go false f (no q) rec = rec (omega arith)
@@ -163,7 +166,8 @@ module _ (R : Region) (free : ℕ → Bool) (a b : ℕ) where
       go (no r) (no s) = absurd (false≢true (rw (eqb-other x c r, eqb-other x b s) at h))
   suffix x (then {x = c} {y = y} {p = p} j t w) h n = go (ℕ-discrete x c) (λ k. suffix x w k n)
     where
-      go : Dec (x ≡ c) → (any (eqb x) p ≡ true → (q : List ℕ) × (length q ≤ length p) × Way x q) → (q : List ℕ) × (length q ≤ suc (length p)) × Way x q
+      go : Dec (x ≡ c) → (any (eqb x) p ≡ true → (q : List ℕ) × (length q ≤ length p) × Way x q)
+          → (q : List ℕ) × (length q ≤ suc (length p)) × Way x q
       go (yes r) rec = (x ∷ p, omega arith, then {x = x} {y = y} (rw r j) t w)
       go (no r) rec = let s = rec (rw (eqb-other x c r) at h) in (s .0, omega (arith, s .1), s .2)
 
@@ -272,7 +276,8 @@ module _ (R : Region) (free : ℕ → Bool) (a b : ℕ) where
       tried : (r : Option ℕ) → search-from (length (R .owned)) 0 ≡ r → traced R free a b r ≡ none → ⊥
       tried none e k =
           let w = way-length (P .along) in
-          false≢true (sym (fewest-none (length (R .owned)) 0 e (w .0) (omega arith) (omega (arith, w .1, path-length P))) ∙ way-leads (w .0) (P .along) (w .1))
+          let none-leads = fewest-none (length (R .owned)) 0 e (w .0) (omega arith) (omega (arith, w .1, path-length P)) in
+          false≢true (sym none-leads ∙ way-leads (w .0) (P .along) (w .1))
       tried (some l) e k = let z : _≡_ {A = ℕ} 0 1 = cc in omega arith
 
       go : (t : Bool) → eqb a b ≡ t → answers t ≡ none → ⊥

@@ -36,7 +36,8 @@ use Rattle.theory.proofs.Frames.{Settled, Fits, fits-set, fits-narrowed
 
 -- 1. The places of a call, and what it leaves free
 module _ {s : Side} where
-  map-same : (f g : Place s → Place device) (p : Place s → Bool) (ls : List (Place s)) → ((l : Place s) → p l ≡ true → f l ≡ g l) → all p ls ≡ true
+  map-same : (f g : Place s → Place device) (p : Place s → Bool) (ls : List (Place s)) → ((l : Place s) → p l ≡ true → f l ≡ g l)
+      → all p ls ≡ true
       → map f ls ≡ map g ls
   map-same f g p [] h k = refl
   map-same f g p (l ∷ ls) h k = rw (h l (and-left _ _ k), map-same f g p ls h (and-right (p l) _ k))
@@ -62,7 +63,8 @@ module _ {s : Side} where
       more n f zero k = λ r. n (sym r)
       more n f (suc i) k = f i (omega arith)
 
-      go : Dec (q .no ≡ l .no) → Dec (l .no < length before) → (getD before (q .no) false ≡ true → Left bs ls fs q) → Left (b ∷ bs) (l ∷ ls) fs q
+      go : Dec (q .no ≡ l .no) → Dec (l .no < length before) → (getD before (q .no) false ≡ true → Left bs ls fs q)
+          → Left (b ∷ bs) (l ∷ ls) fs q
       go (yes r) (yes k) rec = inl (zero, sym r, sym (getD-set-same before (l .no) b false k) ∙ (rw r at h))
       go (yes r) (no k) rec =
           let h′ : getD before (q .no) false ≡ true = rw (set-out before (l .no) b (omega arith)) at h in
@@ -200,7 +202,8 @@ module _ (R : Region) (fs : List Function) (len : ℕ) where
     close : {s : Side} {B : Body s} {Γ : Env s} {L : List Bool} {φs : List Frame} {is : List Item}
         → (Γ₀ : Env s) → Rest N s B (record { slots = narrowed (Γ₀ .slots) (Γ .slots); free = Γ .free }) L φs is → Rest N s B Γ L φs is
     next : {s : Side} {B : Body s} {Γ Δ : Env s} {L M : List Bool} {φs : List Frame} {is : List Item} {t : Statement s} {c : Commands s}
-        → StatementRule (B .context) Γ t Δ c → Connects R L (commandsAt (B .place) c) M → Rest N s B Δ M φs is → Rest N s B Γ L φs (run (B .actual) t ∷ is)
+        → StatementRule (B .context) Γ t Δ c → Connects R L (commandsAt (B .place) c) M → Rest N s B Δ M φs is
+        → Rest N s B Γ L φs (run (B .actual) t ∷ is)
     back : {D : Body parameter} {Δ : Env parameter} {L : List Bool} {χ : Frame} {φs : List Frame} {is : List Item} {o : ℕ}
         {actual : List (Place device)} {xs : List ℕ} → (w : Waiting N D χ actual xs) → Home (length xs) (Δ .slots)
         → Rest N (w .s) (w .B) (resumed w Δ) L φs is → Rest N parameter D Δ L (χ ∷ φs) (return o actual xs ∷ is)
@@ -262,7 +265,8 @@ module _ (R : Region) (fs : List Function) (len : ℕ) where
     frees = λ q n h. getD-set-other N _ _ false false (other q n h) ∙ w .frees q n h;
   }
     where
-      other : (q : Place (w .s)) → ((p : Place parameter) → p .no < D .size → at (w .ls) (p .no) .no ≢ q .no) → getD (w .Γ .free) (q .no) false ≡ true
+      other : (q : Place (w .s)) → ((p : Place parameter) → p .no < D .size → at (w .ls) (p .no) .no ≢ q .no)
+          → getD (w .Γ .free) (q .no) false ≡ true
           → w .B .place q .no ≢ D .place l .no
       other q n h e =
           let r : q .no < length (w .Γ .free) = true-in-range (w .Γ .free) (q .no) h in
@@ -319,11 +323,13 @@ module _ (R : Region) (fs : List Function) (len : ℕ) where
   rest-statements : {N : List Bool} {s : Side} {B : Body s} {Γ Δ : Env s} (ts : Statements s) {c : Commands s} {L M : List Bool} {φs : List Frame}
       {is : List Item} → StatementsRule (B .context) Γ ts Δ c → Connects R L (commandsAt (B .place) c) M → Rest N s B Δ M φs is
       → Rest N s B Γ L φs (statementsBefore (B .actual) ts is)
-  rest-statements {N = N} {s = s} {B = B} {Γ = Γ} done {φs = φs} {is = is} T-Unit w r = subst (λ (L : List Bool). Rest N s B Γ L φs is) (sym (connects-nil w)) r
+  rest-statements {N = N} {s = s} {B = B} {Γ = Γ} done {φs = φs} {is = is} T-Unit w r =
+      subst (λ (L : List Bool). Rest N s B Γ L φs is) (sym (connects-nil w)) r
   rest-statements {B = B} (t ⨾ ts) (T-Seq {c = c} {d = d} j k) w r = let (K, p, q) = connects-split (B .place) c d w in next j p (rest-statements ts k q r)
 
   pub rest-block : {N : List Bool} {s : Side} {B : Body s} {Γ Δ : Env s} (b : Block s) {c : Commands s} {L M : List Bool} {φs : List Frame} {is : List Item}
-      → BlockRule (B .context) Γ b Δ c → Connects R L (commandsAt (B .place) c) M → Rest N s B Δ M φs is → Rest N s B Γ L φs (blockBefore (B .actual) b is)
+      → BlockRule (B .context) Γ b Δ c → Connects R L (commandsAt (B .place) c) M → Rest N s B Δ M φs is
+      → Rest N s B Γ L φs (blockBefore (B .actual) b is)
   rest-block {Γ = Γ} (block o ts) (T-Close j p) w r = rest-statements ts j w (close Γ r)
 
   -- 6. One step
@@ -333,7 +339,8 @@ module _ (R : Region) (fs : List Function) (len : ℕ) where
       moves : move R fs v isFree φ φs i is ≡ ok to
       inv : Inv (afterAct (to .act) N) (to .next)
 
-    module _ {s : Side} {B : Body s} {Γ : Env s} {N : List Bool} {φ : Frame} (more : (l : ℕ) → getD N l false ≡ true → isFree l ≡ true) (G : Good B Γ N φ) where
+    module _ {s : Side} {B : Body s} {Γ : Env s} {N : List Bool} {φ : Frame} (more : (l : ℕ) → getD N l false ≡ true → isFree l ≡ true)
+        (G : Good B Γ N φ) where
       -- what a rule asks of a slot holds of the run-time slot
       can-bind : (x : ℕ) → slot (Γ .slots) x ≡ unbound → holdsNoQubit (slot φ x) ≡ true
       can-bind x p = rw p at (G .fits .each x)
@@ -377,7 +384,8 @@ module _ (R : Region) (fs : List Function) (len : ℕ) where
       }
 
       performed : {Δ : Env s} {φs : List Frame} {is : List Item} {o : ℕ} {a : Op s} (d : Done device Bool) (e : ℕ)
-          → perform (floor R fs v isFree (B .actual)) o φ a ≡ ok d → edgesOf R fs v isFree (d .act) o ≡ ok e → Good B Δ (afterAct (d .act) N) (d .slots)
+          → perform (floor R fs v isFree (B .actual)) o φ a ≡ ok d → edgesOf R fs v isFree (d .act) o ≡ ok e
+          → Good B Δ (afterAct (d .act) N) (d .slots)
           → Rest (afterAct (d .act) N) s B Δ (afterAct (d .act) N) φs is → Moves N φ φs (run (B .actual) (op o a)) is
       unfolding _>>=_ _>>_
       performed {Δ = Δ} {φs = φs} {is = is} d e p q H z = record {
@@ -389,13 +397,15 @@ module _ (R : Region) (fs : List Function) (len : ℕ) where
       now : {Δ : Env s} {N′ M L : List Bool} {φs : List Frame} {is : List Item} → L ≡ M → Rest N′ s B Δ M φs is → Rest N′ s B Δ L φs is
       now {Δ = Δ} {N′ = N′} {φs = φs} {is = is} e z = subst (λ (L : List Bool). Rest N′ s B Δ L φs is) (sym e) z
 
-      init-ok : (q : Preparation) (o x : ℕ) (l : Place s) → slot (Γ .slots) x ≡ unbound → B .context .inside l ≡ true → getD (Γ .free) (l .no) false ≡ true
+      init-ok : (q : Preparation) (o x : ℕ) (l : Place s) → slot (Γ .slots) x ≡ unbound → B .context .inside l ≡ true
+          → getD (Γ .free) (l .no) false ≡ true
           → perform (floor R fs v isFree (B .actual)) o φ (init q x l) ≡ ok (record { slots = set φ x (qubit (B .place l)); act = takes q (B .place l) })
       unfolding _>>=_ _>>_
       init-ok q o x l p i r = rw (can-bind x p, G .placed .agree l i, G .placed .own l i, is-free l r)
 
       op-moves : {Δ : Env s} {M : List Bool} {φs : List Frame} {is : List Item} {o : ℕ} {a : Op s} {c : Commands s}
-          → OpRule (B .context) Γ o a Δ c → Connects R N (commandsAt (B .place) c) M → Rest N s B Δ M φs is → Moves N φ φs (run (B .actual) (op o a)) is
+          → OpRule (B .context) Γ o a Δ c → Connects R N (commandsAt (B .place) c) M → Rest N s B Δ M φs is
+          → Moves N φ φs (run (B .actual) (op o a)) is
       unfolding _>>=_ _>>_
       op-moves {o = o} (T-Init {x = x} {l = l} p i r) w z =
           performed (record { slots = set φ x (qubit (B .place l)); act = takes plain (B .place l) }) 0 (init-ok plain o x l p i r) refl
@@ -434,8 +444,10 @@ module _ (R : Region) (fs : List Function) (len : ℕ) where
           performed (record { slots = set φ y (bool u); act = quiet }) 0 (rw (can-bind y p)) refl
           (kept-good (fits-set (B .place) y (bool tt) (bool u) (G .fits) (u, refl))) (now (connects-nil w) z)
 
-      if-moves : {Δ : Env s} {M : List Bool} {φs : List Frame} {is : List Item} {o y : ℕ} (b b′ : Block s) {c c′ : Commands s} → slot (Γ .slots) y ≡ bool tt
-          → BlockRule (B .context) Γ b Δ c → BlockRule (B .context) Γ b′ Δ c′ → Connects R N (commandsAt (B .place) (either c c′ ε)) M → Rest N s B Δ M φs is
+      if-moves : {Δ : Env s} {M : List Bool} {φs : List Frame} {is : List Item} {o y : ℕ} (b b′ : Block s) {c c′ : Commands s}
+          → slot (Γ .slots) y ≡ bool tt
+          → BlockRule (B .context) Γ b Δ c → BlockRule (B .context) Γ b′ Δ c′ → Connects R N (commandsAt (B .place) (either c c′ ε)) M
+          → Rest N s B Δ M φs is
           → Moves N φ φs (run (B .actual) (if o y b b′)) is
       unfolding _>>=_ _>>_
       if-moves {φs = φs} {is = is} {y = y} b b′ p j k w z =
@@ -449,7 +461,8 @@ module _ (R : Region) (fs : List Function) (len : ℕ) where
           }
 
       while-moves : {M : List Bool} {φs : List Frame} {is : List Item} {o r : ℕ} (b : Block s) {c : Commands s}
-          → slot (Γ .slots) r ≡ ref tt → BlockRule (B .context) Γ b Γ c → Connects R N (commandsAt (B .place) (repeat c ε)) M → Rest N s B Γ M φs is
+          → slot (Γ .slots) r ≡ ref tt → BlockRule (B .context) Γ b Γ c → Connects R N (commandsAt (B .place) (repeat c ε)) M
+          → Rest N s B Γ M φs is
           → Moves N φ φs (run (B .actual) (while o r b)) is
       unfolding _>>=_ _>>_
       while-moves {φs = φs} {is = is} {o = o} {r = r} b {c = c} p j w z =
@@ -495,7 +508,8 @@ module _ (R : Region) (fs : List Function) (len : ℕ) where
         argument : (j : ℕ) → j < length xs → Settled (ends j) (stays j) (at (w .ls) j)
         argument j k = settled (D .place) (w .ls) actual (slot (Δ .slots) j) (slot φ j) j (G .fits .each j) (w .named j k) (h j k)
 
-        named : (q : Place (w .s)) → (i : ℕ) × (at (w .ls) i .no ≡ q .no) × (getD (Δ .free) i false ≡ true) → getD N (w .B .place q .no) false ≡ true
+        named : (q : Place (w .s)) → (i : ℕ) × (at (w .ls) i .no ≡ q .no) × (getD (Δ .free) i false ≡ true)
+            → getD N (w .B .place q .no) false ≡ true
         named q (i, e, k) =
             let same : D .place (param i) ≡ w .B .place q = w .places (param i) ∙ ap (λ p. w .B .place p) (place-path (at (w .ls) i) q e) in
             subst (λ (p : Place device). getD N (p .no) false ≡ true) same (G .frees (param i) k)
@@ -506,7 +520,8 @@ module _ (R : Region) (fs : List Function) (len : ℕ) where
 
   -- 8. A call asks on the device what it asks in typing
   module _ {s : Side} where
-    all-map : (f : Place s → Bool) (g : Place device → Bool) (ρ : Place s → Place device) (ls : List (Place s)) → ((l : Place s) → f l ≡ true → g (ρ l) ≡ true)
+    all-map : (f : Place s → Bool) (g : Place device → Bool) (ρ : Place s → Place device) (ls : List (Place s))
+        → ((l : Place s) → f l ≡ true → g (ρ l) ≡ true)
         → all f ls ≡ true → all g (map ρ ls) ≡ true
     all-map f g ρ [] h k = refl
     all-map f g ρ (l ∷ ls) h k = rw (h l (and-left _ _ k)) (all-map f g ρ ls h (and-right (f l) _ k))
@@ -516,7 +531,8 @@ module _ (R : Region) (fs : List Function) (len : ℕ) where
     drop-map ρ (suc m) [] = refl
     drop-map ρ (suc m) (l ∷ ls) = drop-map ρ m ls
 
-    eqb-map : {B : Body s} (l k : Place s) → Placed B → l .no < B .size → k .no < B .size → eqb (B .place l .no) (B .place k .no) ≡ eqb (l .no) (k .no)
+    eqb-map : {B : Body s} (l k : Place s) → Placed B → l .no < B .size → k .no < B .size
+        → eqb (B .place l .no) (B .place k .no) ≡ eqb (l .no) (k .no)
     eqb-map {B = B} l k P a b = go (ℕ-discrete (l .no) (k .no))
       where
         go : Dec (l .no ≡ k .no) → eqb (B .place l .no) (B .place k .no) ≡ eqb (l .no) (k .no)
@@ -551,7 +567,8 @@ module _ (R : Region) (fs : List Function) (len : ℕ) where
     arguments-ok o (and {x = x} {l = l} p r) = rw (is-qubit v isFree more G x l p, eqb-same (B .place l .no)) (arguments-ok o r)
 
     -- the callee's body on the device, and what the call shows of it
-    module _ {f : ℕ} {ls : List (Place s)} {xs : List ℕ} (A : Callable (B .context) Γ f ls xs) (callee : Callee f (signature (B .context .functions) f)) where
+    module _ {f : ℕ} {ls : List (Place s)} {xs : List ℕ} (A : Callable (B .context) Γ f ls xs)
+        (callee : Callee f (signature (B .context .functions) f)) where
       abbrev actual : List (Place device)
       actual = map (locate (B .actual)) ls
 
@@ -681,7 +698,8 @@ module _ (R : Region) (fs : List Function) (len : ℕ) where
     moved m = rw (m .moves) (record { unstuck = refl; inv = m .inv })
 
     fine-items : {N : List Bool} {s : Side} {B : Body s} {Γ : Env s} (φ : Frame) (φs : List Frame) (is : List Item)
-        → ((l : ℕ) → getD N l false ≡ true → isFree l ≡ true) → Good B Γ N φ → Rest N s B Γ N φs is → Fine N (stepItems R fs v isFree φ φs is)
+        → ((l : ℕ) → getD N l false ≡ true → isFree l ≡ true) → Good B Γ N φ → Rest N s B Γ N φs is
+        → Fine N (stepItems R fs v isFree φ φs is)
     fine-items {s = s} {B = B} {Γ = Γ} φ φs [] more G r = record { unstuck = refl; inv = record { s = s; B = B; Γ = Γ; good = G; rest = r } }
     fine-items φ φs (i ∷ is) more G r = moved (rest-moves more G r)
 

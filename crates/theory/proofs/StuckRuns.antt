@@ -101,7 +101,8 @@ module _ (device first second schedule buffer map′ : List ℕ) (m : Moved) (e 
         ap (λ (s : List ℕ). final D P (map turnOf s) (started D P)) (split-at schedule i 0 h)
         ∙ final-parts D P (take i schedule) (byte schedule i) (drop (suc i) schedule) (started D P)
 
-    same-answer : (k : ℕ) → i < k → byte schedule k / 16 ≡ t .job → stepOf D P (turnOf (byte schedule k)) (at k) .answer ≡ stepOf D P t (at i) .answer
+    same-answer : (k : ℕ) → i < k → byte schedule k / 16 ≡ t .job
+        → stepOf D P (turnOf (byte schedule k)) (at k) .answer ≡ stepOf D P t (at i) .answer
     same-answer k l j =
         let w : Bool = turnOf (byte schedule k) .outcome in
         let turn : turnOf (byte schedule k) ≡ record { job = t .job; outcome = w } = λ x. record { job = j x; outcome = w } in

@@ -25,7 +25,8 @@ use Rattle.rules.specs.Run.{Turn, Machine, written, started, stepOf, after, fin
 use Rattle.theory.specs.Interleaving.{turnsOf}
 use Rattle.theory.specs.Tidy.{isInit, isFree, bytesOf, Readable, acts, Occupied, MapByte, frame, Stuck, StuckStays, HeldOnce}
 use Rattle.theory.proofs.Base.{eqb-same, eqb-other}
-use Rattle.theory.proofs.Isolation.{Byte, ownSlot, OwnFrame, OwnFrames, OwnAct, OwnJob, owns-owner, part, Sound, sound-started, sound-after, sound-final}
+use Rattle.theory.proofs.Isolation.{Byte, ownSlot, OwnFrame, OwnFrames, OwnAct, OwnJob, owns-owner, part, Sound, sound-started, sound-after}
+use Rattle.theory.proofs.Isolation.{sound-final}
 use Rattle.theory.proofs.Isolation.{View, view, view-step, view-after, view-final, acts-own, same-step, view-same, view-of-final}
 use Rattle.theory.proofs.Neat.{Neat, Counts, Keeps, neat-keep, neat-step, neat-fresh, bodies-scoped, frames-once}
 
@@ -36,7 +37,8 @@ map-byte D programs ts l = sound-final D programs ts (started D programs) (sound
 -- 2. Every job from 1 on stays neat.
 module _ (D : Device) (programs : ℕ → Program) where
   -- a byte of job j is not where another job owns
-  untouched : (i j k l : ℕ) (occ : List ℕ) → 1 ≤ j → j ≢ i → owns (regionOf D i) k ≡ true → ((l : ℕ) → Byte D occ l) → getD occ l 0 ≡ j → l ≢ k
+  untouched : (i j k l : ℕ) (occ : List ℕ) → 1 ≤ j → j ≢ i → owns (regionOf D i) k ≡ true → ((l : ℕ) → Byte D occ l)
+      → getD occ l 0 ≡ j → l ≢ k
   untouched i j k l occ pos n h b e same = go (b l)
     where
       go : Byte D occ l → ⊥
@@ -65,7 +67,8 @@ module _ (D : Device) (programs : ℕ → Program) where
       omega arith
 
   -- the act's own job
-  bytes-own : (j : ℕ) (a : Act device) (occ : List ℕ) → 1 ≤ j → length (D .owners) ≡ length occ → OwnAct (owns (regionOf D j)) a → Counts j occ a
+  bytes-own : (j : ℕ) (a : Act device) (occ : List ℕ) → 1 ≤ j → length (D .owners) ≡ length occ → OwnAct (owns (regionOf D j)) a
+      → Counts j occ a
       → bytesOf j (written j a occ) + chosen (isFree a) 1 0 ≡ bytesOf j occ + chosen (isInit a) 1 0
   bytes-own j quiet occ pos f h c = refl
   bytes-own j (takes q l) occ pos f h c =
@@ -78,7 +81,8 @@ module _ (D : Device) (programs : ℕ → Program) where
   bytes-own j (merges b l e k) occ pos f h c = refl
 
   -- another job
-  not-its : (i j : ℕ) (occ : List ℕ) (k : ℕ) → 1 ≤ j → j ≢ i → owns (regionOf D i) k ≡ true → ((l : ℕ) → Byte D occ l) → getD occ k 0 ≢ j
+  not-its : (i j : ℕ) (occ : List ℕ) (k : ℕ) → 1 ≤ j → j ≢ i → owns (regionOf D i) k ≡ true → ((l : ℕ) → Byte D occ l)
+      → getD occ k 0 ≢ j
   not-its i j occ k pos n h b e = untouched i j k k occ pos n h b e refl
 
   in-range : (i k : ℕ) (occ : List ℕ) → length (D .owners) ≡ length occ → owns (regionOf D i) k ≡ true → k < length occ
@@ -135,7 +139,8 @@ module _ (D : Device) (programs : ℕ → Program) where
             (bytes-own (t .job) (stepOf D programs t M .act) (M .occupancy) from (S .fits) (acts-own D programs t M S) (neat-own t M S from A .0))
         go (no n) =
             rw (eqb-other (t .job) j (λ e. n (sym e)))
-            (ap (λ (m : ℕ). m + 0) (bytes-other (t .job) j (stepOf D programs t M .act) (M .occupancy) pos n (S .fits) (acts-own D programs t M S) (S .bytes)))
+            (ap (λ (m : ℕ). m + 0)
+            (bytes-other (t .job) j (stepOf D programs t M .act) (M .occupancy) pos n (S .fits) (acts-own D programs t M S) (S .bytes)))
 
     counted : (j : ℕ) → 1 ≤ j → (ts : List Turn) (M : Machine) → Sound D programs M → AllNeat M
         → bytesOf j (final D programs ts M .occupancy) + acts D programs isFree j ts M ≡ bytesOf j (M .occupancy) + acts D programs isInit j ts M
@@ -171,7 +176,8 @@ module _ (own : ℕ → Bool) where
 
 module _ (D : Device) (programs : ℕ → Program) where
   -- a location in a frame of a job is the job's
-  owner-of : (M : Machine) → Sound D programs M → (j i x : ℕ) (l : Place device) → slot (frame (M .jobs j) i) x ≡ qubit l → getD (D .owners) (l .no) 0 ≡ j
+  owner-of : (M : Machine) → Sound D programs M → (j i x : ℕ) (l : Place device) → slot (frame (M .jobs j) i) x ≡ qubit l
+      → getD (D .owners) (l .no) 0 ≡ j
   owner-of M S j i x l h =
       let own = owns (regionOf D j) in
       owns-owner (D .owners) j (l .no) (own-at own (frame (M .jobs j) i) x l (own-frame own (M .jobs j) i (S .own j)) h) .1
@@ -188,7 +194,8 @@ held-once D programs readable ts =
     let A = neat-final D programs readable ts (started D programs) (sound-started D programs) (neat-started D programs readable) in
     record {
       one-slot = λ j i x y l k pos h h′ e. frames-once (M .jobs j) (A j pos) i x y l k h h′ e;
-      one-job = λ i j a b x y l k h h′ e. sym (owner-of D programs M S i a x l h) ∙ ap (λ (m : ℕ). getD (D .owners) m 0) e ∙ owner-of D programs M S j b y k h′;
+      one-job = λ i j a b x y l k h h′ e. sym (owner-of D programs M S i a x l h) ∙ ap (λ (m : ℕ). getD (D .owners) m 0) e
+          ∙ owner-of D programs M S j b y k h′;
       on-map = λ j x l h. byte-of D programs M S readable A j x l h;
     }
 

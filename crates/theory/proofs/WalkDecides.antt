@@ -40,7 +40,8 @@ then-bind (ok a) n f = refl
 then-bind (refused r) n f = refl
 
 -- the number n is that of a place below size, or of none
-image : {s t : Side} (σ : Place s → Place t) (size n : ℕ) → ((p : Place s) × (p .no < size) × (σ p .no ≡ n)) ⊎ ((p : Place s) → p .no < size → σ p .no ≢ n)
+image : {s t : Side} (σ : Place s → Place t) (size n : ℕ)
+    → ((p : Place s) × (p .no < size) × (σ p .no ≡ n)) ⊎ ((p : Place s) → p .no < size → σ p .no ≢ n)
 image σ zero n = inr (λ p h. absurd (omega arith))
 image σ (suc i) n = ⊎-elim (λ c. inl (c .0, omega (arith, c .1), c .2)) (λ c. go c (ℕ-discrete (σ (record { no = i }) .no) n)) (image σ i n)
   where
@@ -73,7 +74,8 @@ module _ (R : Region) (len : ℕ) where
     pub exact : Exact size σ fs M
     pub outside : Outside size σ L M
 
-  same-end : {s : Side} (size : ℕ) (σ : Place s → Place device) (fs L M N : List Bool) → length M ≡ len → length N ≡ len → Exact size σ fs M → Exact size σ fs N
+  same-end : {s : Side} (size : ℕ) (σ : Place s → Place device) (fs L M N : List Bool) → length M ≡ len → length N ≡ len
+      → Exact size σ fs M → Exact size σ fs N
       → Outside size σ L M → Outside size σ L N → M ≡ N
   same-end size σ fs L M N e e′ x x′ o o′ = ext-getD false M N (e ∙ sym e′) λ n h. ⊎-elim
       (λ c. rw (← (c .2)) (sym (x (c .0) (c .1)) ∙ x′ (c .0) (c .1)))
@@ -131,7 +133,8 @@ module _ (R : Region) (len : ℕ) where
           let far : σ p .no ≢ σ l .no = λ v. c (A .apart p l h r v) in
           getD-set-other fs (l .no) (p .no) false false c ∙ x p h ∙ sym (getD-set-other L (σ l .no) (σ p .no) false false far)
 
-  release-does : {s : Side} {size : ℕ} {σ : Place s → Place device} (fs : List Bool) (l : Place s) → Apart size σ → length fs ≡ size → l .no < size
+  release-does : {s : Side} {size : ℕ} {σ : Place s → Place device} (fs : List Bool) (l : Place s) → Apart size σ → length fs ≡ size
+      → l .no < size
       → Effect size σ fs (set fs (l .no) true) (release (σ l) ε)
   release-does {size = size} {σ = σ} fs l A z r L e x =
       let w : σ l .no < len = A .room l r in
@@ -211,7 +214,8 @@ module _ (R : Region) (len : ℕ) where
 
         start : (i : ℕ) → i < g .k → Dec (i < length xs)
             → getD (replicate (g .m) false ++ replicate (g .k - g .m) true) i false ≡ getD L (σ (at ls i) .no) false
-        start i h (yes d) = entry-taken (g .m) (g .k - g .m) i (omega arith) ∙ sym (I .taken _ (at ls i) (argument-at xs ls i a d)) ∙ x (at ls i) (in-range i h)
+        start i h (yes d) =
+            entry-taken (g .m) (g .k - g .m) i (omega arith) ∙ sym (I .taken _ (at ls i) (argument-at xs ls i a d)) ∙ x (at ls i) (in-range i h)
         start i h (no d) =
             entry-rest (g .m) (g .k - g .m) i (omega arith) (omega arith)
             ∙ sym (drop-at (λ l. getD (Γ .free) (l .no) false) (length xs) ls i w (omega arith) (omega arith)) ∙ x (at ls i) (in-range i h)
@@ -240,7 +244,8 @@ module _ (R : Region) (len : ℕ) where
     then-does fs {gs = gs} {hs = hs} c d f g L e x =
         rw (walk-then σ c d L) (holds-bind (f L e x) λ M P. holds-map (λ N Q. both M N P Q) (g M (P .long) (P .exact)))
       where
-        both : (M N : List Bool) → After size σ gs L (commandsAt σ c) M → After size σ hs M (commandsAt σ d) N → After size σ hs L (commandsAt σ (c then d)) N
+        both : (M N : List Bool) → After size σ gs L (commandsAt σ c) M → After size σ hs M (commandsAt σ d) N
+            → After size σ hs L (commandsAt σ (c then d)) N
         both M N P Q = record {
           connects = connects-then σ c d (P .connects) (Q .connects);
           long = Q .long;
@@ -263,7 +268,8 @@ module _ (R : Region) (len : ℕ) where
 
     module _ (S : Scope) (N : AllEnd (C .functions)) (H : AllDo (C .functions)) where
       mutual
-        statement-does : (t : Statement s) {Γ Δ : Env s} {c : Commands s} {d o p : ℕ} → StatementRule C Γ t Δ c → StatementRead S d o p t → Linear C Γ
+        statement-does : (t : Statement s) {Γ Δ : Env s} {c : Commands s} {d o p : ℕ} → StatementRule C Γ t Δ c → StatementRead S d o p t
+            → Linear C Γ
             → length (Γ .free) ≡ size → Effect size σ (Γ .free) (Δ .free) (commandsAt σ c)
         statement-does (op i a) (T-Op j) r I z = op-does j I z
         statement-does (if i y b b′) (T-If {Γ = Γ} {c = c} {c′ = c′} e j k) (if-read h r r′) I z =
@@ -275,13 +281,15 @@ module _ (R : Region) (len : ℕ) where
             let does : Does g = all-of-at Does (C .functions) f H (J .earlier) in
             call-does Γ g ls xs ends does (J .locations) (J .slots) (J .inside) (J .different) (J .arguments) (J .others-free) I z
 
-        statements-do : (ts : Statements s) {Γ Δ : Env s} {c : Commands s} {d o p : ℕ} → StatementsRule C Γ ts Δ c → StatementsRead S d o p ts → Linear C Γ
+        statements-do : (ts : Statements s) {Γ Δ : Env s} {c : Commands s} {d o p : ℕ} → StatementsRule C Γ ts Δ c → StatementsRead S d o p ts
+            → Linear C Γ
             → length (Γ .free) ≡ size → Effect size σ (Γ .free) (Δ .free) (commandsAt σ c)
         statements-do done T-Unit r I z = none-does
         statements-do (t ⨾ ts) (T-Seq {Γ = Γ} {c = c} {d = d} j k) (next-read r r′) I z =
             then-does (Γ .free) c d (statement-does t j r I z) (statements-do ts k r′ (linear-statement C S t j r N I) (free-length-statement C t j ∙ z))
 
-        block-does : (b : Block s) {Γ Δ : Env s} {c : Commands s} {d o p : ℕ} → BlockRule C Γ b Δ c → BlockRead S d o p b → Linear C Γ → length (Γ .free) ≡ size
+        block-does : (b : Block s) {Γ Δ : Env s} {c : Commands s} {d o p : ℕ} → BlockRule C Γ b Δ c → BlockRead S d o p b → Linear C Γ
+            → length (Γ .free) ≡ size
             → Effect size σ (Γ .free) (Δ .free) (commandsAt σ c)
         block-does (block i ts) (T-Close j e) (block-read r) I z = statements-do ts j r I z
 

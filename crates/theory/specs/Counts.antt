@@ -58,7 +58,8 @@ callees gs f = sizeOf (signature gs f .commands)
 
 -- the size of a typed block's commands is the sum over its statements
 abbrev pub BlockSize : Type 0
-BlockSize = (s : Side) (C : Context s) (Γ Δ : Env s) (b : Block s) (c : Commands s) → BlockRule C Γ b Δ c → sizeOf c ≡ blockSize (callees (C .functions)) b
+BlockSize =
+    (s : Side) (C : Context s) (Γ Δ : Env s) (b : Block s) (c : Commands s) → BlockRule C Γ b Δ c → sizeOf c ≡ blockSize (callees (C .functions)) b
 
 -- and a callee's is that of its body
 abbrev pub CalleeSize : Type 0

@@ -31,7 +31,8 @@ pub record Alike (D : Device) (programs : ℕ → Program) (ts us : List Turn) :
   pub told : (j : ℕ) → recordsOf j (records D programs ts (started D programs)) ≡ recordsOf j (records D programs us (started D programs))
 
 abbrev pub AnyInterleaving : Type 0
-AnyInterleaving = (D : Device) (programs : ℕ → Program) (js : List ℕ) (ts : List Turn) → distinct js ≡ true → all (λ t. any (eqb (t .job)) js) ts ≡ true
+AnyInterleaving =
+    (D : Device) (programs : ℕ → Program) (js : List ℕ) (ts : List Turn) → distinct js ≡ true → all (λ t. any (eqb (t .job)) js) ts ≡ true
     → Alike D programs ts (inOrder js ts)
 
 -- job 1 has all its steps first and job 2 then

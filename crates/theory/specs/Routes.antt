@@ -22,5 +22,6 @@ abbrev pub OneRoute : Type 0
 OneRoute = (R : Region) (free : ℕ → Bool) (a b : ℕ) (p q : List ℕ) → Route R free a b p → Route R free a b q → p ≡ q
 
 abbrev pub ShortRoute : Type 0
-ShortRoute = (bytes : List ℕ) (D : Device) (j : ℕ) (free : ℕ → Bool) (a b : ℕ) (p : List ℕ) → readDevice bytes ≡ ok D → route (regionOf D j) free a b ≡ some p
+ShortRoute = (bytes : List ℕ) (D : Device) (j : ℕ) (free : ℕ → Bool) (a b : ℕ) (p : List ℕ)
+    → readDevice bytes ≡ ok D → route (regionOf D j) free a b ≡ some p
     → length p ≤ 256

@@ -34,11 +34,13 @@ mutual
     op-read : {d o p : ℕ} {a : Op s} → OpRead S a → o < p → StatementRead S d o p (op o a)
     if-read : {d o p q y : ℕ} {b c : Block s} → y < 32 → BlockRead S d (o + 2) p b → BlockRead S d p q c → StatementRead S d o q (if o y b c)
     while-read : {d o p r : ℕ} {b : Block s} → r < 32 → BlockRead S d (o + 2) p b → StatementRead S d o p (while o r b)
-    call-read : {d o f : ℕ} {ls : List (Place s)} {xs : List ℕ} → CallRead S f ls xs → StatementRead S d o (o + 4 + length ls + length xs) (call o f ls xs)
+    call-read : {d o f : ℕ} {ls : List (Place s)} {xs : List ℕ} → CallRead S f ls xs
+        → StatementRead S d o (o + 4 + length ls + length xs) (call o f ls xs)
 
   pub data StatementsRead {s : Side} (S : Scope) : ℕ → ℕ → ℕ → Statements s → Type 0 where
     done-read : {d p : ℕ} → StatementsRead S d p p done
-    next-read : {d o p q : ℕ} {t : Statement s} {ts : Statements s} → StatementRead S d o p t → StatementsRead S d p q ts → StatementsRead S d o q (t ⨾ ts)
+    next-read : {d o p q : ℕ} {t : Statement s} {ts : Statements s} → StatementRead S d o p t → StatementsRead S d p q ts
+        → StatementsRead S d o q (t ⨾ ts)
 
   pub data BlockRead {s : Side} (S : Scope) : ℕ → ℕ → ℕ → Block s → Type 0 where
     block-read : {d o p : ℕ} {ts : Statements s} → StatementsRead S d (o + 2) p ts → BlockRead S (suc d) o p (block o ts)
@@ -47,7 +49,8 @@ mutual
 pub data FunctionsRead : List Function → ℕ → List Function → ℕ → Type 0 where
   none-read : {fs : List Function} {o : ℕ} → FunctionsRead fs o [] o
   function-read : {fs gs : List Function} {g : Function} {o p q : ℕ} → g .k ≤ 16 → g .m ≤ 8 → g .m ≤ g .k
-      → BlockRead (record { places = g .k; earlier = fs }) 8 (o + 2) p (g .body) → FunctionsRead (fs ++ (g ∷ [])) p gs q → FunctionsRead fs o (g ∷ gs) q
+      → BlockRead (record { places = g .k; earlier = fs }) 8 (o + 2) p (g .body) → FunctionsRead (fs ++ (g ∷ [])) p gs q
+      → FunctionsRead fs o (g ∷ gs) q
 
 pub record ProgramRead (size : ℕ) (p : Program) : Type 0 where
   pub few : length (p .functions) ≤ 15

@@ -48,7 +48,8 @@ fn left(before: Slot, after: Slot) -> Slot
 
 impl Env {
     fn stays(self, entry: Env) -> bool
-        ensures { λ r. ⌜ ((d : Side) (n : ℕ) (Γ Δ : Environment d) → EnvIs n entry Γ → EnvIs n self Δ → r ≡ allStay (Γ .slots) (Δ .slots)) ⌝ }
+        ensures { λ r. ⌜ ((d : Side) (n : ℕ) (Γ Δ : Environment d) → EnvIs n entry Γ → EnvIs n self Δ
+            → r ≡ allStay (Γ .slots) (Δ .slots)) ⌝ }
     {
         let mut x: usize = 0;
         while x < 32 {
@@ -75,7 +76,8 @@ impl Env {
 
     // The closing of the block whose length word is at `at`, entered with `entry`.
     pub fn close(self, entry: Env, at: usize, next: usize) -> Outcome
-        ensures { λ r. ⌜ ((d : Side) (n : ℕ) (Γ : Environment d) (t : Typed d) → EnvIs n entry Γ → EnvIs n self (t .env) → Answers n next (close at Γ t) r) ⌝ }
+        ensures { λ r. ⌜ ((d : Side) (n : ℕ) (Γ : Environment d) (t : Typed d) → EnvIs n entry Γ → EnvIs n self (t .env)
+            → Answers n next (close at Γ t) r) ⌝ }
     {
         if !self.stays(entry) {
             return self.stops(17, at);

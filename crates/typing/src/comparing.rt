@@ -23,7 +23,8 @@ fn same_places(a: LocationSet, b: LocationSet) -> bool
 
 impl Env {
     fn same_slots(self, other: Env) -> bool
-        ensures { λ r. ⌜ ((d : Side) (n : ℕ) (Γ Δ : Environment d) → EnvIs n self Γ → EnvIs n other Δ → r ≡ sameList sameKind (Γ .slots) (Δ .slots)) ⌝ }
+        ensures { λ r. ⌜ ((d : Side) (n : ℕ) (Γ Δ : Environment d) → EnvIs n self Γ → EnvIs n other Δ
+            → r ≡ sameList sameKind (Γ .slots) (Δ .slots)) ⌝ }
     {
         let mut x: usize = 0;
         while x < 32 {

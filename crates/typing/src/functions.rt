@@ -55,7 +55,8 @@ fn entered(k: u8, m: u8) -> Env
 
 pub fn type_functions(s: &[u8], t: FunctionTable) -> Learnt
     requires { ⌜ ((p : Program) × ProgramIn (now s) p × Heads (p .functions) t) ⌝ }
-    ensures { λ r. ⌜ ((p : Program) → ProgramIn (now (s .entry)) p → Heads (p .functions) t → Learns (p .functions) (typeFunctions [] (p .functions)) r) ⌝ }
+    ensures { λ r. ⌜ ((p : Program) → ProgramIn (now (s .entry)) p → Heads (p .functions) t
+        → Learns (p .functions) (typeFunctions [] (p .functions)) r) ⌝ }
 {
     let count = t.count;
     let mut endings = Endings::new();

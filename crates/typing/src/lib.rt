@@ -31,7 +31,8 @@ mod statements;
 // The functions, each by those before it, then main with all of the job's own locations free.
 pub fn type_program(s: &[u8], t: FunctionTable, main: usize, owned: LocationSet) -> ReadAnswer
     requires { ⌜ ((p : Program) × ProgramIn (now s) p × Tabled p t main) ⌝ }
-    ensures { λ r. ⌜ ((p : Program) → ProgramIn (now (s .entry)) p → Tabled p t main → (R : Region) → Owned R owned → readSaid r ≡ typing (R .owned) p) ⌝ }
+    ensures { λ r. ⌜ ((p : Program) → ProgramIn (now (s .entry)) p → Tabled p t main → (R : Region) → Owned R owned
+        → readSaid r ≡ typing (R .owned) p) ⌝ }
 {
     let learnt = type_functions(s, t);
     let answer = learnt.answer;

@@ -32,8 +32,10 @@ pub fn enter(
     requires { ⌜ (k ≤ 16) × (p + k ≤ length (now s)) × ((i : ℕ) → i < k → in_main ≡ false → byte (now s) (p + i) < 16) ⌝ }
     requires { ⌜ (length (now inner) ≡ 16) × (length (now frame) ≡ 32) ⌝ }
     ensures long { λ _. ⌜ length (now (frame .exit)) ≡ 32 ⌝ }
-    ensures named { λ _. ⌜ ((i : ℕ) → i < k → placed (now (inner .exit)) i ≡ named (namesOf in_main (now (names .entry))) (byte (now (s .entry)) (p + i))) ⌝ }
-    ensures passed { λ _. ⌜ ((i : ℕ) → i < k → placed (now (frame .exit)) i ≡ named (namesOf in_main (now (names .entry))) (byte (now (s .entry)) (p + i))) ⌝ }
+    ensures named { λ _. ⌜ ((i : ℕ) → i < k
+        → placed (now (inner .exit)) i ≡ named (namesOf in_main (now (names .entry))) (byte (now (s .entry)) (p + i))) ⌝ }
+    ensures passed { λ _. ⌜ ((i : ℕ) → i < k
+        → placed (now (frame .exit)) i ≡ named (namesOf in_main (now (names .entry))) (byte (now (s .entry)) (p + i))) ⌝ }
     ensures rest { λ _. ⌜ ((i : ℕ) → k ≤ i → placed (now (frame .exit)) i ≡ placed (now (frame .entry)) i) ⌝ }
 {
     let mut i = 0;

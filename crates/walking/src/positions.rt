@@ -19,7 +19,8 @@ pub fn block_end(s: &[u8], at: usize) -> usize
 
 // The position after the statement at `at`.
 pub fn statement_end(s: &[u8], at: usize) -> usize
-    requires { ⌜ (length (now s) ≤ 4096) × ((d : Side) × (S : Scope) × (depths : ℕ) × (t : Statement d) × (q : ℕ) × StatementIn (now s) S depths at t q) ⌝ }
+    requires { ⌜ (length (now s) ≤ 4096) × ((d : Side) × (S : Scope) × (depths : ℕ) × (t : Statement d)
+        × (q : ℕ) × StatementIn (now s) S depths at t q) ⌝ }
     ensures { λ r. ⌜ ((d : Side) (S : Scope) (depths : ℕ) (t : Statement d) (q : ℕ) → StatementIn (now (s .entry)) S depths at t q → r ≡ q) ⌝ }
 {
     let op = s[at];

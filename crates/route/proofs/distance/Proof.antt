@@ -40,7 +40,8 @@ returns-2 : tie.Need-returns-2 Inv-loop μ-loop
 returns-2 c =
     let a = c .before .before .before .before .args in (
       (λ R w. ends-joined R (has (a .free)) (a .a) (a .b) (c .before .before .before .if1 .left)
-          (sym (w .row (a .a) (a .b)) ∙ ap (λ r. has r (a .b)) (sym (c .before .before .row .ensures)) ∙ sym (c .before .contains .ensures) ∙ c .if2 .taken)),
+          (sym (w .row (a .a) (a .b)) ∙ ap (λ r. has r (a .b)) (sym (c .before .before .row .ensures))
+          ∙ sym (c .before .contains .ensures) ∙ c .if2 .taken)),
       omega arith,
     )
 

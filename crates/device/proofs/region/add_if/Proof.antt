@@ -11,7 +11,8 @@ add-requires : tie.Need-add-requires
 add-requires c κs = search needs
 
 returns : tie.Need-returns
-returns c = λ y. c .add .ensures y ∙ ap (λ u. (u && eqb y (c .before .before .args .x)) || has (c .before .before .args .set) y) (sym (c .before .if1 .taken))
+returns c =
+    λ y. c .add .ensures y ∙ ap (λ u. (u && eqb y (c .before .before .args .x)) || has (c .before .before .args .set) y) (sym (c .before .if1 .taken))
 
 returns-2 : tie.Need-returns-2
 returns-2 c = λ y. ap (λ u. (u && eqb y (c .before .args .x)) || has (c .before .args .set) y) (sym (c .if1 .left))

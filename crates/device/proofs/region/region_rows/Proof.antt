@@ -77,7 +77,8 @@ loop-again c =
     let w = c .before .before .wide2 .ensures .0 in (
       omega arith,
       c .join-owned .ensures .0,
-      λ D q x y. rows-more (reads-as (d .pre .0 .1) q) (d .args .job) (l .i) (omega arith) _ _ v w x y _ _ (c .join-owned .ensures .1 x y) ∙ l .inv .2 D q x y,
+      λ D q x y. rows-more (reads-as (d .pre .0 .1) q) (d .args .job) (l .i) (omega arith) _ _ v w x y _ _ (c .join-owned .ensures .1 x y)
+          ∙ l .inv .2 D q x y,
     )
 
 returns : tie.Need-returns Inv-loop μ-loop

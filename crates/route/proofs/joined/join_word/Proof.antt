@@ -12,7 +12,8 @@ use Rattle.route.proofs.joined.join_word.Statement.{statement}
 use Rattle.route.proofs.joined.join_word.Tie as tie
 
 abbrev Inv-loop : tie.InvT-loop
-Inv-loop rows i word out₀ w₀ out w = (m : ℕ) × Rest word w m × ((S : ℕ → Bool) → Word S i word → Joined rows S (i * 64) out₀ → Joined rows S (i * 64 + m) out)
+Inv-loop rows i word out₀ w₀ out w =
+    (m : ℕ) × Rest word w m × ((S : ℕ → Bool) → Word S i word → Joined rows S (i * 64) out₀ → Joined rows S (i * 64 + m) out)
 
 abbrev μ-loop : tie.MeasureT-loop
 μ-loop rows i word out₀ w₀ out w = w

@@ -182,7 +182,8 @@ loop-again c =
       omega (arith, l .inv .1),
       spread-apart (c .further .ensures .1),
       λ R w. hunt-next w (c .further .result .left) (c .further .result .next) (l .inv .3 R w) (l .inv .2)
-          (λ y p q. clash (c .before .before .before .before .before .common .ensures y ∙ both-and _ (has (l .f .next) y) q p) (e y)) (c .further .ensures .1),
+          (λ y p q. let both = c .before .before .before .before .before .common .ensures y ∙ both-and _ (has (l .f .next) y) q p in
+          clash both (e y)) (c .further .ensures .1),
     )
 
 pub search-spec : {M : Type 1} → statement M

@@ -45,10 +45,6 @@ pub known-within : {A : Type 0} {P : A → Type 0} {m : Check A} → Within P m 
 known-within (value h) = value (h, refl)
 known-within (refuses h) = refuses h
 
-pub any-value : {A : Type 0} {P : A → Type 0} {m : Check A} → Within P m → Within Any m
-any-value (value h) = value tt
-any-value (refuses h) = refuses h
-
 pub file-within : {A : Type 0} {P : A → Type 0} {m : Check A} (f : File) → jobNamed f ≤ 2 → Within P m → Within P (within f m)
 file-within f l (value h) = value h
 file-within f l (refuses h) = refuses (record { from-1 = h .from-1; to-26 = h .to-26; in-file = h .in-file; named = l })

@@ -1,85 +1,36 @@
 -- What typing and the walk stay within. Typing refuses at the offset of a statement or of a block of the tree that was read, and its commands have only
 -- such offsets; the walk refuses at the offset of a command.
-use mathlib.Core.Bool.{Bool, true, false, not, _&&_, cond}
-use mathlib.Core.List.{List, [], _∷_, map}
+use mathlib.Core.Bool.{Bool, true, false, cond}
+use mathlib.Core.List.{List, [], _∷_}
 use mathlib.Core.Option.{Option, none, some}
 use mathlib.Core.Path.{_≡_, refl}
 use native.Mathlib.Omega.{arith}
 use Prim.Native.Nat.{ℕ, _≤_}
 use lib.Dec.{eqb, leb}
-use lib.ListN.{getD, set, length, drop}
-use Rattle.answers.specs.Check.{need}
-use Rattle.rules.specs.Basics.{all, distinct}
+use lib.ListN.{getD, set, length}
+use Rattle.answers.specs.Check.{Check, refusal}
 use Rattle.rules.specs.Region.{Region}
 use Rattle.rules.specs.Path.{route}
-use Rattle.rules.specs.Syntax.{Side, device, Place, at, Op, init, free, gate, measure, merge, newRef, getRef, setRef, constant}
+use Rattle.rules.specs.Syntax.{Side, device, Place, at}
 use Rattle.rules.specs.Syntax.{Statement, op, if, while, call, Statements, done, _⨾_, Block, block, Function, Program}
-use Rattle.rules.specs.Slots.{Slot, unbound, qubit, bool, ref, slot, needQubit, needBool, needRef}
-use Rattle.rules.specs.Slots.{Setting, Act, quiet, takes, gives, merges, perform, argumentsAt, callable}
+use Rattle.rules.specs.Slots.{slot, Act, quiet, takes, gives, merges}
 use Rattle.rules.specs.Commands.{Commands, ε, alloc, release, connect, either, repeat, _then_, commandsAt, sizeOf, needRoute, walk}
 use Rattle.rules.specs.Typing.{Env, Typed, Signature, signature, Context, kinds, allStay, sameEnv, command}
 use Rattle.rules.specs.Typing.{typeStatement, typeStatements, typeBlock, entry, bodyContext, signatureOf, typeFunctions, mainContext, start, typeProgram}
 use Rattle.rules.specs.Promises.{judged}
 use Rattle.theory.specs.Bounds.{Within, value, refusal as refuses}
 use Rattle.theory.proofs.Base.{at-most}
-use Rattle.theory.proofs.BoundsLaws.{bind-within, then-within, Any, given, need-within, any-value}
+use Rattle.theory.proofs.BoundsLaws.{bind-within, then-within, Any, given, need-within}
+use Rattle.theory.proofs.Reasons.{reason-above, reason-few, Reasoned, gives-value, reason, bool-row, ref-row, perform-row, callable-row}
 use Rattle.theory.proofs.BoundsRead.{StatementPlaced, StatementsPlaced, BlockPlaced, FunctionsPlaced, ProgramPlaced}
 
--- what an operation or a call asks, at its offset
-module _ (o : ℕ) (l : o ≤ 4096) where
-  module _ {t : Side} {B : Type 0} where
-    qubit-within : (v : Slot t B) → Within Any (needQubit v o)
-    qubit-within unbound = refuses (given 11 o refl l)
-    qubit-within (qubit k) = value tt
-    qubit-within (bool b) = refuses (given 11 o refl l)
-    qubit-within (ref b) = refuses (given 11 o refl l)
-
-    bool-within : (v : Slot t B) → Within Any (needBool v o)
-    bool-within unbound = refuses (given 11 o refl l)
-    bool-within (qubit k) = refuses (given 11 o refl l)
-    bool-within (bool b) = value tt
-    bool-within (ref b) = refuses (given 11 o refl l)
-
-    ref-within : (v : Slot t B) → Within Any (needRef v o)
-    ref-within unbound = refuses (given 11 o refl l)
-    ref-within (qubit k) = refuses (given 11 o refl l)
-    ref-within (bool b) = refuses (given 11 o refl l)
-    ref-within (ref b) = value tt
-
-  module _ {s t : Side} {B : Type 0} (W : Setting s t B) (φ : List (Slot t B)) where
-    bindable : (x : ℕ) → Within (λ u. W .mayBind (slot φ x) ≡ true) (need (W .mayBind (slot φ x)) 12 o)
-    bindable x = need-within (W .mayBind (slot φ x)) 12 o refl l
-
-    perform-within : (a : Op s) → Within Any (perform W o φ a)
-    perform-within (init q x p) =
-        then-within (bindable x) λ u h.
-        then-within (need-within (W .inside (W .named p)) 13 o refl l) λ v k.
-        then-within (need-within (W .isFree (W .named p)) 14 o refl l) λ w j. value tt
-    perform-within (free x) = bind-within (qubit-within (slot φ x)) λ p h. value tt
-    perform-within (gate g x) = bind-within (qubit-within (slot φ x)) λ p h. value tt
-    perform-within (measure y b x) = then-within (bindable y) λ u h. bind-within (qubit-within (slot φ x)) λ p k. value tt
-    perform-within (merge y b x e z) =
-        then-within (bindable y) λ u h.
-        bind-within (qubit-within (slot φ x)) λ p i.
-        bind-within (qubit-within (slot φ z)) λ q j.
-        then-within (need-within (not (eqb x z)) 15 o refl l) λ v k. value tt
-    perform-within (newRef r y) = then-within (bindable r) λ u h. bind-within (bool-within (slot φ y)) λ v k. value tt
-    perform-within (getRef y r) = then-within (bindable y) λ u h. bind-within (ref-within (slot φ r)) λ v k. value tt
-    perform-within (setRef r y) = bind-within (ref-within (slot φ r)) λ u h. bind-within (bool-within (slot φ y)) λ v k. value tt
-    perform-within (constant y v) = then-within (bindable y) λ u h. value tt
-
-    arguments-within : (xs : List ℕ) (ls : List (Place t)) → Within Any (argumentsAt W o φ xs ls)
-    arguments-within [] ls = value tt
-    arguments-within (x ∷ xs) [] = value tt
-    arguments-within (x ∷ xs) (p ∷ ls) =
-        bind-within (qubit-within (slot φ x)) λ q h.
-        then-within (need-within (eqb (q .no) (p .no)) 16 o refl l) λ u k. arguments-within xs ls
-
-    callable-within : (ls : List (Place t)) (xs : List ℕ) → Within Any (callable W o φ ls xs)
-    callable-within ls xs =
-        then-within (need-within (all (W .inside) ls) 13 o refl l) λ u₁ h₁.
-        then-within (need-within (distinct (map (λ p. p .no) ls) && distinct xs) 15 o refl l) λ u₂ h₂.
-        then-within (arguments-within xs ls) λ u₃ h₃. any-value (need-within (all (W .isFree) (drop (length xs) ls)) 14 o refl l)
+-- what stands at an offset of the file is refused there, for a reason
+asked : {A : Type 0} {o : ℕ} {m : Check A} → o ≤ 4096 → Reasoned o m → Within Any m
+asked l gives-value = value tt
+asked {o = o} l (reason {n = n} h) =
+    let above = reason-above h in
+    let few = reason-few h in
+    refuses {r = refusal n o} (record { from-1 = omega arith; to-26 = omega arith; in-file = l; named = omega arith })
 
 abbrev CommandsPlaced : {s : Side} → Commands s → Type 0
 CommandsPlaced ε = Unit {0}
@@ -129,18 +80,18 @@ TypedPlaced d = CommandsPlaced (d .commands)
 module _ {s : Side} (C : Context s) (callees : SignaturesPlaced (C .functions)) where
   mutual
     statement-typed : (Γ : Env s) (t : Statement s) → StatementPlaced t → Within TypedPlaced (typeStatement C Γ t)
-    statement-typed Γ (op o a) h = bind-within (perform-within o h (kinds C Γ) (Γ .slots) a) λ d k. value (command-placed o h (d .act))
+    statement-typed Γ (op o a) h = bind-within (asked h (perform-row (kinds C Γ) o (Γ .slots) a)) λ d k. value (command-placed o h (d .act))
     statement-typed Γ (if o y b c) h =
-        then-within (bool-within o (h .0) (slot (Γ .slots) y)) λ u k.
+        then-within (asked (h .0) (bool-row (slot (Γ .slots) y) o)) λ u k.
         bind-within (block-typed Γ b (h .1)) λ d i.
         bind-within (block-typed Γ c (h .2)) λ e j.
         then-within (need-within (sameEnv (d .env) (e .env)) 18 o refl (h .0)) λ v r. value (i, j, tt)
     statement-typed Γ (while o r b) h =
-        then-within (ref-within o (h .0) (slot (Γ .slots) r)) λ u k.
+        then-within (asked (h .0) (ref-row (slot (Γ .slots) r) o)) λ u k.
         bind-within (block-typed Γ b (h .1)) λ d i.
         then-within (need-within (sameEnv (d .env) Γ) 19 o refl (h .0)) λ v r. value (i, tt)
     statement-typed Γ (call o f ls xs) h =
-        then-within (callable-within o h (kinds C Γ) (Γ .slots) ls xs) λ u k.
+        then-within (asked h (callable-row (kinds C Γ) o (Γ .slots) ls xs)) λ u k.
         value (call-placed (λ p. at ls (p .no)) (signature (C .functions) f .commands) (signature-placed (C .functions) f callees))
 
     statements-typed : (Γ : Env s) (ts : Statements s) → StatementsPlaced ts → Within TypedPlaced (typeStatements C Γ ts)

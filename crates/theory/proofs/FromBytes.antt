@@ -27,6 +27,7 @@ use Rattle.rules.specs.Machine.{Stepped, stepped, stepItems, step}
 use Rattle.theory.specs.Tidy.{isInit, isFree}
 use Rattle.theory.specs.TheRun.{initByte, freeByte}
 use Rattle.theory.proofs.Base.{eqb-other, chosen-has}
+use Rattle.theory.proofs.WellRead.{holds-choice}
 use Rattle.theory.proofs.Reasons.{reason-above, Reasoned, reason-of, move-reasoned}
 
 abbrev pub initOp : {s : Side} → Op s → Bool
@@ -153,17 +154,13 @@ module _ (s : List ℕ) where
           holds-then (holds-any (operands s S i 1 (r .operands))) λ v h.
           meant-stands (r .meaning) i (i + size r) e g
 
-      choice : {A : Type 0} {P : A → Type 0} (b : Bool) {x y : Check A} → Holds P x → Holds P y → Holds P (elim b [ false ↦ x | true ↦ y ])
-      choice false f g = f
-      choice true f g = g
-
       statements-stand : (more i e : ℕ) → Holds AllStand (statements s d S inner more i e)
       statements-stand zero i e = by tt
       statements-stand (suc more) i e =
-          choice (ltb i e) (by tt)
-          (holds-bind (statement-stands i e) λ t u.
+          holds-choice (ltb i e) (λ _. by tt) λ _.
+          holds-bind (statement-stands i e) λ t u.
           holds-bind (statements-stand more (t .next) e) λ ts v.
-          by (u, v))
+          by (u, v)
 
     block-stands : (n i e : ℕ) → Holds (λ r. BlockStands (r .it)) (readBlock s d S n i e)
     block-stands zero i e = holds-then (holds-any (need (leb (i + 2) e) 8 i)) λ u a. not-ok
@@ -287,7 +284,8 @@ module _ (s : List ℕ) where
     moves φ [] (return o ls xs) is h k = by (quiet-said o h, k)
     moves φ (χ ∷ φs) (return o ls xs) is h k = by (quiet-said o h, k)
 
-    step-said : (J : Job) (i : Item) (m : Check Move) → Reasoned m → ItemsStand (J .items) → Holds (Moves i) m → Steps (stepped J (itemOffset i) m)
+    step-said : (J : Job) (i : Item) (m : Check Move) → Reasoned (itemOffset i) m → ItemsStand (J .items) → Holds (Moves i) m
+        → Steps (stepped J (itemOffset i) m)
     step-said J i (ok m) q k (by h) = record { inits = h .0 .0; frees = h .0 .1; stand = h .1 }
     step-said J i (refused r) q k h =
         let no : eqb (r .number) 0 ≡ false = eqb-other (r .number) 0 (λ e. let z = reason-above (reason-of q refl) in omega arith) in

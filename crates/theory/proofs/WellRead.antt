@@ -24,7 +24,7 @@ use Rattle.theory.specs.WellRead.{BlockRead, block-read, FunctionsRead, 
 use Rattle.theory.proofs.Base.{eqb-true, below, not-below, at-most, and-left, and-right}
 
 -- a choice by a test: what holds of what is chosen, with what the test said
-holds-choice : {A : Type 0} {P : A → Type 0} (b : Bool) {x y : Check A} → (b ≡ false → Holds P x) → (b ≡ true → Holds P y)
+pub holds-choice : {A : Type 0} {P : A → Type 0} (b : Bool) {x y : Check A} → (b ≡ false → Holds P x) → (b ≡ true → Holds P y)
     → Holds P (elim b [ false ↦ x | true ↦ y ])
 holds-choice false f g = f refl
 holds-choice true f g = g refl

@@ -56,10 +56,12 @@ pub record Next (s : List ℕ) (p : Program) (J : rules.Job) (j : Job) (at : ℕ
   pub few : 0 < j .depth → S .places ≤ 16
   pub whole : FrameIn s S σ (j .top) after (run σ t ∷ rest)
   pub past : FrameIn s S σ (advanced (j .top) q) after rest
-  pub again : (f : Frame) (is : List Item) → f .call ≡ j .top .call → f .places ≡ j .top .places → FrameIn s S σ f after is → FramesIn s (p .functions) (j .below) (j .depth) f (J .below) is
+  pub again : (f : Frame) (is : List Item) → f .call ≡ j .top .call → f .places ≡ j .top .places → FrameIn s S σ f after is
+      → FramesIn s (p .functions) (j .below) (j .depth) f (J .below) is
 
 -- what the code locates is what the rules locate
-named-in : (s : List ℕ) (fs : List Function) (j : Job) (φs : List rules.Frame) (is : List Item) (T : Top s fs (j .below) (j .depth) (j .top) φs is) → Named (T .S) (T .σ) j
+named-in : (s : List ℕ) (fs : List Function) (j : Job) (φs : List rules.Frame) (is : List Item) (T : Top s fs (j .below) (j .depth) (j .top) φs is)
+    → Named (T .S) (T .σ) j
 unfolding locatedIn
 named-in s fs j φs is T = record { named = λ b l. go b l (ℕ-discrete (j .depth) 0) }
   where
@@ -67,7 +69,8 @@ named-in s fs j φs is T = record { named = λ b l. go b l (ℕ-discrete (j .dep
     go b l (yes e) = T .main b e ∙ sym (rw (eq-eqb (j .depth) 0 e))
     go b l (no n) = T .inner b (omega (arith, n)) l ∙ sym (rw (ne-eqb (j .depth) 0 n))
 
-pub next : (s : List ℕ) (p : Program) (J : rules.Job) (j : Job) (at : ℕ) → ProgramIn s p → Stands s p J j → 0 < j .top .n → at ≡ hereOf (j .top) → Next s p J j at
+pub next : (s : List ℕ) (p : Program) (J : rules.Job) (j : Job) (at : ℕ) → ProgramIn s p → Stands s p J j → 0 < j .top .n
+    → at ≡ hereOf (j .top) → Next s p J j at
 next s p J j at P St h e = record {
   d = T .d;
   S = T .S;
@@ -102,7 +105,8 @@ next s p J j at P St h e = record {
     here : StatementIn s (T .S) (H .depths) at (H .t) (H .q)
     here = subst (λ (a : ℕ). StatementIn s (T .S) (H .depths) a (H .t) (H .q)) (sym e) (H .here)
 
-module _ (s : List ℕ) (p : Program) (J : rules.Job) (j : Job) (at : ℕ) (N : Next s p J j at) (St : Stands s p J j) (R : Region) (v : Bool) (isFree : ℕ → Bool) (r : Stepped) where
+module _ (s : List ℕ) (p : Program) (J : rules.Job) (j : Job) (at : ℕ) (N : Next s p J j at) (St : Stands s p J j)
+    (R : Region) (v : Bool) (isFree : ℕ → Bool) (r : Stepped) where
   -- the rules' move of the statement to come
   abbrev pub moved : Check Move
   moved = move R (p .functions) v isFree (slotsOf (j .top .slots)) (J .below) (run (N .σ) (N .t)) (N .rest)
@@ -112,7 +116,8 @@ module _ (s : List ℕ) (p : Program) (J : rules.Job) (j : Job) (at : ℕ) (N : 
 
   step-is : step R (p .functions) v isFree J ≡ stepped before at moved
   step-is =
-      ap (λ (φ : rules.Frame). stepItems R (p .functions) v isFree φ (J .below) (J .items)) (St .top) ∙ ap (λ (is : List Item). stepItems R (p .functions) v isFree (slotsOf (j .top .slots)) (J .below) is) (N .items)
+      ap (λ (φ : rules.Frame). stepItems R (p .functions) v isFree φ (J .below) (J .items)) (St .top)
+      ∙ ap (λ (is : List Item). stepItems R (p .functions) v isFree (slotsOf (j .top .slots)) (J .below) is) (N .items)
       ∙ ap (λ (o : ℕ). stepped before o moved) (N .offset)
 
   follows : (c : Check Move) → moved ≡ c → Follows s p (stepped before at c) r → Follows s p (step R (p .functions) v isFree J) r
@@ -122,23 +127,37 @@ module _ (s : List ℕ) (p : Program) (J : rules.Job) (j : Job) (at : ℕ) (N : 
   stays n o e k =
       follows (refused (refusal n o)) e (
         subst (λ (z : Stepped). Stands s p before (z .job)) (sym k)
-            (record { top = refl; sized = St .sized; frames = subst (λ (is : List Item). FramesIn s (p .functions) (j .below) (j .depth) (j .top) (J .below) is) (N .items) (St .frames) }),
+            (record {
+              top = refl;
+              sized = St .sized;
+              frames = subst (λ (is : List Item). FramesIn s (p .functions) (j .below) (j .depth) (j .top) (J .below) is) (N .items) (St .frames);
+            }),
         ap (λ (z : Stepped). z .record) k,
         ap (λ (z : Stepped). z .act) k,
       )
 
-  pub goes-on : (m : Move) (i : Job) → moved ≡ ok m → Stands s p (m .next) i → r ≡ movedAt i (m .edges) (actOf (m .act)) at → Follows s p (step R (p .functions) v isFree J) r
-  goes-on m i e w k = follows (ok m) e (subst (λ (z : Stepped). Stands s p (m .next) (z .job)) (sym k) w, ap (λ (z : Stepped). z .record) k, ap (λ (z : Stepped). z .act) k)
+  pub goes-on : (m : Move) (i : Job) → moved ≡ ok m → Stands s p (m .next) i → r ≡ movedAt i (m .edges) (actOf (m .act)) at
+      → Follows s p (step R (p .functions) v isFree J) r
+  goes-on m i e w k =
+      follows (ok m) e (subst (λ (z : Stepped). Stands s p (m .next) (z .job)) (sym k) w, ap (λ (z : Stepped). z .record) k, ap (λ (z : Stepped). z .act) k)
 
   -- another top frame, that came by the same call
-  pub frame-goes : (m : Move) (f : Frame) → moved ≡ ok m → m .next .below ≡ J .below → m .next .top ≡ slotsOf (f .slots) → f .call ≡ j .top .call → f .places ≡ j .top .places
-      → FrameIn s (N .S) (N .σ) f (N .after) (m .next .items) → r ≡ movedAt (withTop j f) (m .edges) (actOf (m .act)) at → Follows s p (step R (p .functions) v isFree J) r
+  pub frame-goes : (m : Move) (f : Frame) → moved ≡ ok m → m .next .below ≡ J .below → m .next .top ≡ slotsOf (f .slots)
+      → f .call ≡ j .top .call → f .places ≡ j .top .places
+      → FrameIn s (N .S) (N .σ) f (N .after) (m .next .items) → r ≡ movedAt (withTop j f) (m .edges) (actOf (m .act)) at
+      → Follows s p (step R (p .functions) v isFree J) r
   frame-goes m f e b φ c l F k =
       goes-on m (withTop j f) e
-      (record { top = φ; sized = St .sized; frames = subst (λ (φs : List rules.Frame). FramesIn s (p .functions) (j .below) (j .depth) f φs (m .next .items)) (sym b) (N .again f (m .next .items) c l F) }) k
+      (record {
+        top = φ;
+        sized = St .sized;
+        frames = subst (λ (φs : List rules.Frame). FramesIn s (p .functions) (j .below) (j .depth) f φs (m .next .items)) (sym b)
+            (N .again f (m .next .items) c l F);
+      }) k
 
   -- an operation, by what it told
-  told-stuck : (o : Performed) (c : Check Move) → moved ≡ c → Tells o (J .below) (N .rest) c → (n : ℕ) → o .told ≡ Stuck n → r ≡ stuckAt j n at → Follows s p (step R (p .functions) v isFree J) r
+  told-stuck : (o : Performed) (c : Check Move) → moved ≡ c → Tells o (J .below) (N .rest) c → (n : ℕ) → o .told ≡ Stuck n
+      → r ≡ stuckAt j n at → Follows s p (step R (p .functions) v isFree J) r
   told-stuck o c e (moves {e = i} a b d) n t k =
       let l : o .told ≡ Moved i = one-told (o .told) (Moved i) 0 (a 0) in
       let z : _≡_ {A = ℕ} 0 1 = cc in
@@ -155,18 +174,21 @@ module _ (s : List ℕ) (p : Program) (J : rules.Job) (j : Job) (at : ℕ) (N : 
       let z : i ≡ e = cc in
       let l = advanced-kept (j .top) (N .q) in
       let w = N .past in
-      frame-goes (record { next = record { top = φ; below = J .below; items = N .rest }; act = x; edges = i }) (withSlots (advanced (j .top) (N .q)) (o .slots)) u refl (sym b) (l .call) (l .places)
-      (record { sized = w .sized; room = w .room; ranges = w .ranges })
-      (k ∙ ap (λ (z : ℕ). movedAt (withTop j (withSlots (advanced (j .top) (N .q)) (o .slots))) z (o .act) at) (sym z) ∙ ap (λ (y : Act). movedAt (withTop j (withSlots (advanced (j .top) (N .q)) (o .slots))) i y at) d)
+      let f : Frame = withSlots (advanced (j .top) (N .q)) (o .slots) in
+      let told = ap (λ (z : ℕ). movedAt (withTop j f) z (o .act) at) (sym z) ∙ ap (λ (y : Act). movedAt (withTop j f) i y at) d in
+      frame-goes (record { next = record { top = φ; below = J .below; items = N .rest }; act = x; edges = i }) f u refl (sym b) (l .call) (l .places)
+      (record { sized = w .sized; room = w .room; ranges = w .ranges }) (k ∙ told)
   told-moved o c u (fails {n = i} {o = q} a) e t k =
       let h : o .told ≡ Stuck i = one-told (o .told) (Stuck i) q a in
       let z : _≡_ {A = ℕ} 0 1 = cc in
       absurd (omega arith)
 
-  pub operation-stuck : (o : Performed) → Tells o (J .below) (N .rest) moved → (n : ℕ) → o .told ≡ Stuck n → r ≡ stuckAt j n at → Follows s p (step R (p .functions) v isFree J) r
+  pub operation-stuck : (o : Performed) → Tells o (J .below) (N .rest) moved → (n : ℕ) → o .told ≡ Stuck n → r ≡ stuckAt j n at
+      → Follows s p (step R (p .functions) v isFree J) r
   operation-stuck o T n t k = told-stuck o moved refl T n t k
 
-  pub operation-moved : (o : Performed) → Tells o (J .below) (N .rest) moved → (e : ℕ) → o .told ≡ Moved e → r ≡ movedAt (withTop j (withSlots (advanced (j .top) (N .q)) (o .slots))) e (o .act) at
+  pub operation-moved : (o : Performed) → Tells o (J .below) (N .rest) moved → (e : ℕ) → o .told ≡ Moved e
+      → r ≡ movedAt (withTop j (withSlots (advanced (j .top) (N .q)) (o .slots))) e (o .act) at
       → Follows s p (step R (p .functions) v isFree J) r
   operation-moved o T e t k = told-moved o moved refl T e t k
 

@@ -31,9 +31,11 @@ use Rattle.steps.specs.Performing.{movedWith, stuckWith, Tells, moves, f
 pub stops : (φ : Slots) {r : Performed} {φs : List Frame} {rest : List Item} {n o : ℕ} → r ≡ stuckWith φ n → Tells r φs rest (refused (refusal n o))
 stops φ {o = o} k = fails (ap (λ (z : Performed). toldSaid (z .told) o) k)
 
-pub goes : (ψ : Slots) (a : rules.Act device) {r : Performed} {φs : List Frame} {rest : List Item} {χ : Frame} {e : ℕ} → slotsOf ψ ≡ χ → r ≡ movedWith ψ e (actOf a)
+pub goes : (ψ : Slots) (a : rules.Act device) {r : Performed} {φs : List Frame} {rest : List Item} {χ : Frame} {e : ℕ} → slotsOf ψ ≡ χ
+    → r ≡ movedWith ψ e (actOf a)
     → Tells r φs rest (ok (record { next = record { top = χ; below = φs; items = rest }; act = a; edges = e }))
-goes ψ a b k = moves (λ o. ap (λ (z : Performed). toldSaid (z .told) o) k) (ap (λ (z : Performed). slotsOf (z .slots)) k ∙ b) (ap (λ (z : Performed). z .act) k)
+goes ψ a b k =
+    moves (λ o. ap (λ (z : Performed). toldSaid (z .told) o) k) (ap (λ (z : Performed). slotsOf (z .slots)) k ∙ b) (ap (λ (z : Performed). z .act) k)
 
 module _ (φ : Slots) where
   -- what a read of a slot said, as the rules have it
@@ -64,7 +66,8 @@ module _ (φ : Slots) (r : Performed) (x : ℕ) (w : Placed) (h : Qubit φ x w) 
   unfolding _>>=_ _>>_
   free-11 e k v d σ R fs isFree o φs rest = rw (qubit-is φ x w Nowhere h e o) (stops φ k)
 
-  pub free-moves : (l : Location) (ψ : Slots) → w ≡ At l → slotsOf ψ ≡ set (slotsOf φ) x unbound → r ≡ movedWith ψ 0 (Gives l) → (v : Bool) → Performs φ v (λ d. free x) r
+  pub free-moves : (l : Location) (ψ : Slots) → w ≡ At l → slotsOf ψ ≡ set (slotsOf φ) x unbound → r ≡ movedWith ψ 0 (Gives l)
+      → (v : Bool) → Performs φ v (λ d. free x) r
   unfolding _>>=_ _>>_
   free-moves l ψ e b k v d σ R fs isFree o φs rest = rw (qubit-is φ x w (At l) h e o) (goes ψ (gives (placeOf l)) b k)
 
@@ -95,7 +98,8 @@ module _ (φ : Slots) (r : Performed) (y : ℕ) (t : Bool) (m : t ≡ holdsNoQub
     constant-12 b v d σ R fs isFree o φs rest = rw (bind-is φ y t false m e) (stops φ k)
 
   module _ (e : t ≡ true) where
-    pub constant-moves : (b : Bool) (ψ : Slots) → slotsOf ψ ≡ set (slotsOf φ) y (bool b) → r ≡ movedWith ψ 0 Quiet → (v : Bool) → Performs φ v (λ d. constant y b) r
+    pub constant-moves : (b : Bool) (ψ : Slots) → slotsOf ψ ≡ set (slotsOf φ) y (bool b) → r ≡ movedWith ψ 0 Quiet → (v : Bool)
+        → Performs φ v (λ d. constant y b) r
     unfolding _>>=_ _>>_
     constant-moves b ψ s k v d σ R fs isFree o φs rest = rw (bind-is φ y t true m e) (goes ψ quiet s k)
 
@@ -104,7 +108,8 @@ module _ (φ : Slots) (r : Performed) (y : ℕ) (t : Bool) (m : t ≡ holdsNoQub
       unfolding _>>=_ _>>_
       measure-11 g k v b d σ R fs isFree o φs rest = rw (bind-is φ y t true m e, qubit-is φ x w Nowhere h g o) (stops φ k)
 
-      pub measure-moves : (l : Location) (v : Bool) (ψ : Slots) → w ≡ At l → slotsOf ψ ≡ set (slotsOf φ) y (bool v) → r ≡ movedWith ψ 0 Quiet → (b : ℕ) → Performs φ v (λ d. measure y b x) r
+      pub measure-moves : (l : Location) (v : Bool) (ψ : Slots) → w ≡ At l → slotsOf ψ ≡ set (slotsOf φ) y (bool v)
+          → r ≡ movedWith ψ 0 Quiet → (b : ℕ) → Performs φ v (λ d. measure y b x) r
       unfolding _>>=_ _>>_
       measure-moves l v ψ g s k b d σ R fs isFree o φs rest = rw (bind-is φ y t true m e, qubit-is φ x w (At l) h g o) (goes ψ quiet s k)
 
@@ -113,7 +118,8 @@ module _ (φ : Slots) (r : Performed) (y : ℕ) (t : Bool) (m : t ≡ holdsNoQub
       unfolding _>>=_ _>>_
       new-11 h g k v d σ R fs isFree o φs rest = rw (bind-is φ y t true m e, bool-is φ x w Missing h g o) (stops φ k)
 
-      pub new-moves : Truth φ x w → (b : Bool) (ψ : Slots) → w ≡ Of b → slotsOf ψ ≡ set (slotsOf φ) y (ref b) → r ≡ movedWith ψ 0 Quiet → (v : Bool) → Performs φ v (λ d. newRef y x) r
+      pub new-moves : Truth φ x w → (b : Bool) (ψ : Slots) → w ≡ Of b → slotsOf ψ ≡ set (slotsOf φ) y (ref b) → r ≡ movedWith ψ 0 Quiet
+          → (v : Bool) → Performs φ v (λ d. newRef y x) r
       unfolding _>>=_ _>>_
       new-moves h b ψ g s k v d σ R fs isFree o φs rest = rw (bind-is φ y t true m e, bool-is φ x w (Of b) h g o) (goes ψ quiet s k)
 
@@ -121,7 +127,8 @@ module _ (φ : Slots) (r : Performed) (y : ℕ) (t : Bool) (m : t ≡ holdsNoQub
       unfolding _>>=_ _>>_
       get-11 h g k v d σ R fs isFree o φs rest = rw (bind-is φ y t true m e, ref-is φ x w Missing h g o) (stops φ k)
 
-      pub get-moves : Reference φ x w → (b : Bool) (ψ : Slots) → w ≡ Of b → slotsOf ψ ≡ set (slotsOf φ) y (bool b) → r ≡ movedWith ψ 0 Quiet → (v : Bool) → Performs φ v (λ d. getRef y x) r
+      pub get-moves : Reference φ x w → (b : Bool) (ψ : Slots) → w ≡ Of b → slotsOf ψ ≡ set (slotsOf φ) y (bool b)
+          → r ≡ movedWith ψ 0 Quiet → (v : Bool) → Performs φ v (λ d. getRef y x) r
       unfolding _>>=_ _>>_
       get-moves h b ψ g s k v d σ R fs isFree o φs rest = rw (bind-is φ y t true m e, ref-is φ x w (Of b) h g o) (goes ψ quiet s k)
 
@@ -135,7 +142,8 @@ module _ (φ : Slots) (a : Performed) (r y : ℕ) (w : Value) (h : Reference φ 
     unfolding _>>=_ _>>_
     set-no-bool f k v d σ R fs isFree o φs rest = rw (ref-is φ r w (Of b) h e o, bool-is φ y u Missing g f o) (stops φ k)
 
-    pub set-moves : (c : Bool) (ψ : Slots) → u ≡ Of c → slotsOf ψ ≡ set (slotsOf φ) r (ref c) → a ≡ movedWith ψ 0 Quiet → (v : Bool) → Performs φ v (λ d. setRef r y) a
+    pub set-moves : (c : Bool) (ψ : Slots) → u ≡ Of c → slotsOf ψ ≡ set (slotsOf φ) r (ref c) → a ≡ movedWith ψ 0 Quiet → (v : Bool)
+        → Performs φ v (λ d. setRef r y) a
     unfolding _>>=_ _>>_
     set-moves c ψ f s k v d σ R fs isFree o φs rest = rw (ref-is φ r w (Of b) h e o, bool-is φ y u (Of c) g f o) (goes ψ quiet s k)
 
@@ -145,9 +153,12 @@ module _ (l : Location) (owned : LocationSet) (map : List ℕ) (R : Region) (occ
   inside-is b e = sym (e ∙ O .owned (l .0))
 
   pub free-is : (b : Bool) → b ≡ (has owned (l .0) && eqb (getD map (l .0) 0) 0) → freeIn R occupancy (l .0) ≡ b
-  free-is b e = ap (λ (z : Bool). z && eqb (getD occupancy (l .0) 0) 0) (sym (O .owned (l .0))) ∙ ap (λ (z : ℕ). has owned (l .0) && eqb z 0) (sym (M .same (l .0))) ∙ sym e
+  free-is b e =
+      ap (λ (z : Bool). z && eqb (getD occupancy (l .0) 0) 0) (sym (O .owned (l .0)))
+      ∙ ap (λ (z : ℕ). has owned (l .0) && eqb z 0) (sym (M .same (l .0))) ∙ sym e
 
-module _ (φ : Slots) (r : Performed) (x : ℕ) (l : Location) (owned : LocationSet) (map : List ℕ) (t : Bool) (m : t ≡ holdsNoQubit (slot (slotsOf φ) x)) where
+module _ (φ : Slots) (r : Performed) (x : ℕ) (l : Location) (owned : LocationSet) (map : List ℕ) (t : Bool)
+    (m : t ≡ holdsNoQubit (slot (slotsOf φ) x)) where
   pub init-12 : t ≡ false → r ≡ stuckWith φ 12 → Inits φ x l owned map r
   unfolding _>>=_ _>>_
   init-12 e k d σ q p R fs v occupancy O M n o φs rest = rw (bind-is φ x t false m e) (stops φ k)
@@ -163,10 +174,13 @@ module _ (φ : Slots) (r : Performed) (x : ℕ) (l : Location) (owned : Location
       init-14 g k d σ q p R fs v occupancy O M n o φs rest =
           rw (bind-is φ x t true m e, n, free-is l owned map R occupancy O M u eu, inside-is l owned map R occupancy O M i ei, f, g) (stops φ k)
 
-      pub init-moves : (ψ : Slots) → u ≡ true → slotsOf ψ ≡ set (slotsOf φ) x (qubit (placeOf l)) → r ≡ movedWith ψ 0 (Takes l) → Inits φ x l owned map r
+      pub init-moves : (ψ : Slots) → u ≡ true → slotsOf ψ ≡ set (slotsOf φ) x (qubit (placeOf l)) → r ≡ movedWith ψ 0 (Takes l)
+          → Inits φ x l owned map r
       unfolding _>>=_ _>>_
       init-moves ψ g s k d σ q p R fs v occupancy O M n o φs rest =
-          rw (bind-is φ x t true m e, n, free-is l owned map R occupancy O M u eu, inside-is l owned map R occupancy O M i ei, f, g) (goes ψ (takes q (placeOf l)) s k)
+          let free = free-is l owned map R occupancy O M u eu in
+          let inside = inside-is l owned map R occupancy O M i ei in
+          rw (bind-is φ x t true m e, n, free, inside, f, g) (goes ψ (takes q (placeOf l)) s k)
 
 -- the test for a free location, by the code's two tests
 module _ (owned : LocationSet) (map : List ℕ) (n i : ℕ) (b : Bool) (e : i ≡ n) (k : b ≡ has owned i) where

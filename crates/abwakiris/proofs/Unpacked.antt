@@ -11,7 +11,7 @@ use Rattle.answers.specs.declared.File.the-variants.{NoFile, Device, Schedule, 
 use Rattle.answers.specs.declared.Moved.{Moved}
 use Rattle.answers.specs.declared.Refusal.{Refusal}
 use Rattle.theory.specs.Bounds.{jobNamed, Given, Within, value, refusal}
-use Rattle.theory.proofs.Base.{eqb-other}
+use Rattle.rules.proofs.Tests.{eqb-other}
 use Rattle.theory.proofs.Bounds.{read-device-within, read-program-within, check-within, route-within, run-within}
 use Rattle.abwakiris.specs.Packed.{fileCode, packedRefusal, packedRead, packedValue, packedMoved}
 use Rattle.abwakiris.specs.Unpacked.{valueOf, numberOf, codeOf, movedOf, fileOf, unpacked, unpackedRead, unpackedValue, unpackedMoved}

@@ -27,6 +27,12 @@ pub holds-need : (b : Bool) (n o : ℕ) → Holds (λ u. b ≡ true) (need b n o
 holds-need true n o = by refl
 holds-need false n o = not-ok
 
+-- a choice by a test: what holds of what is chosen, with what the test said
+pub holds-choice : {A : Type 0} {P : A → Type 0} (b : Bool) {x y : Check A} → (b ≡ false → Holds P x) → (b ≡ true → Holds P y)
+    → Holds P (elim b [ false ↦ x | true ↦ y ])
+holds-choice false f g = f refl
+holds-choice true f g = g refl
+
 pub holds-map : {A : Type 0} {P Q : A → Type 0} {m : Check A} → ((a : A) → P a → Q a) → Holds P m → Holds Q m
 holds-map f not-ok = not-ok
 holds-map f (by {a = a} h) = by (f a h)

@@ -15,7 +15,7 @@ use Rattle.answers.specs.declared.Refusal.{Refusal}
 use Rattle.answers.proofs.Laws.{ok-not-refused}
 use Rattle.rules.specs.Basics.{all, byte}
 use Rattle.rules.specs.Run.{Turn, turns}
-use Rattle.theory.proofs.Base.{and-left, and-right}
+use Rattle.rules.proofs.Tests.{and-left, and-right}
 use Rattle.theory.proofs.TheRun.{turns-sound}
 use Rattle.theory.specs.TheRun.{isTurn, turnOf}
 use Rattle.machine.specs.Scheduled.{scheduled}

@@ -5,5 +5,4 @@ pub mod StatementLaws
 pub mod BlockLaws
 pub mod FunctionLaws
 pub mod FileLaws
-pub mod Base
 pub mod In

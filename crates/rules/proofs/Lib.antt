@@ -1,3 +1,5 @@
 pub mod Basics
+pub mod Tests
+pub mod Fitting
 mod Table
 mod Marked

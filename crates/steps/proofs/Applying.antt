@@ -17,7 +17,8 @@ use Rattle.rules.specs.Slots.{quiet, takes, gives, merges, perform}
 use Rattle.rules.specs.Machine as rules
 use Rattle.rules.specs.Machine.{Frame, Actual, locate, Item, run, return, Move, floor, move, stepped, stepItems, step}
 use Rattle.rules.specs.Run.{written}
-use Rattle.theory.proofs.Base.{and-left, true-in-range, getD-set-default, getD-replicate-default}
+use Rattle.rules.proofs.Tests.{and-left}
+use Rattle.theory.proofs.Base.{true-in-range, getD-set-default, getD-replicate-default}
 use Rattle.rules.specs.declared.place.Location.{Location}
 use Rattle.steps.specs.declared.Act.{Act}
 use Rattle.steps.specs.declared.Act.the-variants.{Quiet, Takes, Gives}

@@ -19,7 +19,8 @@ use Rattle.rules.specs.Run.{Turn, turns, Machine, started, after, records, Told
 use Rattle.rules.specs.Promises.{needJob, routed, routeWritten, Finished, ran, runWritten}
 use Rattle.theory.specs.Bounds.{Within, value, refusal as refuses}
 use Rattle.theory.specs.Bounds.{ReadDeviceWithin, ReadProgramWithin, CheckWithin, RouteWithin, RunWithin}
-use Rattle.theory.proofs.Base.{eqb-true, at-most, chosen-has}
+use Rattle.rules.proofs.Tests.{eqb-true, at-most}
+use Rattle.theory.proofs.Base.{chosen-has}
 use Rattle.theory.proofs.Routes.{short-route}
 use Rattle.theory.proofs.BoundsLaws.{bind-within, then-within, given, need-within, known-within, file-within}
 use Rattle.theory.proofs.BoundsRead.{device-within, program-within}

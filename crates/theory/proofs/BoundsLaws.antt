@@ -7,7 +7,7 @@ use lib.Dec.{leb}
 use Rattle.answers.specs.Check.{Check, ok, refusal, _>>=_, _>>_, need, within}
 use Rattle.answers.specs.declared.File.{File}
 use Rattle.theory.specs.Bounds.{jobNamed, Given, Within, value, refusal as refuses}
-use Rattle.theory.proofs.Base.{at-most, and-left, and-right}
+use Rattle.rules.proofs.Tests.{at-most, and-left, and-right}
 
 module _ {A B : Type 0} {Q : A → Type 0} {P : B → Type 0} where
   pub bind-within : {m : Check A} {f : A → Check B} → Within Q m → ((a : A) → Q a → Within P (f a)) → Within P (m >>= f)

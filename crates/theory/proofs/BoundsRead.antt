@@ -19,7 +19,7 @@ use Rattle.rules.specs.Table.{Meaning, simple, branches, loops, calls, Row, tab
 use Rattle.rules.specs.Program.{Read, Scope, inRange, known, operands, meant, statement, statements, readBlock}
 use Rattle.rules.specs.Program.{functionHeader, programHeader, functionsAt, readProgram}
 use Rattle.theory.specs.Bounds.{Within, value, refusal as refuses}
-use Rattle.theory.proofs.Base.{eqb-true, at-most, and-left, and-right}
+use Rattle.rules.proofs.Tests.{eqb-true, at-most, and-left, and-right}
 use Rattle.theory.proofs.BoundsLaws.{bind-within, then-within, Any, given, need-within, choice-within}
 
 -- Devices

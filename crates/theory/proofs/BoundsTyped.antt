@@ -19,7 +19,7 @@ use Rattle.rules.specs.Typing.{Env, Typed, Signature, signature, Context, kinds
 use Rattle.rules.specs.Typing.{typeStatement, typeStatements, typeBlock, entry, bodyContext, signatureOf, typeFunctions, mainContext, start, typeProgram}
 use Rattle.rules.specs.Promises.{judged}
 use Rattle.theory.specs.Bounds.{Within, value, refusal as refuses}
-use Rattle.theory.proofs.Base.{at-most}
+use Rattle.rules.proofs.Tests.{at-most}
 use Rattle.theory.proofs.BoundsLaws.{bind-within, then-within, Any, given, need-within}
 use Rattle.theory.proofs.Reasons.{reason-above, reason-few, Reasoned, gives-value, reason, bool-row, ref-row, perform-row, callable-row}
 use Rattle.theory.proofs.BoundsRead.{StatementPlaced, StatementsPlaced, BlockPlaced, FunctionsPlaced, ProgramPlaced}

@@ -21,7 +21,7 @@ use Rattle.rules.specs.Figures.{Connects, ProgramRule}
 use Rattle.rules.specs.Promises.{judged, checkOf}
 use Rattle.theory.specs.WellRead.{ProgramRead}
 use Rattle.theory.specs.Exact.{Accepts, ExactCheck, Derives}
-use Rattle.theory.proofs.Base.{T→eq, eqb-true, at-most}
+use Rattle.rules.proofs.Tests.{T→eq, eqb-true, at-most}
 use Rattle.theory.proofs.WellRead.{well-read}
 use Rattle.theory.proofs.ExactTyping.{exact-typing}
 use Rattle.theory.proofs.WalkDecides.{walk-decides}

@@ -27,7 +27,8 @@ use Rattle.rules.specs.Figures.{StatementsRule, T-Unit, T-Seq, BlockRule, T-Clo
 use Rattle.theory.specs.WellRead.{CallRead, StatementRead, if-read, while-read, call-read, StatementsRead, next-read}
 use Rattle.theory.specs.WellRead.{BlockRead, block-read, FunctionsRead, none-read, function-read, ProgramRead}
 use Rattle.theory.specs.Exact.{Derives, ExactTyping, EndsAlike}
-use Rattle.theory.proofs.Base.{eqb-true, eqb-same, eqb-other, eqb-false, and-left, and-right, getD-set-cases}
+use Rattle.rules.proofs.Tests.{eqb-true, eqb-same, eqb-other, eqb-false, and-left, and-right}
+use Rattle.theory.proofs.Base.{getD-set-cases}
 use Rattle.theory.proofs.Places.{stored-other, place-path, numbers, qubit-held, argument-at, all-of-at}
 use Rattle.theory.proofs.Places.{kind-sound, kind-refl, slot-narrowed, all-stay-at, narrow-cases}
 use Rattle.theory.proofs.Linear.{Linear, Ends, AllEnd, linear-statement, linear-entry, linear-start, function-ends, functions-end}

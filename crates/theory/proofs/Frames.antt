@@ -19,7 +19,8 @@ use Rattle.rules.specs.Typing.{Kind, Env, narrowed}
 use Rattle.rules.specs.Figures.{stored, kindAt, Arguments, no-more, and}
 use Rattle.rules.specs.Machine.{Frame}
 use Rattle.rules.proofs.Basics.{length-upTo}
-use Rattle.theory.proofs.Base.{eqb-same, eqb-false, and-left, neither, distinct-head, distinct-tail}
+use Rattle.rules.proofs.Tests.{eqb-same, eqb-false, and-left, neither}
+use Rattle.theory.proofs.Base.{distinct-head, distinct-tail}
 use Rattle.theory.proofs.Places.{slot-out, length-entered, entered-at, entered-past, entry-at, entry-past, slot-narrowed, length-narrowed}
 
 -- 1. A store at several slots leaves the others alone.

@@ -12,7 +12,7 @@ use lib.Dec.{eqb, ltb, leb}
 use lib.ListN.{getElem?, length, take, replicate}
 use Rattle.answers.specs.declared.Refusal.{Refusal}
 use Rattle.answers.specs.Check.{Check, ok, refused, need}
-use Rattle.answers.proofs.Laws.{Holds, not-ok, by, holds-bind, holds-then, holds-need, holds-map, holds-any, holds-at}
+use Rattle.answers.proofs.Laws.{Holds, not-ok, by, holds-bind, holds-then, holds-need, holds-map, holds-any, holds-at, holds-choice}
 use Rattle.rules.specs.declared.statements.Operand.the-variants.{Slot as ASlot, Location as ALocation}
 use Rattle.rules.specs.Basics.{chosen, byte, word, hasMark}
 use Rattle.rules.specs.Region.{Region}
@@ -26,8 +26,9 @@ use Rattle.rules.specs.Machine.{Move, floor, edgesOf, move, itemOffset}
 use Rattle.rules.specs.Machine.{Stepped, stepped, stepItems, step}
 use Rattle.theory.specs.Tidy.{isInit, isFree}
 use Rattle.theory.specs.TheRun.{initByte, freeByte}
-use Rattle.theory.proofs.Base.{eqb-other, chosen-has}
-use Rattle.theory.proofs.WellRead.{holds-choice}
+use Rattle.rules.proofs.Tests.{eqb-other}
+use Rattle.theory.proofs.Base.{chosen-has}
+
 use Rattle.theory.proofs.Reasons.{reason-above, Reasoned, reason-of, move-reasoned}
 
 abbrev pub initOp : {s : Side} → Op s → Bool

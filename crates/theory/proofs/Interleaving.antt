@@ -12,7 +12,8 @@ use Rattle.rules.specs.Device.{Device}
 use Rattle.rules.specs.Syntax.{Program}
 use Rattle.rules.specs.Run.{Turn, started}
 use Rattle.theory.specs.Interleaving.{turnsOf, inOrder, Alike, AnyInterleaving, TwoJobs}
-use Rattle.theory.proofs.Base.{eqb-same, eqb-other, and-left, and-right, and-both, distinct-head, distinct-tail}
+use Rattle.rules.proofs.Tests.{eqb-same, eqb-other, and-left, and-right, and-both}
+use Rattle.theory.proofs.Base.{distinct-head, distinct-tail}
 use Rattle.theory.proofs.Isolation.{Ends, sound-started, isolation}
 
 turns-append : (j : ℕ) (ts us : List Turn) → turnsOf j (ts ++ us) ≡ turnsOf j ts ++ turnsOf j us

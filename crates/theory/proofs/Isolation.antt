@@ -21,7 +21,8 @@ use Rattle.rules.specs.Slots.{Slot, unbound, qubit, bool, ref, slot, needQubit,
 use Rattle.rules.specs.Machine.{Frame, Actual, locate, Item, run, return, Job, fresh, Move, floor, move, Stepped, stepped, stepItems, step}
 use Rattle.rules.specs.Run.{Turn, Machine, Told, written, started, stepOf, after, final, records}
 use Rattle.theory.specs.Interleaving.{turnsOf, recordsOf}
-use Rattle.theory.proofs.Base.{eqb-true, eqb-same, eqb-other, and-left, and-right, getD-set-cases, getD-replicate-default}
+use Rattle.rules.proofs.Tests.{eqb-true, eqb-same, eqb-other, and-left, and-right}
+use Rattle.theory.proofs.Base.{getD-set-cases, getD-replicate-default}
 use Rattle.theory.proofs.Places.{all-at, qubit-held, entered-at, entered-past}
 
 -- 1. A job whose slots hold only its own locations acts only on its own, and goes on so.

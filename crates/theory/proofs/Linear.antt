@@ -30,7 +30,8 @@ use Rattle.rules.specs.Figures.{StatementsRule, T-Unit, T-Seq, BlockRule, T-Clo
 use Rattle.rules.proofs.Basics.{length-upTo, getD-upTo-zero}
 use Rattle.theory.specs.WellRead.{OpRead, StatementRead, op-read, if-read, while-read, StatementsRead, next-read}
 use Rattle.theory.specs.WellRead.{BlockRead, block-read, FunctionsRead, none-read, function-read}
-use Rattle.theory.proofs.Base.{eqb-same, below, is-below, true-in-range, getD-set-stays, getD-set-default, getD-replicate-default}
+use Rattle.rules.proofs.Tests.{eqb-same, below, is-below}
+use Rattle.theory.proofs.Base.{true-in-range, getD-set-stays, getD-set-default, getD-replicate-default}
 use Rattle.theory.proofs.Places.{find, length-stored, stored-other, stored-at, stored-agrees, place-path, numbers, length-numbers, number-at}
 use Rattle.theory.proofs.Places.{all-at, drop-at, find-place, map-without, stored-place, stored-other-place, unbound-qubit, same-qubit}
 use Rattle.theory.proofs.Places.{qubit-in-range, old-qubit, new-qubit, kept-qubit, Once, once-held, argument-at, arguments-length}

@@ -26,7 +26,8 @@ use Rattle.rules.specs.Run.{written}
 use Rattle.rules.specs.Program.{Scope}
 use Rattle.theory.specs.WellRead.{OpRead, CallRead, StatementRead, op-read, if-read, while-read, call-read}
 use Rattle.theory.specs.WellRead.{StatementsRead, next-read, BlockRead, block-read, FunctionsRead, function-read, ProgramRead}
-use Rattle.theory.proofs.Base.{eqb-true, and-left, and-right, chosen-has, true-in-range}
+use Rattle.rules.proofs.Tests.{eqb-true, and-left, and-right}
+use Rattle.theory.proofs.Base.{chosen-has, true-in-range}
 use Rattle.theory.proofs.Base.{getD-set-stays, getD-set-default, getD-replicate-default}
 use Rattle.theory.proofs.Places.{find, place-path, numbers, drop-at, at-map, distinct-places, unbound-qubit, old-qubit, new-qubit, qubit-held}
 use Rattle.theory.proofs.Places.{Once, once-held, entered-qubit}

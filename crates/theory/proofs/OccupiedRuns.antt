@@ -23,7 +23,7 @@ use Rattle.rules.specs.Run.{Turn, Machine, started, stepOf, after, final, recor
 use Rattle.rules.specs.Promises.{over, Ran, runWritten, runOf}
 use Rattle.theory.specs.Tidy.{isInit, isFree, bytesOf, Readable, acts}
 use Rattle.theory.specs.TheRun.{turnOf, movedAt, initByte, freeByte, ofJob, Files, OccupiedAtEnd, OccupiedInRuns}
-use Rattle.theory.proofs.Base.{eqb-true, eqb-same, eqb-other}
+use Rattle.rules.proofs.Tests.{eqb-true, eqb-same, eqb-other}
 use Rattle.theory.proofs.WellRead.{well-read}
 use Rattle.theory.proofs.Isolation.{sound-started, sound-final}
 use Rattle.theory.proofs.Tidy.{occupied}

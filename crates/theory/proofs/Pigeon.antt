@@ -8,7 +8,8 @@ use Prim.Native.Nat.{ℕ, zero, suc, _≤_, _<_}
 use lib.Dec.{eqb}
 use lib.ListN.{length}
 use Rattle.rules.specs.Basics.{any, distinct}
-use Rattle.theory.proofs.Base.{eqb-true, eqb-false, neither, distinct-head, distinct-tail}
+use Rattle.rules.proofs.Tests.{eqb-true, eqb-false, neither}
+use Rattle.theory.proofs.Base.{distinct-head, distinct-tail}
 
 -- all numbers of the list are below n
 abbrev pub Below : ℕ → List ℕ → Type 0

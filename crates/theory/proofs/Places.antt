@@ -19,7 +19,7 @@ use Rattle.rules.specs.Commands.{Commands, ε, alloc, release, connect, either,
 use Rattle.rules.specs.Typing.{Kind, Env, Signature, signature, sameKind, kindNumber, allStay, narrowed}
 use Rattle.rules.specs.Figures.{stored, Arguments, no-more, and}
 use Rattle.rules.proofs.Basics.{length-upTo, getD-upTo-zero, all-upTo}
-use Rattle.theory.proofs.Base.{T→eq, eq→T, eqb-true, eqb-same, eqb-other, and-left, and-right, or-right}
+use Rattle.rules.proofs.Tests.{T→eq, eq→T, eqb-true, eqb-same, eqb-other, and-left, and-right, or-right}
 use Rattle.theory.proofs.Base.{distinct-head, distinct-tail, getD-set-cases, getD-replicate-default}
 
 -- numbers of which none comes twice

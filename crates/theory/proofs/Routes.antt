@@ -19,8 +19,9 @@ use Rattle.rules.specs.Region.{Region, regionOf, owns, touches, joined}
 use Rattle.rules.specs.Path.{NotAfter, between, Along, last, then, Path, Route, reach, fewest, smallestFrom, traced, route}
 use Rattle.rules.proofs.Basics.{length-upTo, getD-upTo-zero}
 use Rattle.theory.specs.Routes.{NoRoute, TheRoute, OneRoute, ShortRoute}
-use Rattle.theory.proofs.Base.{eqb-true, eqb-same, eqb-other, eqb-false, at-most, and-left}
-use Rattle.theory.proofs.Base.{and-right, and-both, or-right, not-true, distinct-head, true-in-range}
+use Rattle.rules.proofs.Tests.{eqb-true, eqb-same, eqb-other, eqb-false, at-most, and-left}
+use Rattle.rules.proofs.Tests.{and-right, and-both, or-right, not-true}
+use Rattle.theory.proofs.Base.{distinct-head, true-in-range}
 use Rattle.theory.proofs.Pigeon.{Below, pigeonhole}
 
 -- what a table of tests says at a number

@@ -28,7 +28,8 @@ use Rattle.rules.specs.Figures.{Arguments, no-more, and, Callable, StatementRul
 use Rattle.rules.specs.Figures.{BlockRule, T-Close, Linked, Connects, C-Empty, C-Alloc, C-Free, C-Merge, C-If, C-Loop}
 use Rattle.rules.specs.Machine.{Frame, Actual, locations, locate, Item, run, return, Job, statementsBefore, blockBefore}
 use Rattle.rules.specs.Machine.{Move, silent, floor, edgesOf, move, Stepped, stepItems, step}
-use Rattle.theory.proofs.Base.{eqb-same, eqb-other, below, and-left, and-right, chosen-has, true-in-range, getD-set-stays, getD-set-default}
+use Rattle.rules.proofs.Tests.{eqb-same, eqb-other, below, and-left, and-right}
+use Rattle.theory.proofs.Base.{chosen-has, true-in-range, getD-set-cases}
 use Rattle.theory.proofs.Places.{length-stored, place-path, numbers, all-at, drop-at, at-map, distinct-places, arguments-length}
 use Rattle.theory.proofs.Places.{at-at, signature-newest, signature-older, entry-free, length-entry, entry-at, narrowed-home}
 use Rattle.theory.proofs.Routes.{path-route}
@@ -112,28 +113,33 @@ module _ (R : Region) (fs : List Function) (len : ℕ) where
     pub apart : (p q : Place s) → p .no < B .size → q .no < B .size → B .place p .no ≡ B .place q .no → p .no ≡ q .no
     pub room : (p : Place s) → p .no < B .size → B .place p .no < len
 
-  take-frees : {s : Side} {B : Body s} (fr N : List Bool) (l : Place s) → Placed B → length fr ≡ B .size → l .no < B .size
-      → Frees (B .place) fr N → Frees (B .place) (set fr (l .no) false) (set N (B .place l .no) false)
-  take-frees {B = B} fr N l P e k F p h = go (ℕ-discrete (p .no) (l .no))
+  -- v stored at location t: a location that was free is so still, but for t where v is false
+  stored-free : (N : List Bool) (t : ℕ) (v : Bool) (x : ℕ) → ((v ≡ false) × (x ≡ t) → ⊥) → getD N x false ≡ true → getD (set N t v) x false ≡ true
+  stored-free N t v x n h = ⊎-elim (λ c. c .1 ∙ so v (λ z. n (z, c .0))) (λ c. c ∙ h) (getD-set-cases N t x v false)
     where
-      go : Dec (p .no ≡ l .no) → getD (set N (B .place l .no) false) (B .place p .no) false ≡ true
-      go (yes q) = absurd (false≢true (sym (getD-set-default fr (l .no) false) ∙ rw q at h))
-      go (no n) =
-          let h′ : getD fr (p .no) false ≡ true = sym (getD-set-other fr (l .no) (p .no) false false n) ∙ h in
-          let r : p .no < length fr = true-in-range fr (p .no) h′ in
-          getD-set-other N (B .place l .no) (B .place p .no) false false (λ q. n (P .apart p l (omega arith) k q)) ∙ F p h′
+      so : (b : Bool) → (b ≡ false → ⊥) → b ≡ true
+      so true f = refl
+      so false f = absurd (f refl)
 
-  give-frees : {s : Side} {B : Body s} (fr N : List Bool) (l : Place s) → Placed B → length fr ≡ B .size → length N ≡ len
-      → Frees (B .place) fr N → Frees (B .place) (set fr (l .no) true) (set N (B .place l .no) true)
-  give-frees {B = B} fr N l P e e′ F p h = go (ℕ-discrete (p .no) (l .no)) (decLt (l .no) (length fr))
+  -- the same v stored at a place of a body and at its location
+  stored-frees : {s : Side} {B : Body s} (fr N : List Bool) (l : Place s) (v : Bool) → Placed B → length fr ≡ B .size → length N ≡ len
+      → (v ≡ false → l .no < B .size) → Frees (B .place) fr N → Frees (B .place) (set fr (l .no) v) (set N (B .place l .no) v)
+  stored-frees {B = B} fr N l v P e e′ k F p h = go (ℕ-discrete (p .no) (l .no)) (decLt (l .no) (length fr))
     where
-      go : Dec (p .no ≡ l .no) → Dec (l .no < length fr) → getD (set N (B .place l .no) true) (B .place p .no) false ≡ true
-      go (no n) d = getD-set-stays N _ _ true false (F p (sym (getD-set-other fr (l .no) (p .no) true false n) ∙ h))
+      go : Dec (p .no ≡ l .no) → Dec (l .no < length fr) → getD (set N (B .place l .no) v) (B .place p .no) false ≡ true
+      go (no n) d =
+          let h′ : getD fr (p .no) false ≡ true = sym (getD-set-other fr (l .no) (p .no) v false n) ∙ h in
+          let r : p .no < length fr = true-in-range fr (p .no) h′ in
+          stored-free N (B .place l .no) v (B .place p .no) (λ z. n (P .apart p l (omega arith) (k (z .0)) (z .1))) (F p h′)
       go (yes q) (yes d) =
           let same : B .place p .no ≡ B .place l .no = ap (λ n. B .place (record { no = n }) .no) q in
           let r : B .place l .no < len = P .room l (omega arith) in
-          rw same (getD-set-same N (B .place l .no) true false (omega arith))
-      go (yes q) (no d) = getD-set-stays N _ _ true false (F p (rw (set-out fr (l .no) true (omega arith)) at h))
+          let here : v ≡ true = sym (getD-set-same fr (l .no) v false d) ∙ (rw q at h) in
+          rw same (getD-set-same N (B .place l .no) v false (omega arith) ∙ here)
+      go (yes q) (no d) =
+          let h′ : getD fr (p .no) false ≡ true = rw (set-out fr (l .no) v (omega arith)) at h in
+          let r : p .no < length fr = true-in-range fr (p .no) h′ in
+          absurd (omega arith)
 
   -- Each known signature is that of a typed function
   pub data Known : List Signature → Type 0 where
@@ -224,73 +230,55 @@ module _ (R : Region) (fs : List Function) (len : ℕ) where
     pub good : Good B Γ N (J .top)
     pub rest : Rest N s B Γ N (J .below) (J .items)
 
-  -- 4. The map changes at a place of the body on top: nothing that waits below minds
-  waiting-give : {N : List Bool} {D : Body parameter} {χ : Frame} {actual : List (Place device)} {xs : List ℕ} (t : ℕ) → Waiting N D χ actual xs
-      → Waiting (set N t true) D χ actual xs
-  waiting-give {N = N} t w = record {
-    s = w .s;
-    B = w .B;
-    Γ = w .Γ;
-    ls = w .ls;
-    known = w .known;
-    placed = w .placed;
-    sized = w .sized;
-    fits = w .fits;
-    arguments = w .arguments;
-    different = w .different;
-    places = w .places;
-    named = w .named;
-    count = w .count;
-    range = w .range;
-    frees = λ q n h. getD-set-stays N t _ true false (w .frees q n h);
-  }
+  -- 4. The map changes at a location, which is a place of the body on top where it is lost: nothing that waits below minds
+  module _ (N : List Bool) (t : ℕ) (v : Bool) where
+    abbrev LostInside : {s : Side} → Body s → Type 0
+    LostInside {s} B = v ≡ false → (l : Place s) × (l .no < B .size) × (B .place l .no ≡ t)
 
-  waiting-take : {N : List Bool} {D : Body parameter} {χ : Frame} {actual : List (Place device)} {xs : List ℕ} (l : Place parameter) → l .no < D .size
-      → Waiting N D χ actual xs → Waiting (set N (D .place l .no) false) D χ actual xs
-  waiting-take {N = N} {D = D} l k w = record {
-    s = w .s;
-    B = w .B;
-    Γ = w .Γ;
-    ls = w .ls;
-    known = w .known;
-    placed = w .placed;
-    sized = w .sized;
-    fits = w .fits;
-    arguments = w .arguments;
-    different = w .different;
-    places = w .places;
-    named = w .named;
-    count = w .count;
-    range = w .range;
-    frees = λ q n h. getD-set-other N _ _ false false (other q n h) ∙ w .frees q n h;
-  }
-    where
-      other : (q : Place (w .s)) → ((p : Place parameter) → p .no < D .size → at (w .ls) (p .no) .no ≢ q .no)
-          → getD (w .Γ .free) (q .no) false ≡ true
-          → w .B .place q .no ≢ D .place l .no
-      other q n h e =
-          let r : q .no < length (w .Γ .free) = true-in-range (w .Γ .free) (q .no) h in
-          let z : length (w .Γ .free) ≡ w .B .size = w .sized in
-          n l k (sym (w .placed .apart q (at (w .ls) (l .no)) (omega arith) (w .range l k) (e ∙ ap (λ p. p .no) (w .places l))))
+    waiting-stored : {D : Body parameter} {χ : Frame} {actual : List (Place device)} {xs : List ℕ} → LostInside D → Waiting N D χ actual xs
+        → Waiting (set N t v) D χ actual xs
+    waiting-stored {D = D} lost w = record {
+      s = w .s;
+      B = w .B;
+      Γ = w .Γ;
+      ls = w .ls;
+      known = w .known;
+      placed = w .placed;
+      sized = w .sized;
+      fits = w .fits;
+      arguments = w .arguments;
+      different = w .different;
+      places = w .places;
+      named = w .named;
+      count = w .count;
+      range = w .range;
+      frees = λ q n h. stored-free N t v (w .B .place q .no) (λ z. other q n h (lost (z .0)) (z .1)) (w .frees q n h);
+    }
+      where
+        -- a place that the call did not name is elsewhere
+        other : (q : Place (w .s)) → ((p : Place parameter) → p .no < D .size → at (w .ls) (p .no) .no ≢ q .no)
+            → getD (w .Γ .free) (q .no) false ≡ true
+            → (l : Place parameter) × (l .no < D .size) × (D .place l .no ≡ t) → w .B .place q .no ≢ t
+        other q n h (l, k, e) f =
+            let r : q .no < length (w .Γ .free) = true-in-range (w .Γ .free) (q .no) h in
+            let z : length (w .Γ .free) ≡ w .B .size = w .sized in
+            let same : w .B .place q .no ≡ w .B .place (at (w .ls) (l .no)) .no = f ∙ sym e ∙ ap (λ p. p .no) (w .places l) in
+            n l k (sym (w .placed .apart q (at (w .ls) (l .no)) (omega arith) (w .range l k) same))
 
-  rest-give : {N : List Bool} {s : Side} {B : Body s} {Γ : Env s} {L : List Bool} {φs : List Frame} {is : List Item} (t : ℕ) → Rest N s B Γ L φs is
-      → Rest (set N t true) s B Γ L φs is
-  unfolding waiting-give
-  rest-give t finished = finished
-  rest-give t (close Γ₀ r) = close Γ₀ (rest-give t r)
-  rest-give t (next j c r) = next j c (rest-give t r)
-  rest-give t (back w h r) = back (waiting-give t w) h (rest-give t r)
+    -- a callee's places are its caller's
+    lost-of-caller : {D : Body parameter} {χ : Frame} {actual : List (Place device)} {xs : List ℕ} (w : Waiting N D χ actual xs) → LostInside D
+        → LostInside (w .B)
+    lost-of-caller w lost z =
+        let r = lost z in
+        (at (w .ls) (r .0 .no), w .range (r .0) (r .1), ap (λ p. p .no) (sym (w .places (r .0))) ∙ r .2)
 
-  rest-take : {N : List Bool} {s : Side} {B : Body s} {Γ : Env s} {L : List Bool} {φs : List Frame} {is : List Item} (l : Place s) → l .no < B .size
-      → Rest N s B Γ L φs is → Rest (set N (B .place l .no) false) s B Γ L φs is
-  unfolding waiting-take
-  rest-take l k finished = finished
-  rest-take l k (close Γ₀ r) = close Γ₀ (rest-take l k r)
-  rest-take l k (next j c r) = next j c (rest-take l k r)
-  rest-take {N = N} l k (back {Δ = Δ} {L = L} {φs = φs} {is = is} w h r) =
-      back (waiting-take l k w) h
-      (subst (λ (n : ℕ). Rest (set N n false) (w .s) (w .B) (resumed w Δ) L φs is) (ap (λ p. p .no) (sym (w .places l)))
-      (rest-take (at (w .ls) (l .no)) (w .range l k) r))
+    rest-stored : {s : Side} {B : Body s} {Γ : Env s} {L : List Bool} {φs : List Frame} {is : List Item} → LostInside B → Rest N s B Γ L φs is
+        → Rest (set N t v) s B Γ L φs is
+    unfolding waiting-stored
+    rest-stored lost finished = finished
+    rest-stored lost (close Γ₀ r) = close Γ₀ (rest-stored lost r)
+    rest-stored lost (next j c r) = next j c (rest-stored lost r)
+    rest-stored lost (back w h r) = back (waiting-stored lost w) h (rest-stored (lost-of-caller w lost) r)
 
   -- 5. The commands of a sequence, and a typed block put before typed items
   connects-nil : {L M : List Bool} → Connects R L ε M → L ≡ M
@@ -361,27 +349,25 @@ module _ (R : Region) (fs : List Function) (len : ℕ) where
       kept-good : {vs : List (Kind s)} {ψ : Frame} → Fits (B .place) vs ψ → Good B (record { slots = vs; free = Γ .free }) N ψ
       kept-good F = record { known = G .known; placed = G .placed; sized = G .sized; long = G .long; fits = F; frees = G .frees }
 
-      taken : {vs : List (Kind s)} {ψ : Frame} (l : Place s) → B .context .inside l ≡ true → Fits (B .place) vs ψ
-          → Good B (record { slots = vs; free = set (Γ .free) (l .no) false }) (set N (B .place l .no) false) ψ
-      taken l i F = record {
+      stored-good : {vs : List (Kind s)} {ψ : Frame} (l : Place s) (v : Bool) → (v ≡ false → B .context .inside l ≡ true) → Fits (B .place) vs ψ
+          → Good B (record { slots = vs; free = set (Γ .free) (l .no) v }) (set N (B .place l .no) v) ψ
+      stored-good l v i F = record {
         known = G .known;
         placed = G .placed;
-        sized = length-set (Γ .free) (l .no) false ∙ G .sized;
-        long = length-set N (B .place l .no) false ∙ G .long;
+        sized = length-set (Γ .free) (l .no) v ∙ G .sized;
+        long = length-set N (B .place l .no) v ∙ G .long;
         fits = F;
-        frees = take-frees (Γ .free) N l (G .placed) (G .sized) (G .placed .range l i) (G .frees);
+        frees = stored-frees (Γ .free) N l v (G .placed) (G .sized) (G .long) (λ z. G .placed .range l (i z)) (G .frees);
       }
 
-      given : {vs : List (Kind s)} {ψ : Frame} (l : Place s) → Fits (B .place) vs ψ
-          → Good B (record { slots = vs; free = set (Γ .free) (l .no) true }) (set N (B .place l .no) true) ψ
-      given l F = record {
-        known = G .known;
-        placed = G .placed;
-        sized = length-set (Γ .free) (l .no) true ∙ G .sized;
-        long = length-set N (B .place l .no) true ∙ G .long;
-        fits = F;
-        frees = give-frees (Γ .free) N l (G .placed) (G .sized) (G .long) (G .frees);
-      }
+      -- a location of this body taken, and one given back
+      rest-taken : {Δ : Env s} {M : List Bool} {φs : List Frame} {is : List Item} (l : Place s) → B .context .inside l ≡ true → Rest N s B Δ M φs is
+          → Rest (set N (B .place l .no) false) s B Δ M φs is
+      rest-taken l i z = rest-stored N (B .place l .no) false (λ u. (l, G .placed .range l i, refl)) z
+
+      rest-given : {Δ : Env s} {M : List Bool} {φs : List Frame} {is : List Item} (l : Place s) → Rest N s B Δ M φs is
+          → Rest (set N (B .place l .no) true) s B Δ M φs is
+      rest-given l z = rest-stored N (B .place l .no) true (λ u. absurd (false≢true (sym u))) z
 
       performed : {Δ : Env s} {φs : List Frame} {is : List Item} {o : ℕ} {a : Op s} (d : Done device Bool) (e : ℕ)
           → perform (floor R fs v isFree (B .actual)) o φ a ≡ ok d → edgesOf R fs v isFree (d .act) o ≡ ok e
@@ -409,13 +395,14 @@ module _ (R : Region) (fs : List Function) (len : ℕ) where
       unfolding _>>=_ _>>_
       op-moves {o = o} (T-Init {x = x} {l = l} p i r) w z =
           performed (record { slots = set φ x (qubit (B .place l)); act = takes plain (B .place l) }) 0 (init-ok plain o x l p i r) refl
-          (taken l i (fits-set (B .place) x (qubit l) (qubit (B .place l)) (G .fits) refl)) (now (connects-alloc w) (rest-take l (G .placed .range l i) z))
+          (stored-good l false (λ u. i) (fits-set (B .place) x (qubit l) (qubit (B .place l)) (G .fits) refl)) (now (connects-alloc w) (rest-taken l i z))
       op-moves {o = o} (T-MInit {x = x} {l = l} p i r) w z =
           performed (record { slots = set φ x (qubit (B .place l)); act = takes magic (B .place l) }) 0 (init-ok magic o x l p i r) refl
-          (taken l i (fits-set (B .place) x (qubit l) (qubit (B .place l)) (G .fits) refl)) (now (connects-alloc w) (rest-take l (G .placed .range l i) z))
+          (stored-good l false (λ u. i) (fits-set (B .place) x (qubit l) (qubit (B .place l)) (G .fits) refl)) (now (connects-alloc w) (rest-taken l i z))
       op-moves (T-Free {x = x} {l = l} p) w z =
           performed (record { slots = set φ x unbound; act = gives (B .place l) }) 0 (rw (is-qubit x l p)) refl
-          (given l (fits-set (B .place) x unbound unbound (G .fits) refl)) (now (connects-release w) (rest-give (B .place l .no) z))
+          (stored-good l true (λ u. absurd (false≢true (sym u))) (fits-set (B .place) x unbound unbound (G .fits) refl))
+          (now (connects-release w) (rest-given l z))
       op-moves (T-Gate {x = x} {l = l} p) w z =
           performed (record { slots = φ; act = quiet }) 0 (rw (is-qubit x l p)) refl G (now (connects-nil w) z)
       op-moves (T-Meas1 {y = y} {x = x} {l = l} p q) w z =

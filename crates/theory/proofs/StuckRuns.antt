@@ -19,7 +19,7 @@ use Rattle.rules.specs.Run.{Turn, Machine, started, stepOf, after, final}
 use Rattle.rules.specs.Promises.{Ran, runOf}
 use Rattle.theory.specs.Tidy.{Stuck}
 use Rattle.theory.specs.TheRun.{isTurn, turnOf, recordAt, ofJob, Files, MapBytes, StuckFrom, MapInRuns, StuckInRuns}
-use Rattle.theory.proofs.Base.{and-left, and-right, and-both}
+use Rattle.rules.proofs.Tests.{and-left, and-right, and-both}
 use Rattle.theory.proofs.OwnerBytes.{BytesFrom, owner-bytes}
 use Rattle.theory.proofs.Isolation.{sound-started, sound-final}
 use Rattle.theory.proofs.Tidy.{map-byte, stuck-stays}

@@ -25,7 +25,7 @@ use Rattle.theory.specs.Counts.{beginWithZero}
 use Rattle.theory.specs.Interleaving.{turnsOf, recordsOf, Alike}
 use Rattle.theory.specs.TheRun.{isTurn, turnOf, bytesFor, recordsFor, codesFor, ofJob}
 use Rattle.theory.specs.TheRun.{Files, CountsMoved, NotStuck, jobByJob, RunAlike, MovedInRuns, NeverStuckInRuns, RunsInOrder}
-use Rattle.theory.proofs.Base.{and-left, and-right, and-both}
+use Rattle.rules.proofs.Tests.{and-left, and-right, and-both}
 use Rattle.theory.proofs.Accepted.{never-stuck}
 use Rattle.theory.proofs.Counts.{moved-count}
 use Rattle.theory.proofs.Interleaving.{two-jobs}

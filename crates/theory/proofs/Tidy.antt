@@ -24,7 +24,7 @@ use Rattle.rules.specs.Machine.{Frame, Actual, Item, run, return, Job, Move, fl
 use Rattle.rules.specs.Run.{Turn, Machine, written, started, stepOf, after, final}
 use Rattle.theory.specs.Interleaving.{turnsOf}
 use Rattle.theory.specs.Tidy.{isInit, isFree, bytesOf, Readable, acts, Occupied, MapByte, frame, Stuck, StuckStays, HeldOnce}
-use Rattle.theory.proofs.Base.{eqb-same, eqb-other}
+use Rattle.rules.proofs.Tests.{eqb-same, eqb-other}
 use Rattle.theory.proofs.Isolation.{Byte, ownSlot, OwnFrame, OwnFrames, OwnAct, OwnJob, owns-owner, part, Sound, sound-started, sound-after}
 use Rattle.theory.proofs.Isolation.{sound-final}
 use Rattle.theory.proofs.Isolation.{View, view, view-step, view-after, view-final, acts-own, same-step, view-same, view-of-final}

@@ -20,7 +20,7 @@ use Rattle.rules.specs.Commands.{Commands, ε, alloc, release, connect, either,
 use Rattle.rules.specs.Run.{turns}
 use Rattle.theory.specs.Tests.{test}
 use Rattle.theory.specs.WalkOrder.{freeAfter, walkTests, WalkOrder, namesTurn, ScheduleOrder}
-use Rattle.theory.proofs.Base.{eqb-true, at-most, and-left, and-right, or-right}
+use Rattle.rules.proofs.Tests.{eqb-true, at-most, and-left, and-right, or-right}
 use Rattle.theory.proofs.Places.{at-same}
 use Rattle.theory.proofs.Rows.{past, AsFirst, end, next, made, after-having, then}
 use Rattle.theory.proofs.TypingOrder.{route-row}

@@ -19,7 +19,7 @@ use Rattle.rules.specs.Commands.{needRoute}
 use Rattle.route.specs.Found.{edgesOf}
 use Rattle.sets.specs.declared.LocationSet.{LocationSet}
 use Rattle.sets.specs.Sets.{has}
-use Rattle.theory.proofs.Base.{eqb-same, eqb-other}
+use Rattle.rules.proofs.Tests.{eqb-same, eqb-other}
 use Rattle.program.proofs.In.{statement-view}
 use Rattle.walking.specs.Walk.{Standing, Walker, put, taken, given, walkOp, walkStatement}
 use Rattle.walking.specs.Stands.{Names, Walked, placed, named, standing, noPath, faultSaid, walkSaid, kept, StatementAt, Over}

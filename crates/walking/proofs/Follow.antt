@@ -20,7 +20,8 @@ use Rattle.rules.specs.Commands.{Commands, commandsAt, needRoute}
 use Rattle.rules.specs.Typing.{Kind, Env, Signature, Context, signature}
 use Rattle.rules.specs.Figures.{stored, kindAt, substituted, OpRule, T-Init, T-MInit, T-Free, T-Gate, T-Meas1, T-Meas2, T-MkRef, T-Deref, T-Assign, T-Bool, Callable, StatementRule, T-Op, T-If, T-While, T-Call, StatementsRule, T-Unit, T-Seq, BlockRule, T-Close}
 use Rattle.rules.proofs.Basics.{getD-upTo-zero}
-use Rattle.theory.proofs.Base.{eqb-same, eqb-other, getD-set-cases}
+use Rattle.rules.proofs.Tests.{eqb-same, eqb-other}
+use Rattle.theory.proofs.Base.{getD-set-cases}
 use Rattle.theory.proofs.Places.{at-at, not-qubit, unbound-qubit, same-qubit, old-qubit, argument-at}
 use Rattle.theory.proofs.Linear.{block-qubit}
 use Rattle.walking.specs.Walk.{Standing, Walker, put, walkOp, walkStatement, walkStatements, walkBlock}

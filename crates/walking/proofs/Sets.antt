@@ -15,7 +15,7 @@ use Rattle.rules.specs.Region.{Region}
 use Rattle.rules.specs.Path.{route}
 use Rattle.rules.specs.Syntax.{Side, device, Place}
 use Rattle.rules.specs.Commands.{Commands, ε, alloc, release, connect, either, repeat, _then_, commandsAt, needRoute, walk}
-use Rattle.theory.proofs.Base.{eqb-same, eqb-other}
+use Rattle.rules.proofs.Tests.{eqb-same, eqb-other}
 use Rattle.walking.specs.Walk.{taken, given}
 
 abbrev pub walkSet : Region → (ℕ → Bool) → Commands device → Check (ℕ → Bool)

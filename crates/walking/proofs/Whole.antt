@@ -19,7 +19,8 @@ use Rattle.rules.specs.Commands.{Commands, ε, alloc, release, connect, either,
 use Rattle.rules.specs.Typing.{Env, Typed, Signature, Context, signature, entry, bodyContext, signatureOf, mainContext}
 use Rattle.rules.specs.Figures.{OpRule, T-Init, T-MInit, T-Free, T-Gate, T-Meas1, T-Meas2, T-MkRef, T-Deref, T-Assign, T-Bool, StatementRule, T-Op, T-If, T-While, T-Call, StatementsRule, T-Unit, T-Seq, BlockRule, T-Close, FunctionsRule, T-NoFun, T-Fundecl}
 use Rattle.theory.specs.Exact.{Derives}
-use Rattle.theory.proofs.Base.{below, is-below, true-in-range, getD-set-cases, getD-replicate-default}
+use Rattle.rules.proofs.Tests.{below, is-below}
+use Rattle.theory.proofs.Base.{true-in-range, getD-set-cases, getD-replicate-default}
 use Rattle.theory.proofs.Places.{at-at, at-same, all-at, same-qubit, unbound-qubit, signature-newest, signature-older, entry-qubit}
 use Rattle.theory.proofs.Linear.{block-qubit}
 use Rattle.walking.specs.Walk.{Walker, enteredAt, walkBlock, Callees}

@@ -7,7 +7,8 @@ use native.Mathlib.Numerals.{one-add}
 use native.Mathlib.Omega.{arith}
 use Prim.Native.Nat.{ℕ, zero, suc, _+_, _-_, _*_, _/_, _%_, _^_, _<_}
 use borrow.Author.Tests.{eq-eqb, ne-eqb}
-use lib.Bits.{bitAnd, bitOr, bitXor, or-shr, or-mod, xor-shr, xor-mod, and-shr, and-mod, or-zero-r, and-zero-r, xor-zero-r, shifted-half, shifted-even, and-high, or-add-and, and-le-l, and-le-r}
+use lib.Bits.{bitAnd, bitOr, bitXor, or-shr, or-mod, xor-shr, xor-mod, and-shr, and-mod, or-zero-r, and-zero-r, xor-zero-r}
+use lib.Bits.{shifted-half, shifted-even, and-high, or-add-and, and-le-l, and-le-r}
 use lib.Count.{trailingZeros, under}
 use lib.Dec.{eqb, eqb·suc-suc, eqb·zero-suc, eqb·suc-zero}
 use lib.Pow.{pow-add, pow-pos, shr-shr, shl-exact, pow-lt}
@@ -78,8 +79,11 @@ zero-bit : (n : ℕ) → bitOf n 0 ≡ n % 2
 unfolding bitOf
 zero-bit n = ap (λ (x : ℕ). x % 2) (div-one n)
 
-pub trailing-bit : (k n : ℕ) → 0 < n → n < 2 ^ k
-    → (trailingZeros k n < k) × (bitOf n (trailingZeros k n) ≡ 1) × ((j : ℕ) → j < trailingZeros k n → bitOf n j ≡ 0)
+-- t is below k and the lowest bit of n that is set
+abbrev Lowest : ℕ → ℕ → ℕ → Type 0
+Lowest k n t = (t < k) × (bitOf n t ≡ 1) × ((j : ℕ) → j < t → bitOf n j ≡ 0)
+
+pub trailing-bit : (k n : ℕ) → 0 < n → n < 2 ^ k → Lowest k n (trailingZeros k n)
 unfolding trailingZeros
 trailing-bit zero n h l = absurd (omega arith)
 trailing-bit (suc k) n h l = go (n % 2) refl (trailing-bit k (n / 2))
@@ -87,9 +91,8 @@ trailing-bit (suc k) n h l = go (n % 2) refl (trailing-bit k (n / 2))
     l' : n < 2 ^ k * 2
     l' = rw (pow-suc 2 k) at l
 
-    go : (d : ℕ) → n % 2 ≡ d
-        → (0 < n / 2 → n / 2 < 2 ^ k → (trailingZeros k (n / 2) < k) × (bitOf (n / 2) (trailingZeros k (n / 2)) ≡ 1) × ((j : ℕ) → j < trailingZeros k (n / 2) → bitOf (n / 2) j ≡ 0))
-        → (under d (trailingZeros k (n / 2)) < suc k) × (bitOf n (under d (trailingZeros k (n / 2))) ≡ 1) × ((j : ℕ) → j < under d (trailingZeros k (n / 2)) → bitOf n j ≡ 0)
+    go : (d : ℕ) → n % 2 ≡ d → (0 < n / 2 → n / 2 < 2 ^ k → Lowest k (n / 2) (trailingZeros k (n / 2)))
+        → Lowest (suc k) n (under d (trailingZeros k (n / 2)))
     go zero e r = let i = r (omega arith) (omega arith) in (omega arith, half-bit n _ ∙ i .1, below (i .2))
       where
         below : ((j : ℕ) → j < trailingZeros k (n / 2) → bitOf (n / 2) j ≡ 0) → (j : ℕ) → j < suc (trailingZeros k (n / 2)) → bitOf n j ≡ 0
@@ -115,7 +118,8 @@ xor-pick false b h = rw (and-zero-r b, xor-zero-r b)
 pub without-bit : (x i : ℕ) → i < 64 → (j : ℕ) → bitOf (bitXor x (bitAnd x (1 * 2 ^ i % 18446744073709551616))) j ≡ pickN (eqb j i) 0 (bitOf x j)
 without-bit x i h j =
     rw (shifted i h)
-    (xor-bit x (bitAnd x (1 * 2 ^ i)) j ∙ ap (bitXor (bitOf x j)) (and-bit x (1 * 2 ^ i) j) ∙ rw (one-bit i j) (xor-pick (eqb j i) (bitOf x j) (bit-lt x j)))
+    (xor-bit x (bitAnd x (1 * 2 ^ i)) j ∙ ap (bitXor (bitOf x j)) (and-bit x (1 * 2 ^ i) j)
+    ∙ rw (one-bit i j) (xor-pick (eqb j i) (bitOf x j) (bit-lt x j)))
 
 -- the union of two words is zero where both are
 pub or-none : (a b : ℕ) → bitOr a b ≡ 0 → (a ≡ 0) × (b ≡ 0)

@@ -56,7 +56,8 @@ pub empty-has : (y : ℕ) → has (record { words = 0 ∷ 0 ∷ 0 ∷ 0 ∷ [] }
 unfolding has
 empty-has y = rw (zeros-at (y / 64), no-bit (y % 64)) (and-false (ltb y 256))
 
-pub contains-has : (s : LocationSet) (x : ℕ) → x < 256 → not (eqb (bitAnd (getD (s .words) (x / 64) 0) (1 * 2 ^ (x % 64) % 18446744073709551616)) 0) ≡ has s x
+pub contains-has : (s : LocationSet) (x : ℕ) → x < 256
+    → not (eqb (bitAnd (getD (s .words) (x / 64) 0) (1 * 2 ^ (x % 64) % 18446744073709551616)) 0) ≡ has s x
 unfolding has
 contains-has s x h = rw (lt-ltb x 256 h) (has-bit (getD (s .words) (x / 64) 0) (x % 64) (omega arith))
 
@@ -70,10 +71,13 @@ pick-off false n = refl
 
 -- in one word, numbers are equal where their bits are
 pub same-place : (x y : ℕ) → y / 64 ≡ x / 64 → eqb (y % 64) (x % 64) ≡ eqb y x
-same-place x y e =
-    ⊎-elim (λ h. rw (ne-eqb y x (omega arith), ne-eqb (y % 64) (x % 64) (omega arith)))
-    (λ h. ⊎-elim (λ k. rw (ne-eqb y x (omega arith), ne-eqb (y % 64) (x % 64) (omega arith))) (λ k. rw (eq-eqb y x (omega arith), eq-eqb (y % 64) (x % 64) (omega arith))) (side x y))
-    (side y x)
+same-place x y e = ⊎-elim (λ h. apart (λ q. omega arith)) (λ h. ⊎-elim (λ k. apart (λ q. omega arith)) (λ k. same (omega arith)) (side x y)) (side y x)
+  where
+    apart : (y ≡ x → ⊥) → eqb (y % 64) (x % 64) ≡ eqb y x
+    apart n = rw (ne-eqb y x n, ne-eqb (y % 64) (x % 64) (λ q. n (omega arith)))
+
+    same : y ≡ x → eqb (y % 64) (x % 64) ≡ eqb y x
+    same q = ap (λ (z : ℕ). eqb (z % 64) (x % 64)) q ∙ eq-eqb (x % 64) (x % 64) refl ∙ sym (eq-eqb y x q)
 
 -- a set in which one word is changed, at the bit of x alone: g says how
 module _ (s : LocationSet) (x new : ℕ) (g : Bool → Bool → Bool) (n : length (s .words) ≡ 4) (h : x < 256) (off : (t : Bool) → g false t ≡ t)
@@ -91,7 +95,8 @@ module _ (s : LocationSet) (x new : ℕ) (g : Bool → Bool → Bool) (n : lengt
           rw (lt-ltb y 256 b, getD-set-other (s .words) (x / 64) (y / 64) new 0 e, ne-eqb y x (λ q. e (ap (λ (m : ℕ). m / 64) q))) (sym (off _))
 
 pub add-has : (s : LocationSet) (x : ℕ) → length (s .words) ≡ 4 → x < 256 → (y : ℕ)
-    → has (record { words = set (s .words) (x / 64) (bitOr (getD (s .words) (x / 64) 0) (1 * 2 ^ (x % 64) % 18446744073709551616)) }) y ≡ (eqb y x || has s y)
+    → has (record { words = set (s .words) (x / 64) (bitOr (getD (s .words) (x / 64) 0) (1 * 2 ^ (x % 64) % 18446744073709551616)) }) y
+    ≡ (eqb y x || has s y)
 add-has s x n h =
     changed-has s x _ _||_ n h (λ t. refl)
     (λ j. ap (λ (m : ℕ). eqb m 1) (with-bit (getD (s .words) (x / 64) 0) (x % 64) (omega arith) j) ∙ pick-on (eqb j (x % 64)) _)
@@ -107,28 +112,35 @@ remove-has s x n h =
     changed-has s x _ (λ p q. not p && q) n h (λ t. refl)
     (λ j. ap (λ (m : ℕ). eqb m 1) (without-bit (getD (s .words) (x / 64) 0) (x % 64) (omega arith) j) ∙ pick-off (eqb j (x % 64)) _)
 
--- ---- two sets, word by word
-four : (ℕ → ℕ → ℕ) → List ℕ → List ℕ → LocationSet
-four f s t = record { words = f (getD s 0 0) (getD t 0 0) ∷ f (getD s 1 0) (getD t 1 0) ∷ f (getD s 2 0) (getD t 2 0) ∷ f (getD s 3 0) (getD t 3 0) ∷ [] }
+-- ---- two sets, word by word: one law over the operation f on words and what it is on tests, g
+abbrev pub four : (ℕ → ℕ → ℕ) → LocationSet → LocationSet → LocationSet
+four f s t = record { words = at 0 ∷ at 1 ∷ at 2 ∷ at 3 ∷ [] }
+  where
+    at : ℕ → ℕ
+    at i = f (getD (s .words) i 0) (getD (t .words) i 0)
 
-four-at : (f : ℕ → ℕ → ℕ) (s t : List ℕ) (i : ℕ) → i < 4 → getD (four f s t .words) i 0 ≡ f (getD s i 0) (getD t i 0)
-unfolding four
+four-at : (f : ℕ → ℕ → ℕ) (s t : LocationSet) (i : ℕ) → i < 4 → getD (four f s t .words) i 0 ≡ f (getD (s .words) i 0) (getD (t .words) i 0)
 four-at f s t zero h = refl
 four-at f s t (suc zero) h = refl
 four-at f s t (suc (suc zero)) h = refl
 four-at f s t (suc (suc (suc zero))) h = refl
 four-at f s t (suc (suc (suc (suc i)))) h = absurd (omega arith)
 
-four-has : (f : ℕ → ℕ → ℕ) (g : Bool → Bool → Bool) → g false false ≡ false → ((a b j : ℕ) → bitOf (f a b) j ≡ f (bitOf a j) (bitOf b j))
-    → ((x y : ℕ) → x < 2 → y < 2 → eqb (f x y) 1 ≡ g (eqb x 1) (eqb y 1))
-    → (s t : LocationSet) (y : ℕ) → has (four f (s .words) (t .words)) y ≡ g (has s y) (has t y)
+-- f goes bit by bit, and on bits it is g
+record Bitwise (f : ℕ → ℕ → ℕ) (g : Bool → Bool → Bool) : Type 0 where
+  none : g false false ≡ false
+  bitwise : (a b j : ℕ) → bitOf (f a b) j ≡ f (bitOf a j) (bitOf b j)
+  on-bits : (x y : ℕ) → x < 2 → y < 2 → eqb (f x y) 1 ≡ g (eqb x 1) (eqb y 1)
+
+four-has : {f : ℕ → ℕ → ℕ} {g : Bool → Bool → Bool} → Bitwise f g → (s t : LocationSet) (y : ℕ)
+    → has (four f s t) y ≡ g (has s y) (has t y)
 unfolding has
-four-has f g z l d s t y = ⊎-elim (λ h. below h) (λ h. rw (le-ltb y 256 h) (sym z)) (side y 256)
+four-has {f} {g} B s t y = ⊎-elim (λ h. below h) (λ h. rw (le-ltb y 256 h) (sym (B .none))) (side y 256)
   where
-    below : y < 256 → has (four f (s .words) (t .words)) y ≡ g (has s y) (has t y)
+    below : y < 256 → has (four f s t) y ≡ g (has s y) (has t y)
     below h =
-        rw (lt-ltb y 256 h, four-at f (s .words) (t .words) (y / 64) (omega arith), l (getD (s .words) (y / 64) 0) (getD (t .words) (y / 64) 0) (y % 64))
-        (d _ _ (bit-lt _ _) (bit-lt _ _))
+        rw (lt-ltb y 256 h, four-at f s t (y / 64) (omega arith), B .bitwise (getD (s .words) (y / 64) 0) (getD (t .words) (y / 64) 0) (y % 64))
+        (B .on-bits _ _ (bit-lt _ _) (bit-lt _ _))
 
 two : (P : ℕ → ℕ → Type 0) → P 0 0 → P 0 1 → P 1 0 → P 1 1 → (x y : ℕ) → x < 2 → y < 2 → P x y
 two P a b c d zero zero h k = a
@@ -139,14 +151,17 @@ two P a b c d (suc (suc x)) y h k = absurd (omega arith)
 two P a b c d zero (suc (suc y)) h k = absurd (omega arith)
 two P a b c d (suc zero) (suc (suc y)) h k = absurd (omega arith)
 
-pub union-has : (s t : LocationSet) (y : ℕ) → has (record { words = bitOr (getD (s .words) 0 0) (getD (t .words) 0 0) ∷ bitOr (getD (s .words) 1 0) (getD (t .words) 1 0) ∷ bitOr (getD (s .words) 2 0) (getD (t .words) 2 0) ∷ bitOr (getD (s .words) 3 0) (getD (t .words) 3 0) ∷ [] }) y ≡ (has s y || has t y)
-unfolding four
-union-has s t y = four-has bitOr _||_ refl or-bit (two _ refl refl refl refl) s t y
+abbrev pub lacks : ℕ → ℕ → ℕ
+lacks a b = bitXor a (bitAnd a b)
 
-pub common-has : (s t : LocationSet) (y : ℕ) → has (record { words = bitAnd (getD (s .words) 0 0) (getD (t .words) 0 0) ∷ bitAnd (getD (s .words) 1 0) (getD (t .words) 1 0) ∷ bitAnd (getD (s .words) 2 0) (getD (t .words) 2 0) ∷ bitAnd (getD (s .words) 3 0) (getD (t .words) 3 0) ∷ [] }) y ≡ (has s y && has t y)
-unfolding four
-common-has s t y = four-has bitAnd _&&_ refl and-bit (two _ refl refl refl refl) s t y
+pub union-has : (s t : LocationSet) (y : ℕ) → has (four bitOr s t) y ≡ (has s y || has t y)
+union-has = four-has {g = _||_} (record { none = refl; bitwise = or-bit; on-bits = two _ refl refl refl refl })
 
-pub without-has : (s t : LocationSet) (y : ℕ) → has (record { words = bitXor (getD (s .words) 0 0) (bitAnd (getD (s .words) 0 0) (getD (t .words) 0 0)) ∷ bitXor (getD (s .words) 1 0) (bitAnd (getD (s .words) 1 0) (getD (t .words) 1 0)) ∷ bitXor (getD (s .words) 2 0) (bitAnd (getD (s .words) 2 0) (getD (t .words) 2 0)) ∷ bitXor (getD (s .words) 3 0) (bitAnd (getD (s .words) 3 0) (getD (t .words) 3 0)) ∷ [] }) y ≡ (has s y && not (has t y))
-unfolding four
-without-has s t y = four-has (λ a b. bitXor a (bitAnd a b)) (λ p q. p && not q) refl (λ a b j. xor-bit a (bitAnd a b) j ∙ ap (bitXor (bitOf a j)) (and-bit a b j)) (two _ refl refl refl refl) s t y
+pub common-has : (s t : LocationSet) (y : ℕ) → has (four bitAnd s t) y ≡ (has s y && has t y)
+common-has = four-has {g = _&&_} (record { none = refl; bitwise = and-bit; on-bits = two _ refl refl refl refl })
+
+pub without-has : (s t : LocationSet) (y : ℕ) → has (four lacks s t) y ≡ (has s y && not (has t y))
+without-has = four-has {g = λ p q. p && not q} (record { none = refl; bitwise = bitwise; on-bits = two _ refl refl refl refl })
+  where
+    bitwise : (a b j : ℕ) → bitOf (lacks a b) j ≡ lacks (bitOf a j) (bitOf b j)
+    bitwise a b j = xor-bit a (bitAnd a b) j ∙ ap (bitXor (bitOf a j)) (and-bit a b j)

@@ -15,7 +15,8 @@ module _ (s : LocationSet) (P : ℕ → Type 0) where
   pub sweep-start : (x : ℕ) → FirstFrom s 0 x → (z : ℕ) → z < x → has s z ≡ true → P z
   sweep-start x f z h p = absurd (clash p (f .passed z (omega arith) h))
 
-  pub sweep-more : (x x' : ℕ) → ((z : ℕ) → z < x → has s z ≡ true → P z) → P x → FirstFrom s (x + 1) x' → (z : ℕ) → z < x' → has s z ≡ true → P z
+  pub sweep-more : (x x' : ℕ) → ((z : ℕ) → z < x → has s z ≡ true → P z) → P x → FirstFrom s (x + 1) x'
+      → (z : ℕ) → z < x' → has s z ≡ true → P z
   sweep-more x x' all here f z h p =
       ⊎-elim (λ l. all z l p) (λ l. ⊎-elim (λ e. subst P e here) (λ l. absurd (clash p (f .passed z (omega arith) h))) (eq-or-lt-of-le l)) (side z x)
 

@@ -13,12 +13,14 @@ pub data Holds {A : Type 0} (P : A → Type 0) : Check A → Type 0 where
   not-ok : {r : Refusal} → Holds P (refused r)
   by : {a : A} → P a → Holds P (ok a)
 
-pub holds-bind : {A B : Type 0} {Q : A → Type 0} {P : B → Type 0} {m : Check A} {f : A → Check B} → Holds Q m → ((a : A) → Q a → Holds P (f a)) → Holds P (m >>= f)
+pub holds-bind : {A B : Type 0} {Q : A → Type 0} {P : B → Type 0} {m : Check A} {f : A → Check B} → Holds Q m
+    → ((a : A) → Q a → Holds P (f a)) → Holds P (m >>= f)
 unfolding _>>=_
 holds-bind not-ok g = not-ok
 holds-bind (by {a = a} h) g = g a h
 
-pub holds-then : {A B : Type 0} {Q : A → Type 0} {P : B → Type 0} {m : Check A} {n : Check B} → Holds Q m → ((a : A) → Q a → Holds P n) → Holds P (m >> n)
+pub holds-then : {A B : Type 0} {Q : A → Type 0} {P : B → Type 0} {m : Check A} {n : Check B} → Holds Q m
+    → ((a : A) → Q a → Holds P n) → Holds P (m >> n)
 unfolding _>>_
 holds-then not-ok g = not-ok
 holds-then (by {a = a} h) g = g a h

@@ -29,7 +29,8 @@ pub all-upTo : (p : ℕ → Bool) (i m : ℕ) → T (all p (upTo i m λ k. k)) �
 all-upTo p i zero t k h l = absurd (omega arith)
 all-upTo p i (suc m) t k h l = go (p i) refl t (ℕ-discrete k i) (λ r a. all-upTo p (suc i) m r k a (omega arith))
   where
-    go : (b : Bool) → p i ≡ b → T (b && all p (upTo (suc i) m λ n. n)) → Dec (k ≡ i) → (T (all p (upTo (suc i) m λ n. n)) → suc i ≤ k → T (p k)) → T (p k)
+    go : (b : Bool) → p i ≡ b → T (b && all p (upTo (suc i) m λ n. n)) → Dec (k ≡ i)
+        → (T (all p (upTo (suc i) m λ n. n)) → suc i ≤ k → T (p k)) → T (p k)
     go true e r (yes q) rest = subst (λ (n : ℕ). T (p n)) (sym q) (subst (λ (b : Bool). T b) (sym e) tt)
     go true e r (no q) rest = rest r (omega arith)
     go false e r d rest = absurd r

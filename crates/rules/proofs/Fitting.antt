@@ -50,7 +50,8 @@ operands-fit s S i n (o ∷ os) =
     holds-map (λ v r. (fits S (byte s (i + 1)) o (byte s (i + n)) h, r)) (operands-fit s S i (suc n) os)
 
 -- of two rows of operands that fit, each fits where it stands
-pub split-fit : (s : List ℕ) (S : Scope) (i n : ℕ) (os ps : List Operand) → AllFit s S i n (os ++ ps) → AllFit s S i n os × AllFit s S i (n + length os) ps
+pub split-fit : (s : List ℕ) (S : Scope) (i n : ℕ) (os ps : List Operand) → AllFit s S i n (os ++ ps)
+    → AllFit s S i n os × AllFit s S i (n + length os) ps
 split-fit s S i n [] ps h = (tt, subst (λ (m : ℕ). AllFit s S i m ps) (sym (add-zero n)) h)
 split-fit s S i n (o ∷ os) ps h =
     let r : AllFit s S i (suc n) os × AllFit s S i (suc n + length os) ps = split-fit s S i (suc n) os ps (h .1) in

@@ -67,7 +67,10 @@ size-at b d h = entry-at b 0 d h (omega arith)
 
 -- the sizes of the thirteen statements are 2 to 6
 pub size-in : (b : ℕ) → 0 < b → b < 14 → (2 ≤ sizeOf b) × (sizeOf b ≤ 6)
-size-in b p h = (leb→le 2 (sizeOf b) (left (leb 2 (sizeOf b)) (leb (sizeOf b) 6) both), leb→le (sizeOf b) 6 (right (leb 2 (sizeOf b)) (leb (sizeOf b) 6) both))
+size-in b p h = (
+  leb→le 2 (sizeOf b) (left (leb 2 (sizeOf b)) (leb (sizeOf b) 6) both),
+  leb→le (sizeOf b) 6 (right (leb 2 (sizeOf b)) (leb (sizeOf b) 6) both),
+)
   where
     both : T (leb 2 (sizeOf b) && leb (sizeOf b) 6)
     both = all-upTo (λ k. leb 2 (sizeOf k) && leb (sizeOf k) 6) 1 13 tt b p h
@@ -83,7 +86,10 @@ module _ (b i : ℕ) (d : List ℕ) (h : b < 14) (p : 0 < i) (k : i < 6) where
   pub kind-at : (n : ℕ) → getD (getD rows b d) i 0 ≡ n → kindOf n ≡ operandAt b i
   kind-at n e = ap kindOf (sym e ∙ number-at) ∙ kind-of-number (operandAt b i)
 
-  pub no-kind-at : getD (getD rows b d) i 0 ≢ 1 → getD (getD rows b d) i 0 ≢ 2 → getD (getD rows b d) i 0 ≢ 3 → getD (getD rows b d) i 0 ≢ 4 → getD (getD rows b d) i 0 ≢ 5 → getD (getD rows b d) i 0 ≢ 6 → getD (getD rows b d) i 0 ≢ 7 → getD (getD rows b d) i 0 ≢ 8 → Nothing ≡ operandAt b i
+  abbrev Not : ℕ → Type 0
+  Not k = getD (getD rows b d) i 0 ≢ k
+
+  pub no-kind-at : Not 1 → Not 2 → Not 3 → Not 4 → Not 5 → Not 6 → Not 7 → Not 8 → Nothing ≡ operandAt b i
   no-kind-at n₁ n₂ n₃ n₄ n₅ n₆ n₇ n₈ = go (operandAt b i) number-at
     where
       go : (o : Operand) → getD (getD rows b d) i 0 ≡ kindNumber o → Nothing ≡ o

@@ -28,7 +28,6 @@ use Rattle.theory.specs.Tidy.{isInit, isFree}
 use Rattle.theory.specs.TheRun.{initByte, freeByte}
 use Rattle.rules.proofs.Tests.{eqb-other}
 use Rattle.theory.proofs.Base.{chosen-has}
-
 use Rattle.theory.proofs.Reasons.{reason-above, Reasoned, reason-of, move-reasoned}
 
 abbrev pub initOp : {s : Side} → Op s → Bool

@@ -114,7 +114,8 @@ module _ (R : Region) (fs : List Function) (len : ℕ) where
     pub room : (p : Place s) → p .no < B .size → B .place p .no < len
 
   -- v stored at location t: a location that was free is so still, but for t where v is false
-  stored-free : (N : List Bool) (t : ℕ) (v : Bool) (x : ℕ) → ((v ≡ false) × (x ≡ t) → ⊥) → getD N x false ≡ true → getD (set N t v) x false ≡ true
+  stored-free : (N : List Bool) (t : ℕ) (v : Bool) (x : ℕ) → ((v ≡ false) × (x ≡ t) → ⊥) → getD N x false ≡ true
+      → getD (set N t v) x false ≡ true
   stored-free N t v x n h = ⊎-elim (λ c. c .1 ∙ so v (λ z. n (z, c .0))) (λ c. c ∙ h) (getD-set-cases N t x v false)
     where
       so : (b : Bool) → (b ≡ false → ⊥) → b ≡ true

@@ -93,7 +93,7 @@ moved-kept : {m : Check Moved} → Within (λ n. (n .first ≤ 4096) × (n .seco
 moved-kept = kept movedOf packedMoved (λ r. refl) λ n h. (halves n h, moved-fits n h)
 
 pub read-device-kept : ReadDeviceKept
-read-device-kept device = read-kept (read-device-within device)
+read-device-kept device = value-kept (λ n h. omega arith) (read-device-within device)
 
 pub read-program-kept : ReadProgramKept
 read-program-kept program = read-kept (read-program-within program)

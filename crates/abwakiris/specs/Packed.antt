@@ -17,7 +17,7 @@ fileCode (Program j) = 16 + j
 abbrev pub packedRefusal : Refusal → ℕ
 packedRefusal r = r .place % 2 ^ 32 + r .number * 2 ^ 32 + fileCode (r .file) * 2 ^ 40
 
--- a read has no value, a check and a route have one, a run has two
+-- a read of a program has no value, a read of a device, a check and a route have one, a run has two
 abbrev pub packedRead : Check (Unit {0}) → ℕ
 packedRead (ok u) = 0
 packedRead (refused r) = packedRefusal r

@@ -52,7 +52,7 @@ pub record Kept {A : Type 0} (apart : ℕ → Check A) (packed : Check A → ℕ
   pub fits : packed m < 2 ^ 48
 
 abbrev pub ReadDeviceKept : Type 0
-ReadDeviceKept = (device : List ℕ) → Kept unpackedRead packedRead (readDeviceOf device)
+ReadDeviceKept = (device : List ℕ) → Kept unpackedValue packedValue (readDeviceOf device)
 
 abbrev pub ReadProgramKept : Type 0
 ReadProgramKept = (program : List ℕ) → Kept unpackedRead packedRead (readProgramOf program)

@@ -3,6 +3,8 @@ use mathlib.Core.Path.{_≡_, refl, sym, ap, _∙_}
 use Prim.Native.Nat.{ℕ}
 use Rattle.answers.specs.declared.ReadAnswer.{ReadAnswer}
 use Rattle.answers.specs.declared.ReadAnswer.the-variants.{Readable, Refused as NotReadable}
+use Rattle.answers.specs.declared.LocationsAnswer.{LocationsAnswer}
+use Rattle.answers.specs.declared.LocationsAnswer.the-variants.{Locations, Refused as NoLocations}
 use Rattle.answers.specs.declared.CheckAnswer.{CheckAnswer}
 use Rattle.answers.specs.declared.CheckAnswer.the-variants.{Accepted, Refused as NotAccepted}
 use Rattle.answers.specs.declared.RouteAnswer.{RouteAnswer}
@@ -11,7 +13,7 @@ use Rattle.answers.specs.declared.Moved.{Moved}
 use Rattle.answers.specs.declared.RunAnswer.{RunAnswer}
 use Rattle.answers.specs.declared.RunAnswer.the-variants.{Ran, Refused as NotRan}
 use Rattle.answers.specs.Check.{Check, ok, refused}
-use Rattle.answers.specs.Said.{readSaid, checkSaid, routeSaid, runSaid}
+use Rattle.answers.specs.Said.{readSaid, locationsSaid, checkSaid, routeSaid, runSaid}
 
 -- a function that another undoes takes no two things to the same
 undone : {A B : Type 0} (f : A → B) (g : B → A) → ((a : A) → g (f a) ≡ a) → (a b : A) → f a ≡ f b → a ≡ b
@@ -20,6 +22,10 @@ undone f g h a b e = sym (h a) ∙ ap g e ∙ h b
 abbrev read-back : Check (Unit {0}) → ReadAnswer
 read-back (ok u) = Readable
 read-back (refused r) = NotReadable r
+
+abbrev locations-back : Check ℕ → LocationsAnswer
+locations-back (ok n) = Locations n
+locations-back (refused r) = NoLocations r
 
 abbrev check-back : Check ℕ → CheckAnswer
 check-back (ok n) = Accepted n
@@ -35,6 +41,9 @@ run-back (refused r) = NotRan r
 
 pub one-read : (a b : ReadAnswer) → readSaid a ≡ readSaid b → a ≡ b
 one-read = undone readSaid read-back (elim [ Readable ↦ refl | NotReadable r ↦ refl ])
+
+pub one-locations : (a b : LocationsAnswer) → locationsSaid a ≡ locationsSaid b → a ≡ b
+one-locations = undone locationsSaid locations-back (elim [ Locations n ↦ refl | NoLocations r ↦ refl ])
 
 pub one-check : (a b : CheckAnswer) → checkSaid a ≡ checkSaid b → a ≡ b
 one-check = undone checkSaid check-back (elim [ Accepted n ↦ refl | NotAccepted r ↦ refl ])

@@ -5,6 +5,8 @@ use Prim.Native.Nat.{ℕ}
 use Rattle.answers.specs.Check.{Check, ok, refused}
 use Rattle.answers.specs.declared.ReadAnswer.{ReadAnswer}
 use Rattle.answers.specs.declared.ReadAnswer.the-variants.{Readable, Refused as NotReadable}
+use Rattle.answers.specs.declared.LocationsAnswer.{LocationsAnswer}
+use Rattle.answers.specs.declared.LocationsAnswer.the-variants.{Locations, Refused as NoLocations}
 use Rattle.answers.specs.declared.CheckAnswer.{CheckAnswer}
 use Rattle.answers.specs.declared.CheckAnswer.the-variants.{Accepted, Refused as NotAccepted}
 use Rattle.answers.specs.declared.RouteAnswer.{RouteAnswer}
@@ -17,6 +19,11 @@ use Rattle.answers.specs.declared.RunAnswer.the-variants.{Ran, Refused a
 abbrev pub readSaid : ReadAnswer → Check (Unit {0})
 readSaid Readable = ok tt
 readSaid (NotReadable r) = refused r
+
+-- a device file is readable: its number of locations
+abbrev pub locationsSaid : LocationsAnswer → Check ℕ
+locationsSaid (Locations n) = ok n
+locationsSaid (NoLocations r) = refused r
 
 -- a check accepts with the command count
 abbrev pub checkSaid : CheckAnswer → Check ℕ

@@ -45,6 +45,12 @@ pub enum ReadAnswer {
     Refused(Refusal),
 }
 
+// The answer of reading a device file: its number of locations.
+pub enum LocationsAnswer {
+    Locations(usize),
+    Refused(Refusal),
+}
+
 // The answer of a check: the command count.
 pub enum CheckAnswer {
     Accepted(usize),

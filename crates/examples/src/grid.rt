@@ -17,6 +17,7 @@ const TAKEN: [u8; 34] = *b"QLS\x00\x01\x00\x00\x1a\
     \x06\x04\x00\x00\x00\x01\x03\x00\x03\x01\x03\x02\x03\x03";
 
 pub fn examples() {
+    say::read_device(b"the grid", &GRID);
     check(b"A", &A, 1);
     check(b"A with both corridors taken", &TAKEN, 1);
     runs();

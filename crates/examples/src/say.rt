@@ -1,25 +1,26 @@
 // One line for each call: what was asked, and its answer.
 use answers::CheckAnswer;
 use answers::File;
+use answers::LocationsAnswer;
 use answers::ReadAnswer;
 use answers::Refusal;
 use answers::RouteAnswer;
 use answers::RunAnswer;
 
+// The number of locations.
 pub fn read_device(what: &[u8], device: &[u8]) {
     text(b"read ");
     text(what);
-    read(abwakiris::reads::read_device(device));
+    match abwakiris::reads::read_device(device) {
+        LocationsAnswer::Locations(n) => count(n as u64, b" locations\n"),
+        LocationsAnswer::Refused(x) => refusal(x),
+    }
 }
 
 pub fn read_program(what: &[u8], program: &[u8]) {
     text(b"read ");
     text(what);
-    read(abwakiris::reads::read_program(program));
-}
-
-fn read(answer: ReadAnswer) {
-    match answer {
+    match abwakiris::reads::read_program(program) {
         ReadAnswer::Readable => text(b": readable\n"),
         ReadAnswer::Refused(x) => refusal(x),
     }
@@ -30,7 +31,7 @@ pub fn check(what: &[u8], device: &[u8], program: &[u8], job: u64) {
     text(b"check ");
     text(what);
     match abwakiris::checks::check(device, program, job) {
-        CheckAnswer::Accepted(n) => count(n as u64),
+        CheckAnswer::Accepted(n) => count(n as u64, b" commands\n"),
         CheckAnswer::Refused(x) => refusal(x),
     }
 }
@@ -87,10 +88,10 @@ pub fn run(
     }
 }
 
-fn count(n: u64) {
+fn count(n: u64, of: &[u8]) {
     text(b": ");
     number(n);
-    text(b" commands\n");
+    text(of);
 }
 
 fn refusal(x: Refusal) {

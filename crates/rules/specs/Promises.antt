@@ -17,10 +17,11 @@ use Rattle.rules.specs.Commands.{sizeOf, needRoute, walk}
 use Rattle.rules.specs.Typing.{typeProgram}
 use Rattle.rules.specs.Run.{turns, Machine, started, final, Told, records, recordBytes, movedBy}
 
-abbrev pub readDeviceOf : List ℕ → Check (Unit {0})
+-- the number of locations, which an occupancy and a map have a byte for each of
+abbrev pub readDeviceOf : List ℕ → Check ℕ
 readDeviceOf bytes = do
-  within Device (readDevice bytes)
-  ok tt
+  D ← within Device (readDevice bytes)
+  ok (length (D .owners))
 
 -- a program read for no job
 abbrev pub readProgramOf : List ℕ → Check (Unit {0})

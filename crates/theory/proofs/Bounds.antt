@@ -36,7 +36,7 @@ job-within job = go (eqb job 1) (eqb job 2) refl refl
     go false false e f = refuses (given 25 0 refl (omega arith))
 
 pub read-device-within : ReadDeviceWithin
-read-device-within bytes = then-within (file-within file.Device (omega arith) (device-within bytes)) λ D h. value tt
+read-device-within bytes = bind-within (file-within file.Device (omega arith) (device-within bytes)) λ D h. value h
 
 pub read-program-within : ReadProgramWithin
 read-program-within bytes = then-within (file-within (file.Program 0) (omega arith) (program-within bytes)) λ p h. value tt

@@ -3,7 +3,7 @@
 use mathlib.Core.Bool.{Bool, true, _&&_}
 use mathlib.Core.List.{List, [], _∷_, _++_}
 use mathlib.Core.Option.{Option, none, some}
-use mathlib.Core.Path.{_≡_, refl}
+use mathlib.Core.Path.{_≡_, refl, ap}
 use native.Mathlib.Omega.{arith}
 use Prim.Native.Nat.{ℕ, zero, suc, _+_, _*_, _≤_}
 use lib.Dec.{eqb, ltb, leb}
@@ -24,17 +24,17 @@ use Rattle.theory.proofs.BoundsLaws.{bind-within, then-within, Any, giv
 
 -- Devices
 
-header-within : (n e : ℕ) → Within (λ h. (h .locations ≤ 256) × (h .edges ≤ 1024)) (deviceHeader n e)
+header-within : (n e : ℕ) → Within (λ h. (1 ≤ h .locations) × (h .locations ≤ 256) × (h .edges ≤ 1024)) (deviceHeader n e)
 header-within n e =
     then-within (need-within (leb 1 n && leb n 256) 4 5 refl (omega arith)) λ u h.
     then-within (need-within (leb e 1024) 4 7 refl (omega arith)) λ v k.
-    value (at-most n 256 (and-right (leb 1 n) (leb n 256) h), at-most e 1024 k)
+    value (at-most 1 n (and-left (leb 1 n) (leb n 256) h), at-most n 256 (and-right (leb 1 n) (leb n 256) h), at-most e 1024 k)
 
-owners-within : (s : List ℕ) (i m : ℕ) → i + m ≤ 4096 → Within Any (owners s i m)
-owners-within s i zero l = value tt
+owners-within : (s : List ℕ) (i m : ℕ) → i + m ≤ 4096 → Within (λ ws. length ws ≡ m) (owners s i m)
+owners-within s i zero l = value refl
 owners-within s i (suc m) l =
     then-within (need-within (leb (byte s i) 2) 6 i refl (omega arith)) λ u h.
-    bind-within (owners-within s (suc i) m (omega arith)) λ ws k. value tt
+    bind-within (owners-within s (suc i) m (omega arith)) λ ws e. value (ap suc e)
 
 edges-within : (s : List ℕ) (n : ℕ) (before : Option Edge) (i m : ℕ) → i + 2 * m ≤ 4096 → Within Any (edges s n before i m)
 edges-within s n before i zero l = value tt
@@ -43,15 +43,16 @@ edges-within s n before i (suc m) l =
     then-within (need-within (ltb (e .from) (e .to) && ltb (e .to) n && increases before e) 7 i refl (omega arith)) λ u h.
     bind-within (edges-within s n (some e) (i + 2) m (omega arith)) λ es k. value tt
 
-pub device-within : (s : List ℕ) → Within Any (readDevice s)
+pub device-within : (s : List ℕ) → Within (λ D. (1 ≤ length (D .owners)) × (length (D .owners) ≤ 256)) (readDevice s)
 device-within s =
     then-within (need-within (leb 9 (length s)) 1 0 refl (omega arith)) λ u₁ h₁.
     then-within (need-within (hasMark s 0x47) 2 0 refl (omega arith)) λ u₂ h₂.
     then-within (need-within (eqb (word s 3) 1) 3 3 refl (omega arith)) λ u₃ h₃.
     bind-within (header-within (word s 5) (word s 7)) λ h few.
     then-within (need-within (eqb (length s) (9 + h .locations + 2 * h .edges)) 5 0 refl (omega arith)) λ u₄ h₄.
-    bind-within (owners-within s 9 (h .locations) (omega arith)) λ ws k.
-    bind-within (edges-within s (h .locations) none (9 + h .locations) (h .edges) (omega arith)) λ es j. value tt
+    bind-within (owners-within s 9 (h .locations) (omega arith)) λ ws many.
+    bind-within (edges-within s (h .locations) none (9 + h .locations) (h .edges) (omega arith)) λ es j.
+    value (omega arith, omega arith)
 
 -- Programs. Every offset of a tree, and of the commands that typing makes of it, is at most 4,096.
 

@@ -1,5 +1,5 @@
 -- What every answer stays within, so that an export's packing keeps it whole: a number of 1 to 26, a place in a file of at most 4,096 bytes, a file that
--- names job 0, 1 or 2; a count of at most 65,535, a route of at most 256 locations, at most 4,096 steps moved.
+-- names job 0, 1 or 2; 1 to 256 locations, a count of at most 65,535, a route of at most 256 locations, at most 4,096 steps moved.
 use mathlib.Core.List.{List}
 use Prim.Native.Nat.{ℕ, _≤_}
 use Rattle.answers.specs.Check.{Check, ok, refused}
@@ -28,7 +28,7 @@ pub data Within {A : Type 0} (P : A → Type 0) : Check A → Type 0 where
   refusal : {r : Refusal} → Given r → Within P (refused r)
 
 abbrev pub ReadDeviceWithin : Type 0
-ReadDeviceWithin = (device : List ℕ) → Within (λ u. Unit {0}) (readDeviceOf device)
+ReadDeviceWithin = (device : List ℕ) → Within (λ n. (1 ≤ n) × (n ≤ 256)) (readDeviceOf device)
 
 abbrev pub ReadProgramWithin : Type 0
 ReadProgramWithin = (program : List ℕ) → Within (λ u. Unit {0}) (readProgramOf program)

@@ -27,7 +27,7 @@ fn by_reference(call: &Call) -> Outcome {
     let inputs = &call.inputs;
     let mut buffers: Vec<Vec<u8>> = call.buffers.iter().map(|buffer| buffer.to_vec()).collect();
     let packed = match call.export {
-        Export::ReadDevice => pack(reference::read_device(inputs[0]).map(|_| 0)),
+        Export::ReadDevice => pack(reference::read_device(inputs[0]).map(|device| device.owner.len() as u64)),
         Export::ReadProgram => pack(reference::read_program(inputs[0]).map(|_| 0)),
         Export::Check => pack(reference::check(inputs[0], inputs[1], call.numbers[0])),
         Export::Route => {

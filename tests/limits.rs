@@ -19,9 +19,9 @@ impl Tried {
     }
 }
 
-/// The packed answer; number 0 is a file that reads.
+/// The packed answer; number 0 is a file that reads, with its value: a device's number of locations, 0 for a program.
 fn answer(number: u64, place: u64, file: u64) -> u64 {
-    if number == 0 { 0 } else { no(number, place, file) }
+    if number == 0 { place } else { no(number, place, file) }
 }
 
 fn devices(t: &mut Tried) {
@@ -29,32 +29,32 @@ fn devices(t: &mut Tried) {
     t.device("no bytes", &[], 1, 0);
     t.device("8 bytes", &one[..8], 1, 0);
     t.device("9 bytes", &one[..9], 5, 0);
-    t.device("n 1", &one, 0, 0);
+    t.device("n 1", &one, 0, 1);
     t.device("mark", &with(&one, &[(2, b'S')]), 2, 0);
     t.device("mark before version", &with(&one, &[(0, 0), (4, 2)]), 2, 0);
     t.device("version", &with(&one, &[(4, 2)]), 3, 3);
     t.device("version 257", &with(&one, &[(3, 1)]), 3, 3);
     t.device("n 0", &device(0, &[]), 4, 5);
-    t.device("n 256", &device(256, &[]), 0, 0);
+    t.device("n 256", &device(256, &[]), 0, 256);
     t.device("n 257", &device(257, &[]), 4, 5);
     t.device("n 0 before e", &with(&device(0, &[]), &[(7, 255)]), 4, 5);
-    t.device("e 1,024", &device(256, &edges(1024)), 0, 0);
+    t.device("e 1,024", &device(256, &edges(1024)), 0, 256);
     t.device("e 1,025", &device(256, &edges(1025)), 4, 7);
     t.device("one byte more", &[&one[..], &[0]].concat(), 5, 0);
     t.device("one byte less", &device(2, &[(0, 1)])[..12], 5, 0);
     t.device("length before owner", &[&with(&one, &[(9, 3)])[..], &[0]].concat(), 5, 0);
-    t.device("owner 2", &with(&one, &[(9, 2)]), 0, 0);
+    t.device("owner 2", &with(&one, &[(9, 2)]), 0, 1);
     t.device("owner 3", &with(&device(3, &[]), &[(11, 3)]), 6, 11);
     t.device("owner before edge", &with(&device(2, &[(1, 1)]), &[(10, 3)]), 6, 10);
     t.device("a = b", &device(3, &[(1, 1)]), 7, 12);
     t.device("a > b", &device(3, &[(0, 1), (2, 1)]), 7, 14);
     t.device("b = n", &device(3, &[(0, 3)]), 7, 12);
-    t.device("b = n - 1", &device(3, &[(0, 2)]), 0, 0);
+    t.device("b = n - 1", &device(3, &[(0, 2)]), 0, 3);
     t.device("equal edges", &device(3, &[(0, 1), (0, 1)]), 7, 14);
     t.device("falling second ends", &device(3, &[(0, 2), (0, 1)]), 7, 14);
     t.device("falling first ends", &device(3, &[(1, 2), (0, 1)]), 7, 14);
-    t.device("rising edges", &device(3, &[(0, 1), (0, 2), (1, 2)]), 0, 0);
-    t.device("locations 254, 255", &device(256, &[(254, 255)]), 0, 0);
+    t.device("rising edges", &device(3, &[(0, 1), (0, 2), (1, 2)]), 0, 3);
+    t.device("locations 254, 255", &device(256, &[(254, 255)]), 0, 256);
 }
 
 fn programs(t: &mut Tried) {

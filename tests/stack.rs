@@ -102,7 +102,7 @@ fn deepest(nest: Nest) -> (Vec<u8>, u64) {
 
 fn readers() {
     let device = device(256, &edges(1024));
-    report("read_device, 256 locations, 1,024 edges", 0, || unsafe { abwakiris_read_device(device.as_ptr(), device.len()) });
+    report("read_device, 256 locations, 1,024 edges", 256, || unsafe { abwakiris_read_device(device.as_ptr(), device.len()) });
     let (program, _) = deepest(Nest::Else);
     report("read_program, depth 8", 0, || unsafe { abwakiris_read_program(program.as_ptr(), program.len()) });
 }

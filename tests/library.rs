@@ -2,42 +2,14 @@
 
 #![allow(dead_code, unexpected_cfgs)]
 
+#[path = "../bindings/rust/src/exports.rs"]
+mod exports;
 #[cfg(selftest)]
 #[path = "stub.rs"]
 mod stub;
 
+pub use exports::*;
 use std::time::{Duration, Instant};
-
-extern "C" {
-    pub fn abwakiris_read_device(device: *const u8, device_len: usize) -> u64;
-    pub fn abwakiris_read_program(program: *const u8, program_len: usize) -> u64;
-    pub fn abwakiris_check(device: *const u8, device_len: usize, program: *const u8, program_len: usize, job: u64) -> u64;
-    pub fn abwakiris_route(
-        device: *const u8,
-        device_len: usize,
-        job: u64,
-        occupancy: *const u8,
-        occupancy_len: usize,
-        first: u64,
-        second: u64,
-        buffer: *mut u8,
-        buffer_len: usize,
-    ) -> u64;
-    pub fn abwakiris_run(
-        device: *const u8,
-        device_len: usize,
-        first_program: *const u8,
-        first_program_len: usize,
-        second_program: *const u8,
-        second_program_len: usize,
-        schedule: *const u8,
-        schedule_len: usize,
-        records: *mut u8,
-        records_len: usize,
-        map: *mut u8,
-        map_len: usize,
-    ) -> u64;
-}
 
 /// The file codes of an answer; the program of job j is `PROGRAM` + j.
 pub const NONE: u64 = 0;

@@ -2,10 +2,21 @@
 //! library, on any computer: the generated cases for what they cover, the written answers
 //! against a second reading of the document.
 
+#[path = "../bindings/rust/src/exports.rs"]
+mod exports;
 #[path = "reference.rs"]
 mod reference;
 
 use reference::pack;
+
+/// Each definition below has the type of its declaration: functions of different types make no array.
+const _: () = {
+    let _ = [abwakiris_read_device, exports::abwakiris_read_device];
+    let _ = [abwakiris_read_program, exports::abwakiris_read_program];
+    let _ = [abwakiris_check, exports::abwakiris_check];
+    let _ = [abwakiris_route, exports::abwakiris_route];
+    let _ = [abwakiris_run, exports::abwakiris_run];
+};
 
 /// A length of 0 goes with any pointer, so the pointer is not looked at then.
 unsafe fn slice<'a>(pointer: *const u8, length: usize) -> &'a [u8] {

@@ -2,16 +2,14 @@
 // Devices have 256 locations, all owned by job 1; programs are at the count limit, which 4,096 bytes reach by functions that call each other twice.
 // Every round gives each side its turn at every shape, and a time is the least of all rounds. It is the processor's time for this thread, so that
 // waiting for a busy processor is not in it. Number, value or place, and file of the answers must be equal.
+#[path = "../../bindings/rust/src/exports.rs"]
+mod exports;
 mod plain_check;
 
 use plain_check::Locations;
 use std::collections::{BTreeSet, VecDeque};
 use std::hint::black_box;
 use std::time::{Duration, Instant};
-
-extern "C" {
-    fn abwakiris_check(device: *const u8, device_len: usize, program: *const u8, program_len: usize, job: u64) -> u64;
-}
 
 // The C library's clock of this thread on Linux.
 #[repr(C)]
@@ -33,7 +31,7 @@ fn of_thread() -> Duration {
 }
 
 fn library(device: &[u8], program: &[u8]) -> u64 {
-    unsafe { abwakiris_check(device.as_ptr(), device.len(), program.as_ptr(), program.len(), 1) }
+    unsafe { exports::abwakiris_check(device.as_ptr(), device.len(), program.as_ptr(), program.len(), 1) }
 }
 
 // The plain answer, packed as the library packs its own.

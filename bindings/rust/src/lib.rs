@@ -24,6 +24,8 @@
 #![deny(missing_docs)]
 #![deny(unsafe_op_in_unsafe_fn)]
 
+mod exports;
+
 use std::fmt;
 
 /// The most locations of a device.
@@ -167,40 +169,6 @@ pub struct Moved {
     pub first: u16,
     /// Steps of job 2.
     pub second: u16,
-}
-
-/// The exports, as `include/abwakiris.h` declares them.
-mod exports {
-    extern "C" {
-        pub fn abwakiris_read_device(device: *const u8, device_len: usize) -> u64;
-        pub fn abwakiris_read_program(program: *const u8, program_len: usize) -> u64;
-        pub fn abwakiris_check(device: *const u8, device_len: usize, program: *const u8, program_len: usize, job: u64) -> u64;
-        pub fn abwakiris_route(
-            device: *const u8,
-            device_len: usize,
-            job: u64,
-            occupancy: *const u8,
-            occupancy_len: usize,
-            first: u64,
-            second: u64,
-            buffer: *mut u8,
-            buffer_len: usize,
-        ) -> u64;
-        pub fn abwakiris_run(
-            device: *const u8,
-            device_len: usize,
-            first_program: *const u8,
-            first_len: usize,
-            second_program: *const u8,
-            second_len: usize,
-            schedule: *const u8,
-            schedule_len: usize,
-            records: *mut u8,
-            records_len: usize,
-            map: *mut u8,
-            map_len: usize,
-        ) -> u64;
-    }
 }
 
 /// An answer taken apart: the value, or the refusal. Bits 0 to 31 hold the value or the place, 32 to 39 the number (0 accepted), 40 to 47 the file.

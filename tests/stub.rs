@@ -29,7 +29,7 @@ unsafe fn slice_mut<'a>(pointer: *mut u8, length: usize) -> &'a mut [u8] {
 
 #[no_mangle]
 unsafe extern "C" fn abwakiris_read_device(device: *const u8, device_len: usize) -> u64 {
-    pack(reference::read_device(slice(device, device_len)).map(|_| 0))
+    pack(reference::read_device(slice(device, device_len)).map(|device| device.owner.len() as u64))
 }
 
 #[no_mangle]

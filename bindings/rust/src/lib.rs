@@ -25,6 +25,9 @@
 #![deny(unsafe_op_in_unsafe_fn)]
 
 mod exports;
+mod numbers;
+
+pub use numbers::{Number, UnknownNumber};
 
 use std::fmt;
 
@@ -40,83 +43,6 @@ pub const MOST_COUNT: u32 = 65535;
 pub const MOST_STEPS: usize = 4096;
 /// The bytes that a run records for each step.
 pub const RECORD_BYTES: usize = 4;
-
-/// One table gives each refusal its number, its name and its line of words.
-macro_rules! numbers {
-    ($($number:literal $name:ident $words:literal)*) => {
-        /// Why a call refuses.
-        #[derive(Clone, Copy, Debug, PartialEq, Eq, Hash)]
-        pub enum Number {
-            $(#[doc = concat!(stringify!($number), ": ", $words)] $name,)*
-            /// A number that this crate has no words for. The library it was written for gives none.
-            Unknown(u8),
-        }
-
-        impl Number {
-            /// Every refusal that has words, in order.
-            pub const ALL: [Number; 26] = [$(Number::$name),*];
-
-            /// The refusal of this number.
-            pub fn of(number: u8) -> Number {
-                match number {
-                    $($number => Number::$name,)*
-                    _ => Number::Unknown(number),
-                }
-            }
-
-            /// The number itself.
-            pub fn number(self) -> u8 {
-                match self {
-                    $(Number::$name => $number,)*
-                    Number::Unknown(number) => number,
-                }
-            }
-
-            /// When it is given, in one line.
-            pub fn words(self) -> &'static str {
-                match self {
-                    $(Number::$name => $words,)*
-                    Number::Unknown(_) => "refused, by a number that has no words here",
-                }
-            }
-        }
-    };
-}
-
-numbers! {
-    1 FileTooShort "device under 9 bytes, program under 8"
-    2 Mark "not the file's mark"
-    3 Version "not version 1"
-    4 Limit "a number outside its limits"
-    5 DeviceLength "the device's length is not what its header says"
-    6 Owner "an owner byte that is not 0, 1 or 2"
-    7 Edge "an edge that is out of range or out of order"
-    8 Fit "a block, header or statement doesn't fit, or bytes follow main"
-    9 Statement "unknown statement"
-    10 Operand "operand out of range; callee not earlier; k or m not the callee's"
-    11 Kind "slot not of the kind needed"
-    12 SlotBound "slot to be bound is bound"
-    13 OutsideRegion "location outside the region"
-    14 NotFree "location not free"
-    15 Twice "a location or a slot listed twice in a call, a slot twice in a merge, a route's ends equal"
-    16 ArgumentPlace "argument not at its location"
-    17 QubitOutlives "qubit outlives its block"
-    18 BranchesDiffer "branches end differently"
-    19 LoopLoses "loop body loses a qubit"
-    20 Count "command count too large"
-    21 NoPath "no path"
-    22 ScheduleLength "schedule over 4,096 bytes"
-    23 ScheduleByte "bad schedule byte"
-    24 BufferTooShort "buffer too short"
-    25 Job "job not 1 or 2"
-    26 OccupancyLength "occupancy length not n"
-}
-
-impl fmt::Display for Number {
-    fn fmt(&self, f: &mut fmt::Formatter<'_>) -> fmt::Result {
-        write!(f, "{}: {}", self.number(), self.words())
-    }
-}
 
 /// The file that a place is in.
 #[derive(Clone, Copy, Debug, PartialEq, Eq, Hash)]

@@ -80,12 +80,6 @@ fn runs() {
 
 #[test]
 fn words() {
-    for (i, number) in Number::ALL.into_iter().enumerate() {
-        assert_eq!(number.number() as usize, i + 1);
-        assert_eq!(Number::of(i as u8 + 1), number);
-        assert!(!number.words().is_empty() && !number.words().contains('\n'));
-    }
-    assert_eq!(Number::of(99), Number::Unknown(99));
     let refusal = check(G, A, 2).unwrap_err();
     assert_eq!(refusal.to_string(), "13: location outside the region (at 8 in the program of job 2)");
 }

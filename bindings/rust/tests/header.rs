@@ -16,6 +16,16 @@ fn no_entry_is_missing() {
     assert_eq!(numbers, (1..=26).collect::<Vec<u8>>());
 }
 
+/// Outside programs use these names.
+#[test]
+fn names() {
+    use Number::*;
+    let first = [FileTooShort, Mark, Version, Limit, DeviceLength, Owner, Edge, Fit, Statement, Operand, Kind, SlotBound, OutsideRegion];
+    let second = [NotFree, Twice, ArgumentPlace, QubitOutlives, BranchesDiffer, LoopLoses, Count, NoPath, ScheduleLength, ScheduleByte];
+    let third = [BufferTooShort, Job, OccupancyLength];
+    assert_eq!([&first[..], &second[..], &third[..]].concat(), Number::ALL);
+}
+
 #[test]
 fn names_and_words() {
     let entries = list::entries(HEADER).unwrap();

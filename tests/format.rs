@@ -41,7 +41,9 @@ fn samples(page: &Page) {
         assert_eq!(page.dump(dump), fs::read(sample).expect("a sample"), "{dump} is {sample}");
     }
     for name in page.dumps.keys() {
-        let cell = format!("| `{name}` |");
+        let (fence, line, cell) = (format!("```hex {name}"), format!("`{name}`: "), format!("| `{name}` |"));
+        let at = page.lines.iter().position(|line| *line == fence).expect("the dump");
+        assert!(page.lines[at - 2].starts_with(&line), "the line before {name} begins with its name");
         assert!(page.lines.iter().any(|line| line.contains(&cell)), "{name} is in a table of answers");
     }
 }
@@ -85,6 +87,14 @@ fn checks(page: &Page, t: &mut Tried) {
             prints(&what, &bundle(device, program), &row[3]);
         }
     }
+}
+
+/// The one refusal that the page has as a number is what the library answers.
+fn packed(page: &Page, t: &mut Tried) {
+    let refusal = no(17, 6, PROGRAM + 1);
+    let line = format!("So 17 at 6 in the program of job 1 is 0x{refusal:X}.");
+    assert!(page.lines.contains(&line), "{line}");
+    t.untouched("17 at 6", &Call::check(page.dump("device-g"), page.dump("program-live"), 1), refusal);
 }
 
 /// What the page says of reads: the value is n for a device, 0 for a program.
@@ -433,6 +443,7 @@ fn main() {
     samples(&page);
     bundles(&page);
     checks(&page, &mut t);
+    packed(&page, &mut t);
     reads(&page, &mut t);
     routes(&page, &mut t);
     runs(&page, &mut t);

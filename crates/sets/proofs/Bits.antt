@@ -80,7 +80,7 @@ unfolding bitOf
 zero-bit n = ap (λ (x : ℕ). x % 2) (div-one n)
 
 -- t is below k and the lowest bit of n that is set
-abbrev Lowest : ℕ → ℕ → ℕ → Type 0
+abbrev pub Lowest : ℕ → ℕ → ℕ → Type 0
 Lowest k n t = (t < k) × (bitOf n t ≡ 1) × ((j : ℕ) → j < t → bitOf n j ≡ 0)
 
 pub trailing-bit : (k n : ℕ) → 0 < n → n < 2 ^ k → Lowest k n (trailingZeros k n)

@@ -12,7 +12,7 @@ use lib.ListN.{getD}
 use lib.Pow.{shr-shr, pow-mono}
 use Rattle.sets.specs.declared.LocationSet.{LocationSet}
 use Rattle.sets.specs.Sets.{bitOf, has, FirstFrom}
-use Rattle.sets.proofs.Bits.{no-bit, or-none, trailing-bit}
+use Rattle.sets.proofs.Bits.{Lowest, no-bit, or-none, trailing-bit}
 use Rattle.sets.proofs.Bools.{side}
 use Rattle.sets.proofs.SetLaws.{in-word, off-word, high-off}
 
@@ -22,12 +22,16 @@ shifted-bit x n j = ap (λ (v : ℕ). v % 2) (shr-shr x n j)
 
 high-bit : (x j : ℕ) → x < 2 ^ 64 → bitOf x j ≡ 1 → j < 64
 unfolding bitOf
-high-bit x j h b =
-    ⊎-elim (λ t. t) (λ t. let z : x / 2 ^ j ≡ 0 = div-eq-of-lt (lt-of-lt-of-le h (pow-mono t)) in let q : 0 % 2 ≡ 1 = rw z at b in absurd (omega arith)) (side j 64)
+high-bit x j h b = ⊎-elim (λ t. t) (λ t. absurd (none t)) (side j 64)
+  where
+    none : 64 ≤ j → ⊥
+    none t =
+        let z : x / 2 ^ j ≡ 0 = div-eq-of-lt (lt-of-lt-of-le h (pow-mono t)) in
+        let q : 0 % 2 ≡ 1 = rw z at b in
+        omega arith
 
 pub first-word : (s : LocationSet) (start t : ℕ) → start < 256 → getD (s .words) (start / 64) 0 < 2 ^ 64
-    → (t < 64) × (bitOf (getD (s .words) (start / 64) 0 / 2 ^ (start % 64)) t ≡ 1) × ((j : ℕ) → j < t → bitOf (getD (s .words) (start / 64) 0 / 2 ^ (start % 64)) j ≡ 0)
-    → FirstFrom s start (start + t)
+    → Lowest 64 (getD (s .words) (start / 64) 0 / 2 ^ (start % 64)) t → FirstFrom s start (start + t)
 first-word s start t h f l =
     let b : bitOf (getD (s .words) (start / 64) 0) (start % 64 + t) ≡ 1 = sym (shifted-bit _ _ _) ∙ l .1 in
     let n : start % 64 + t < 64 = high-bit (getD (s .words) (start / 64) 0) (start % 64 + t) f b in
@@ -35,7 +39,9 @@ first-word s start t h f l =
       least = omega arith;
       most = omega arith;
       member = λ _. in-word s (start + t) (start / 64) (start % 64 + t) (omega arith) (omega arith) n b;
-      passed = λ j p q. off-word s j (start / 64) (start % 64 + (j - start)) (omega arith) (omega arith) (omega arith) (sym (shifted-bit _ _ _) ∙ l .2 (j - start) (omega arith));
+      passed = λ j p q.
+          let zero : bitOf (getD (s .words) (start / 64) 0) (start % 64 + (j - start)) ≡ 0 = sym (shifted-bit _ _ _) ∙ l .2 (j - start) (omega arith) in
+          off-word s j (start / 64) (start % 64 + (j - start)) (omega arith) (omega arith) (omega arith) zero;
     }
 
 pub first-none : (s : LocationSet) (start : ℕ) → start < 256 → getD (s .words) (start / 64) 0 / 2 ^ (start % 64) ≡ 0
@@ -45,14 +51,16 @@ first-none s start h z j p q =
     (sym (shifted-bit (getD (s .words) (start / 64) 0) (start % 64) (j - start)) ∙ rw z (no-bit (j - start)))
 
 pub later-word : (s : LocationSet) (start i t : ℕ) → start < i * 64 → i < 4 → ((j : ℕ) → start ≤ j → j < i * 64 → has s j ≡ false)
-    → (t < 64) × (bitOf (getD (s .words) i 0) t ≡ 1) × ((j : ℕ) → j < t → bitOf (getD (s .words) i 0) j ≡ 0)
-    → FirstFrom s start (i * 64 + t)
+    → Lowest 64 (getD (s .words) i 0) t → FirstFrom s start (i * 64 + t)
 later-word s start i t b h before l =
     record {
       least = omega arith;
       most = omega (arith, l .0);
       member = λ _. in-word s (i * 64 + t) i t refl h (l .0) (l .1);
-      passed = λ j p q. ⊎-elim (λ k. before j p k) (λ k. off-word s j i (j - i * 64) (omega arith) h (omega (arith, l .0)) (l .2 (j - i * 64) (omega arith))) (side j (i * 64));
+      passed = λ j p q.
+          ⊎-elim (λ k. before j p k)
+          (λ k. off-word s j i (j - i * 64) (omega arith) h (omega (arith, l .0)) (l .2 (j - i * 64) (omega arith)))
+          (side j (i * 64));
     }
 
 pub later-none : (s : LocationSet) (start i : ℕ) → i < 4 → ((j : ℕ) → start ≤ j → j < i * 64 → has s j ≡ false) → getD (s .words) i 0 ≡ 0

@@ -39,7 +39,8 @@ differ u x v y h = go (eqb u x) (eqb v y) refl refl
     go false t p q = refl
 
 pub join-has : (rows : List ℕ) (x y : ℕ) → length rows ≡ 1024 → x < 256 → y < 256 → (u v : ℕ)
-    → has (rowOf (set rows (x * 4 + y / 64) (bitOr (getD rows (x * 4 + y / 64) 0) (1 * 2 ^ (y % 64) % 18446744073709551616))) u) v ≡ ((eqb u x && eqb v y) || has (rowOf rows u) v)
+    → has (rowOf (set rows (x * 4 + y / 64) (bitOr (getD rows (x * 4 + y / 64) 0) (1 * 2 ^ (y % 64) % 18446744073709551616))) u) v
+    ≡ ((eqb u x && eqb v y) || has (rowOf rows u) v)
 join-has rows x y n hx hy u v =
     ⊎-elim (λ b. rw (link-word (set rows (x * 4 + y / 64) new) u v b, link-word rows u v b) (go b (ℕ-discrete (u * 4 + v / 64) (x * 4 + y / 64))))
     (λ b. high-off _ v b ∙ sym (rw (differ u x v y (λ _ e. absurd (omega arith))) (high-off _ v b))) (side v 256)
@@ -48,12 +49,15 @@ join-has rows x y n hx hy u v =
     new = bitOr (getD rows (x * 4 + y / 64) 0) (1 * 2 ^ (y % 64) % 18446744073709551616)
 
     go : v < 256 → Dec (u * 4 + v / 64 ≡ x * 4 + y / 64)
-        → eqb (bitOf (getD (set rows (x * 4 + y / 64) new) (u * 4 + v / 64) 0) (v % 64)) 1 ≡ ((eqb u x && eqb v y) || eqb (bitOf (getD rows (u * 4 + v / 64) 0) (v % 64)) 1)
+        → eqb (bitOf (getD (set rows (x * 4 + y / 64) new) (u * 4 + v / 64) 0) (v % 64)) 1
+        ≡ ((eqb u x && eqb v y) || eqb (bitOf (getD rows (u * 4 + v / 64) 0) (v % 64)) 1)
     go b (yes e) =
-        rw (eq-eqb u x (omega arith), e, getD-set-same rows (x * 4 + y / 64) new 0 (omega arith), with-bit (getD rows (x * 4 + y / 64) 0) (y % 64) (omega arith) (v % 64))
+        let set-there = getD-set-same rows (x * 4 + y / 64) new 0 (omega arith) in
+        rw (eq-eqb u x (omega arith), e, set-there, with-bit (getD rows (x * 4 + y / 64) 0) (y % 64) (omega arith) (v % 64))
         (pick-on (eqb (v % 64) (y % 64)) _ ∙ ap (λ (t : Bool). t || eqb (bitOf (getD rows (x * 4 + y / 64) 0) (v % 64)) 1) (same-place y v (omega arith)))
     go b (no e) =
-        rw (getD-set-other rows (x * 4 + y / 64) (u * 4 + v / 64) new 0 e, differ u x v y (λ p q. e (ap (λ (n : ℕ). n * 4 + v / 64) p ∙ ap (λ (n : ℕ). x * 4 + n / 64) q)))
+        let apart = differ u x v y (λ p q. e (ap (λ (n : ℕ). n * 4 + v / 64) p ∙ ap (λ (n : ℕ). x * 4 + n / 64) q)) in
+        rw (getD-set-other rows (x * 4 + y / 64) (u * 4 + v / 64) new 0 e, apart)
 
 all-zero : (n i : ℕ) → _≡_ {A = ℕ} (getD (replicate n 0) i 0) 0
 all-zero zero i = refl

@@ -71,7 +71,8 @@ pick-off false n = refl
 
 -- in one word, numbers are equal where their bits are
 pub same-place : (x y : ℕ) → y / 64 ≡ x / 64 → eqb (y % 64) (x % 64) ≡ eqb y x
-same-place x y e = ⊎-elim (λ h. apart (λ q. omega arith)) (λ h. ⊎-elim (λ k. apart (λ q. omega arith)) (λ k. same (omega arith)) (side x y)) (side y x)
+same-place x y e =
+    ⊎-elim (λ h. apart (λ q. omega arith)) (λ h. ⊎-elim (λ k. apart (λ q. omega arith)) (λ k. same (omega arith)) (side x y)) (side y x)
   where
     apart : (y ≡ x → ⊥) → eqb (y % 64) (x % 64) ≡ eqb y x
     apart n = rw (ne-eqb y x n, ne-eqb (y % 64) (x % 64) (λ q. n (omega arith)))

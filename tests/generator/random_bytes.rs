@@ -4,7 +4,12 @@
 //! that they are read further, and some of the files are even accepted. Of a call's inputs at least one is made of random bytes; the others come from the
 //! rest of the generator, for a call looks at an input only after it has read the ones before it.
 
-use super::{device, filled, job, program, schedule, Case, Random, Size};
+use super::cases::Case;
+use super::devices::device;
+use super::inputs::{filled, job, schedule};
+use super::programs::program;
+use super::random::Random;
+use super::sizes::Size;
 
 /// A case in which random bytes stand for a file, a schedule or an occupancy.
 pub fn case(random: &mut Random) -> Case {

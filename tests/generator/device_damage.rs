@@ -3,6 +3,7 @@
 use super::devices::Device;
 use super::random::Random;
 
+/// The file, one in `damaged_one_in` with a fault.
 pub(super) fn device_bytes(random: &mut Random, device: &Device, damaged_one_in: usize) -> Vec<u8> {
     let mut bytes = device.encode();
     if random.one_in(damaged_one_in) {

@@ -2,7 +2,7 @@
 
 use super::random::Random;
 use super::sizes::Size;
-use crate::reference;
+use crate::reference::MOST_EDGES;
 use std::collections::BTreeSet;
 
 pub(super) struct Device {
@@ -27,15 +27,30 @@ impl Device {
     }
 }
 
+/// A device of this size: first its shape, then whose its locations are, then their names.
 pub(super) fn device(random: &mut Random, size: Size) -> Device {
     let n = match size {
         Size::Small => random.between(1, 14),
         Size::Middle => random.between(10, 60),
         Size::Limit => random.pick(&[256, 256, 256, 255, 240]),
     };
-    let mut pairs: Vec<(usize, usize)> = Vec::new();
     // Large devices are lines more often: only these give the longest routes.
     let shape = if size == Size::Limit && random.one_in(4) { 0 } else { random.below(9) };
+    let mut pairs = pairs(random, shape, n);
+    // Whole devices for the longest lines, for the same reason.
+    let long_line = size == Size::Limit && shape == 0 && random.one_in(2);
+    let mut owner = if long_line { vec![random.pick(&[1, 2]); n] } else { owners(random, n) };
+    // Other names for the locations, so that the smallest path is not the obvious one.
+    if !long_line && random.one_in(3) {
+        rename(random, &mut owner, &mut pairs);
+    }
+    Device { owner, edges: edges(&pairs) }
+}
+
+/// The locations that lie next to each other in one of the shapes 0 to 8; a pair may come twice, in either order, or be one location twice.
+fn pairs(random: &mut Random, shape: usize, n: usize) -> Vec<(usize, usize)> {
+    let any = |random: &mut Random| (random.below(n), random.below(n));
+    let mut pairs: Vec<(usize, usize)> = Vec::new();
     match shape {
         // A line.
         0 => pairs.extend((1..n).map(|l| (l - 1, l))),
@@ -54,30 +69,17 @@ pub(super) fn device(random: &mut Random, size: Size) -> Device {
         // A comb: a spine with teeth.
         4 => {
             let spine = random.between(1, n);
-            for l in 1..n {
-                let onto = if l < spine { l - 1 } else { l - spine };
-                pairs.push((onto, l));
-            }
+            pairs.extend((1..n).map(|l| (if l < spine { l - 1 } else { l - spine }, l)));
         }
         // A tree with some edges more, so connected.
         5 => {
             pairs.extend((1..n).map(|l| (random.below(l), l)));
-            for _ in 0..random.below(n + 1) {
-                pairs.push((random.below(n), random.below(n)));
-            }
+            pairs.extend((0..random.below(n + 1)).map(|_| any(random)));
         }
         // Any edges, often not connected.
-        6 => {
-            for _ in 0..random.below(2 * n) {
-                pairs.push((random.below(n), random.below(n)));
-            }
-        }
+        6 => pairs.extend((0..random.below(2 * n)).map(|_| any(random))),
         // As many edges as there may be.
-        7 => {
-            for _ in 0..3000 {
-                pairs.push((random.below(n), random.below(n)));
-            }
-        }
+        7 => pairs.extend((0..3000).map(|_| any(random))),
         // A line with a few shortcuts, which give routes of equal length.
         _ => {
             pairs.extend((1..n).map(|l| (l - 1, l)));
@@ -87,10 +89,12 @@ pub(super) fn device(random: &mut Random, size: Size) -> Device {
             }
         }
     }
-    // Whole devices for the longest lines, for the same reason.
-    let long_line = size == Size::Limit && shape == 0 && random.one_in(2);
-    let mut owner: Vec<u8> = match if long_line { 0 } else { random.below(14) } {
-        0 | 1 => vec![if long_line { random.pick(&[1, 2]) } else { 1 }; n],
+    pairs
+}
+
+fn owners(random: &mut Random, n: usize) -> Vec<u8> {
+    match random.below(14) {
+        0 | 1 => vec![1; n],
         2 => vec![2; n],
         // Two regions side by side.
         3..=8 => {
@@ -112,24 +116,29 @@ pub(super) fn device(random: &mut Random, size: Size) -> Device {
             owner[random.below(n)] = random.pick(&[0, 1, 2]);
             owner
         }
-    };
-    // Other names for the locations, so that the smallest path is not the obvious one.
-    if !long_line && random.one_in(3) {
-        let mut names: Vec<usize> = (0..n).collect();
-        random.shuffle(&mut names);
-        let before = owner.clone();
-        for l in 0..n {
-            owner[names[l]] = before[l];
-        }
-        for pair in &mut pairs {
-            *pair = (names[pair.0], names[pair.1]);
-        }
     }
+}
+
+/// Gives every location another number, in both lists.
+fn rename(random: &mut Random, owner: &mut [u8], pairs: &mut [(usize, usize)]) {
+    let mut names: Vec<usize> = (0..owner.len()).collect();
+    random.shuffle(&mut names);
+    let before = owner.to_vec();
+    for (l, &name) in names.iter().enumerate() {
+        owner[name] = before[l];
+    }
+    for pair in pairs {
+        *pair = (names[pair.0], names[pair.1]);
+    }
+}
+
+/// The edges of these pairs, up to the limit.
+fn edges(pairs: &[(usize, usize)]) -> BTreeSet<(usize, usize)> {
     let mut edges = BTreeSet::new();
-    for (a, b) in pairs {
-        if a != b && edges.len() < reference::MOST_EDGES {
+    for &(a, b) in pairs {
+        if a != b && edges.len() < MOST_EDGES {
             edges.insert((a.min(b), a.max(b)));
         }
     }
-    Device { owner, edges }
+    edges
 }

@@ -1,20 +1,20 @@
-//! Blocks and how they end, ifs and loops.
+//! Blocks: what is tried in them and how they end; ifs and loops.
 
 use super::body::{Body, Slot};
-use super::{Builder, Lost, LOOSE};
+use super::{Builder, Lost, Opened, LOOSE};
 use crate::generator::trees::{Block, Statement};
-use crate::reference::SLOTS;
+use crate::reference::{DEEPEST_BLOCK, SLOTS};
 
 impl Builder<'_> {
     /// A block that ends with the qubits it began with, but for the `lost` ones.
     pub(super) fn block(&mut self, body: &mut Body, depth: usize, tries: usize, lost: &Lost) -> Block {
-        let entry = body.slots;
+        let opened = Opened { depth, entry: body.slots, lost: *lost };
         let mut out = Vec::new();
         self.left -= 2;
         if depth == 1 && self.left > 60 && self.random.one_in(2) {
             // Something of every kind, so that much is possible from the start.
             for kind in [1, 23, 14, 1, 1] {
-                self.statement(kind, body, depth, &entry, lost, &mut out);
+                self.statement(kind, body, &opened, &mut out);
             }
         }
         for _ in 0..tries {
@@ -26,10 +26,10 @@ impl Builder<'_> {
             } else if self.wanted == LOOSE && self.random.one_in(5) {
                 self.loose(body, &mut out);
             } else if matches!(self.wanted, 16 | 18 | 19 | LOOSE) && self.random.one_in(2) {
-                self.make_way(body, depth, &entry, lost, &mut out);
+                self.make_way(body, &opened, &mut out);
             } else {
                 let kind = self.random.between(1, 28);
-                self.statement(kind, body, depth, &entry, lost, &mut out);
+                self.statement(kind, body, &opened, &mut out);
             }
         }
         if self.careless && self.random.one_in(if depth == 1 { 2 } else { 4 }) {
@@ -37,51 +37,17 @@ impl Builder<'_> {
                 self.move_one(body, &mut out);
             }
         } else {
-            self.settle(body, &entry, lost, &mut out);
+            self.settle(body, &opened, &mut out);
         }
         out
     }
 
     /// Ends a block: frees what may not outlive it, brings back what must be there again, and
     /// unbinds what was bound inside.
-    fn settle(&mut self, body: &mut Body, entry: &[Slot; SLOTS], lost: &Lost, out: &mut Block) {
-        let mut outliving = None;
-        if self.wanted == 17 && self.random.one_in(3) {
-            // Either a qubit of the block's own is not freed, or one more is made.
-            let own: Vec<usize> =
-                body.qubits().into_iter().filter(|&s| body.slots[s] != entry[s]).collect();
-            let unbound = body.slots_where(|slot| slot == Slot::Unbound);
-            let free = body.locations_free(true);
-            let kept: Vec<usize> =
-                body.qubits().into_iter().filter(|&s| body.slots[s] == entry[s]).collect();
-            if !kept.is_empty() && !free.is_empty() && self.random.one_in(2) {
-                // One that was there on entry, moved to another location.
-                let (s, l) = (self.random.pick(&kept), self.random.pick(&free));
-                self.emit(out, &[3, s]);
-                self.emit(out, &[1, s, l]);
-                body.release(s);
-                body.slots[s] = Slot::Qubit(l);
-                body.free[l] = false;
-                outliving = Some(s);
-            } else if !own.is_empty() && !self.random.one_in(3) {
-                outliving = Some(self.random.pick(&own));
-            } else if !unbound.is_empty() && !free.is_empty() {
-                let (s, l) = (self.random.pick(&unbound), self.random.pick(&free));
-                // Made again where it was it would be the same qubit.
-                if entry[s] != Slot::Qubit(l) {
-                    self.emit(out, &[1, s, l]);
-                    body.slots[s] = Slot::Qubit(l);
-                    body.free[l] = false;
-                    outliving = Some(s);
-                }
-            }
-            if outliving.is_some() {
-                self.wanted = 0;
-                self.put_in = 17;
-            }
-        }
+    fn settle(&mut self, body: &mut Body, opened: &Opened, out: &mut Block) {
+        let outliving = if self.wanted == 17 && self.random.one_in(3) { self.outlive(body, opened, out) } else { None };
         for s in body.qubits() {
-            if body.slots[s] != entry[s] || lost[s] {
+            if body.slots[s] != opened.entry[s] || opened.lost[s] {
                 if outliving != Some(s) {
                     self.emit(out, &[3, s]);
                 }
@@ -89,18 +55,18 @@ impl Builder<'_> {
             }
         }
         for s in 0..SLOTS {
-            if let Slot::Qubit(l) = entry[s] {
-                if !lost[s] && body.slots[s] != entry[s] {
+            let entry = opened.entry[s];
+            if let Slot::Qubit(l) = entry {
+                if !opened.lost[s] && body.slots[s] != entry {
                     // Beside an outliving qubit this could be refused first, so it is left out.
                     if outliving.is_none() {
                         let kind = self.init_kind();
                         self.emit(out, &[kind, s, l]);
                     }
-                    body.slots[s] = entry[s];
-                    body.free[l] = false;
+                    body.take(s, l);
                 }
             }
-            let was_bound = matches!(entry[s], Slot::Bool | Slot::Reference);
+            let was_bound = matches!(entry, Slot::Bool | Slot::Reference);
             if matches!(body.slots[s], Slot::Bool | Slot::Reference) && !was_bound {
                 body.slots[s] = Slot::Unbound;
             }
@@ -126,8 +92,7 @@ impl Builder<'_> {
             self.emit(out, &[3, s]);
             self.emit(out, &[2, s, l]);
             body.release(s);
-            body.slots[s] = Slot::Qubit(l);
-            body.free[l] = false;
+            body.take(s, l);
         }
     }
 
@@ -136,7 +101,9 @@ impl Builder<'_> {
         if self.random.one_in(5) { 8 } else { self.random.below(1 + 10 / (depth + 1)) }
     }
 
-    pub(super) fn branch(&mut self, body: &mut Body, depth: usize, y: usize, out: &mut Block) {
+    /// An if. Where 18 is wanted its blocks may end differently.
+    pub(super) fn branch(&mut self, body: &mut Body, depth: usize, out: &mut Block) {
+        let (Some(y), true) = (self.random.pick_if_any(&body.bools()), depth < DEEPEST_BLOCK) else { return };
         self.count += 1;
         self.left -= 2;
         let qubits = body.qubits();
@@ -165,7 +132,9 @@ impl Builder<'_> {
         out.push(Statement { bytes: vec![10, y as u8], blocks: vec![then, otherwise] });
     }
 
-    pub(super) fn repeat(&mut self, body: &mut Body, depth: usize, r: usize, out: &mut Block) {
+    /// A loop. Where 19 is wanted its body may lose a qubit.
+    pub(super) fn repeat(&mut self, body: &mut Body, depth: usize, out: &mut Block) {
+        let (Some(r), true) = (self.random.pick_if_any(&body.references()), depth < DEEPEST_BLOCK) else { return };
         self.count += 1;
         self.left -= 2;
         let before = body.clone();
@@ -184,5 +153,17 @@ impl Builder<'_> {
             assert!(self.put_in != 0 || self.careless || *body == before);
         }
         out.push(Statement { bytes: vec![11, r as u8], blocks: vec![inner] });
+    }
+
+    /// An if over any slot, with empty blocks.
+    pub(super) fn empty_branch(&mut self, y: usize, out: &mut Block) {
+        self.left -= 6;
+        out.push(Statement { bytes: vec![10, y as u8], blocks: vec![Vec::new(), Vec::new()] });
+    }
+
+    /// A loop over any slot, with an empty body.
+    pub(super) fn empty_repeat(&mut self, r: usize, out: &mut Block) {
+        self.left -= 4;
+        out.push(Statement { bytes: vec![11, r as u8], blocks: vec![Vec::new()] });
     }
 }

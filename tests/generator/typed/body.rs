@@ -22,12 +22,47 @@ pub(super) struct Body {
 }
 
 impl Body {
+    /// On entry to a function, whose arguments are qubits at its first parameters.
+    pub(super) fn of_function(parameters: usize, arguments: usize) -> Body {
+        let mut body = Body {
+            slots: [Slot::Unbound; SLOTS],
+            inside: (0..parameters).collect(),
+            free: vec![true; parameters],
+            outside: Vec::new(),
+        };
+        for i in 0..arguments {
+            body.take(i, i);
+        }
+        body
+    }
+
+    pub(super) fn of_main(region: &[usize]) -> Body {
+        let mut free = vec![false; 256];
+        for &l in region {
+            free[l] = true;
+        }
+        let outside = (0..256).filter(|&l| !free[l]).collect();
+        Body { slots: [Slot::Unbound; SLOTS], inside: region.to_vec(), free, outside }
+    }
+
     pub(super) fn slots_where(&self, wanted: impl Fn(Slot) -> bool) -> Vec<usize> {
         (0..SLOTS).filter(|&s| wanted(self.slots[s])).collect()
     }
 
+    pub(super) fn unbound(&self) -> Vec<usize> {
+        self.slots_where(|slot| slot == Slot::Unbound)
+    }
+
     pub(super) fn qubits(&self) -> Vec<usize> {
         self.slots_where(|slot| matches!(slot, Slot::Qubit(_)))
+    }
+
+    pub(super) fn bools(&self) -> Vec<usize> {
+        self.slots_where(|slot| slot == Slot::Bool)
+    }
+
+    pub(super) fn references(&self) -> Vec<usize> {
+        self.slots_where(|slot| slot == Slot::Reference)
     }
 
     pub(super) fn location(&self, slot: usize) -> usize {
@@ -41,6 +76,13 @@ impl Body {
         self.inside.iter().copied().filter(|&l| self.free[l] == free).collect()
     }
 
+    /// What an init does.
+    pub(super) fn take(&mut self, slot: usize, location: usize) {
+        self.slots[slot] = Slot::Qubit(location);
+        self.free[location] = false;
+    }
+
+    /// What a free does.
     pub(super) fn release(&mut self, slot: usize) {
         let location = self.location(slot);
         self.free[location] = true;

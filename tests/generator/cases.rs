@@ -1,8 +1,8 @@
-//! Cases: which call, and what it is given.
+//! Cases: which of the five calls, with the files, numbers and buffers that it is given.
 
 use super::device_damage::device_bytes;
 use super::devices::{device, Device};
-use super::inputs::{around, filled, job_with_region, schedule};
+use super::inputs::{around, end, filled, job_with_region, occupancy, schedule};
 use super::programs::program;
 use super::random::Random;
 use super::random_case;
@@ -19,7 +19,7 @@ pub enum Case {
         device: Vec<u8>,
         program: Vec<u8>,
         job: u64,
-        // Read by the comparison alone.
+        // The comparison reads it, the threads do not.
         #[allow(dead_code)]
         claim: Option<u8>,
     },
@@ -57,6 +57,7 @@ impl Case {
     }
 }
 
+/// A case of any call; one in five is of random bytes.
 pub fn case(random: &mut Random) -> Case {
     if random.one_in(5) {
         return random_case(random);
@@ -90,27 +91,11 @@ fn route_case(random: &mut Random, plan: &Device) -> Case {
     let job = job_with_region(random, plan);
     let region = plan.region(job as u8);
     let device = device_bytes(random, plan, 14);
-    let length = match random.below(16) {
-        0 => random.pick(&[0, n - 1, n + 1, 256, 2 * n]),
-        _ => n,
-    };
-    let one_in = random.pick(&[2, 4, 8, 1000]);
-    let occupancy: Vec<u8> = (0..length)
-        .map(|_| if random.one_in(one_in) { random.pick(&[1, 2, 255, 128]) } else { 0 })
-        .collect();
-    let end = |random: &mut Random| -> u64 {
-        match random.below(16) {
-            0 => random.below(n) as u64,
-            1 => random.pick(&[n as u64, 255, 256, 257, 1 << 32, u64::MAX, 1 << 16]),
-            2 => region.first().copied().unwrap_or(0) as u64,
-            3 => region.last().copied().unwrap_or(0) as u64,
-            _ => random.pick_if_any(&region).unwrap_or(0) as u64,
-        }
-    };
-    let first = end(random);
-    let mut second = end(random);
+    let occupancy = occupancy(random, n);
+    let first = end(random, n, &region);
+    let mut second = end(random, n, &region);
     if second == first && !random.one_in(4) {
-        second = end(random);
+        second = end(random, n, &region);
     }
     let mut all = [0; 256];
     let needed = match reference::route(&device, job, &occupancy, first, second, &mut all) {

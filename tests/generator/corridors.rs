@@ -1,4 +1,4 @@
-//! Programs about corridors: two ends that are merged again and again.
+//! Programs about corridors: two ends that are merged again and again, in calls, in a loop, or with a location between them taken and freed.
 
 use super::devices::Device;
 use super::limits::chain;
@@ -37,117 +37,10 @@ pub(super) fn looping_program(region: &[usize]) -> Made {
     Made { program: Program { functions: Vec::new(), main }, claim: None }
 }
 
-/// Programs about one corridor: two ends that are merged again and again, and a location
-/// between them that is taken and freed in between, in ifs, loops and functions.
-struct Corridor<'a> {
-    random: &'a mut Random,
-    ends: (u8, u8),
-    middle: u8,
-    /// The slot that the next merge's outcome takes, and the last one there is.
-    outcome: u8,
-}
-
-impl Corridor<'_> {
-    /// The slots: 0 and 1 the ends, 2 the middle, 3 a bool, 4 a reference.
-    fn toggle(&self, taken: &mut bool) -> Statement {
-        *taken = !*taken;
-        if *taken { simple(&[1, 2, self.middle]) } else { simple(&[3, 2]) }
-    }
-
-    /// Statements that end with the middle as it was, unless `free_to_change`; even then a
-    /// nested block may not end with a middle that it took, for that qubit would outlive it.
-    fn block(&mut self, depth: usize, taken: &mut bool, free_to_change: bool) -> Block {
-        let before = *taken;
-        let mut block = Vec::new();
-        // Outcomes vanish at the end of a block, so their slots can be used again there.
-        let outcome = self.outcome;
-        for _ in 0..self.random.between(1, 4) {
-            let (a, b) = self.ends;
-            match self.random.below(9) {
-                0..=2 => block.push(self.toggle(taken)),
-                3 | 4 if self.outcome < 31 => {
-                    block.push(simple(&[6, self.outcome, 0, 0, 1, 1]));
-                    self.outcome += 1;
-                }
-                5 | 6 if depth < 4 => {
-                    let change = self.random.one_in(2);
-                    let (mut in_then, mut in_else) = (*taken, *taken);
-                    let then = self.block(depth + 1, &mut in_then, change);
-                    let mut otherwise = self.block(depth + 1, &mut in_else, change);
-                    if in_then != in_else {
-                        otherwise.push(self.toggle(&mut in_else));
-                    }
-                    *taken = in_then;
-                    block.push(Statement { bytes: vec![10, 3], blocks: vec![then, otherwise] });
-                }
-                7 if depth < 4 => {
-                    let body = self.block(depth + 1, taken, false);
-                    block.push(Statement { bytes: vec![11, 4], blocks: vec![body] });
-                }
-                _ => {
-                    // Functions 0 and 4 leave the middle alone, 1 to 3 take it as a qubit, 5 and
-                    // 6 as a free location; 1, 2 and 3 free it.
-                    let f = if *taken { self.random.pick(&[0, 1, 2, 3, 4]) } else { self.random.pick(&[0, 4, 5, 6]) };
-                    let mut call = match f {
-                        0 | 4 => vec![12, f, 2, 2, a, b, 0, 1],
-                        1..=3 => vec![12, f, 3, 3, a, b, self.middle, 0, 1, 2],
-                        _ => vec![12, f, 3, 2, a, b, self.middle, 0, 1],
-                    };
-                    // The ends in the other order, which a merge doesn't mind.
-                    if self.random.one_in(4) {
-                        call.swap(4, 5);
-                        let k = usize::from(call[2]);
-                        call.swap(4 + k, 5 + k);
-                    }
-                    block.push(simple(&call));
-                    if matches!(f, 1..=3) {
-                        *taken = false;
-                    }
-                }
-            }
-        }
-        let may_change = free_to_change && (depth == 1 || before);
-        if !may_change && *taken != before {
-            block.push(self.toggle(taken));
-        }
-        self.outcome = outcome;
-        block
-    }
-}
-
+/// Two ends that are merged again and again, and a location between them that is taken and freed in between, in ifs, loops and functions. None if the
+/// job's region has no such locations.
 pub(super) fn corridor_program(random: &mut Random, plan: &Device, job: u8) -> Option<Program> {
-    // A middle with two neighbours in the region; the ends may also be next to each other.
-    let mut triples = Vec::new();
-    let near = |a: usize, b: usize| plan.edges.contains(&(a.min(b), a.max(b)));
-    let region = plan.region(job);
-    let few = &region[..region.len().min(16)];
-    for &middle in few {
-        for &a in few {
-            for &b in few {
-                if near(a, middle) && near(middle, b) && a != b {
-                    triples.push((a as u8, middle as u8, b as u8));
-                }
-            }
-        }
-    }
-    let (a, middle, b) = random.pick_if_any(&triples)?;
-    let function = |arguments: usize, parameters: usize, bytes: &[&[u8]]| Function {
-        parameters,
-        arguments,
-        block: bytes.iter().map(|bytes| simple(bytes)).collect(),
-    };
-    let merge: &[u8] = &[6, 9, 0, 0, 1, 1];
-    let again: &[u8] = &[6, 10, 1, 1, 0, 0];
-    let (take, free): (&[u8], &[u8]) = (&[2, 2, 2], &[3, 2]);
-    let functions = vec![
-        function(2, 2, &[merge]),
-        function(3, 3, &[free, merge]),
-        function(3, 3, &[merge, free, again]),
-        function(3, 3, &[free]),
-        function(2, 2, &[&[12, 0, 2, 2, 1, 0, 1, 0], &[12, 0, 2, 2, 0, 1, 0, 1]]),
-        function(2, 3, &[take, merge, free]),
-        function(2, 3, &[merge, take, &[12, 1, 3, 3, 0, 1, 2, 0, 1, 2], again]),
-    ];
+    let (a, middle, b) = random.pick_if_any(&corridors(plan, job))?;
     let mut corridor = Corridor { random, ends: (a, b), middle, outcome: 5 };
     let mut taken = false;
     let mut main = vec![simple(&[1, 0, a]), simple(&[1, 1, b])];
@@ -163,5 +56,119 @@ pub(super) fn corridor_program(random: &mut Random, plan: &Device, job: u8) -> O
         main.push(simple(&[3, 2]));
     }
     main.extend([simple(&[3, 1]), simple(&[3, 0])]);
-    Some(Program { functions, main })
+    Some(Program { functions: functions(), main })
+}
+
+/// Each middle between two of its neighbours in the region, as end, middle, end; the ends may also be next to each other.
+fn corridors(plan: &Device, job: u8) -> Vec<(u8, u8, u8)> {
+    let mut triples = Vec::new();
+    let near = |a: usize, b: usize| plan.edges.contains(&(a.min(b), a.max(b)));
+    let region = plan.region(job);
+    let few = &region[..region.len().min(16)];
+    for &middle in few {
+        for &a in few {
+            for &b in few {
+                if near(a, middle) && near(middle, b) && a != b {
+                    triples.push((a as u8, middle as u8, b as u8));
+                }
+            }
+        }
+    }
+    triples
+}
+
+/// Functions 0 and 4 leave the middle alone, 1 to 3 take it as a qubit and free it, 5 and 6 take it as a free location.
+fn functions() -> Vec<Function> {
+    let function = |arguments: usize, parameters: usize, bytes: &[&[u8]]| Function {
+        parameters,
+        arguments,
+        block: bytes.iter().map(|bytes| simple(bytes)).collect(),
+    };
+    let merge: &[u8] = &[6, 9, 0, 0, 1, 1];
+    let again: &[u8] = &[6, 10, 1, 1, 0, 0];
+    let (take, free): (&[u8], &[u8]) = (&[2, 2, 2], &[3, 2]);
+    vec![
+        function(2, 2, &[merge]),
+        function(3, 3, &[free, merge]),
+        function(3, 3, &[merge, free, again]),
+        function(3, 3, &[free]),
+        function(2, 2, &[&[12, 0, 2, 2, 1, 0, 1, 0], &[12, 0, 2, 2, 0, 1, 0, 1]]),
+        function(2, 3, &[take, merge, free]),
+        function(2, 3, &[merge, take, &[12, 1, 3, 3, 0, 1, 2, 0, 1, 2], again]),
+    ]
+}
+
+/// Main's slots: 0 and 1 the ends, 2 the middle, 3 a bool, 4 a reference, 5 and up outcomes.
+struct Corridor<'a> {
+    random: &'a mut Random,
+    ends: (u8, u8),
+    middle: u8,
+    /// The slot that the next merge's outcome takes.
+    outcome: u8,
+}
+
+impl Corridor<'_> {
+    /// Statements that end with the middle as it was, unless `free_to_change`; even then a
+    /// nested block may not end with a middle that it took, for that qubit would outlive it.
+    fn block(&mut self, depth: usize, taken: &mut bool, free_to_change: bool) -> Block {
+        let before = *taken;
+        let mut block = Vec::new();
+        // Outcomes vanish at the end of a block, so their slots can be used again there.
+        let outcome = self.outcome;
+        for _ in 0..self.random.between(1, 4) {
+            block.push(match self.random.below(9) {
+                0..=2 => self.toggle(taken),
+                3 | 4 if self.outcome < 31 => {
+                    self.outcome += 1;
+                    simple(&[6, self.outcome - 1, 0, 0, 1, 1])
+                }
+                5 | 6 if depth < 4 => self.branch(depth, taken),
+                7 if depth < 4 => Statement { bytes: vec![11, 4], blocks: vec![self.block(depth + 1, taken, false)] },
+                _ => self.call(taken),
+            });
+        }
+        let may_change = free_to_change && (depth == 1 || before);
+        if !may_change && *taken != before {
+            block.push(self.toggle(taken));
+        }
+        self.outcome = outcome;
+        block
+    }
+
+    fn toggle(&self, taken: &mut bool) -> Statement {
+        *taken = !*taken;
+        if *taken { simple(&[1, 2, self.middle]) } else { simple(&[3, 2]) }
+    }
+
+    fn branch(&mut self, depth: usize, taken: &mut bool) -> Statement {
+        let change = self.random.one_in(2);
+        let (mut in_then, mut in_else) = (*taken, *taken);
+        let then = self.block(depth + 1, &mut in_then, change);
+        let mut otherwise = self.block(depth + 1, &mut in_else, change);
+        if in_then != in_else {
+            otherwise.push(self.toggle(&mut in_else));
+        }
+        *taken = in_then;
+        Statement { bytes: vec![10, 3], blocks: vec![then, otherwise] }
+    }
+
+    fn call(&mut self, taken: &mut bool) -> Statement {
+        let (a, b) = self.ends;
+        let f = if *taken { self.random.pick(&[0, 1, 2, 3, 4]) } else { self.random.pick(&[0, 4, 5, 6]) };
+        let mut call = match f {
+            0 | 4 => vec![12, f, 2, 2, a, b, 0, 1],
+            1..=3 => vec![12, f, 3, 3, a, b, self.middle, 0, 1, 2],
+            _ => vec![12, f, 3, 2, a, b, self.middle, 0, 1],
+        };
+        // The ends in the other order, which a merge doesn't mind.
+        if self.random.one_in(4) {
+            call.swap(4, 5);
+            let k = usize::from(call[2]);
+            call.swap(4 + k, 5 + k);
+        }
+        if matches!(f, 1..=3) {
+            *taken = false;
+        }
+        simple(&call)
+    }
 }

@@ -1,9 +1,10 @@
-//! What calls take beside files: jobs, schedules and buffers.
+//! What calls are given beside files: jobs, occupancies and ends of routes, schedules, buffers. Some are wrong.
 
 use super::devices::Device;
 use super::random::Random;
 use super::sizes::Size;
 
+/// A job, right or wrong.
 pub(super) fn job(random: &mut Random) -> u64 {
     match random.below(24) {
         0 => random.pick(&[0, 3, 255, 256, 257, 258, 1 << 32 | 1, 1 << 63, u64::MAX]),
@@ -21,6 +22,28 @@ pub(super) fn job_with_region(random: &mut Random, plan: &Device) -> u64 {
     }
 }
 
+/// An occupancy for n locations, or one of another length.
+pub(super) fn occupancy(random: &mut Random, n: usize) -> Vec<u8> {
+    let length = match random.below(16) {
+        0 => random.pick(&[0, n - 1, n + 1, 256, 2 * n]),
+        _ => n,
+    };
+    let one_in = random.pick(&[2, 4, 8, 1000]);
+    (0..length).map(|_| if random.one_in(one_in) { random.pick(&[1, 2, 255, 128]) } else { 0 }).collect()
+}
+
+/// An end of a route: in the region most times, and often its first or last location.
+pub(super) fn end(random: &mut Random, n: usize, region: &[usize]) -> u64 {
+    match random.below(16) {
+        0 => random.below(n) as u64,
+        1 => random.pick(&[n as u64, 255, 256, 257, 1 << 32, u64::MAX, 1 << 16]),
+        2 => region.first().copied().unwrap_or(0) as u64,
+        3 => region.last().copied().unwrap_or(0) as u64,
+        _ => random.pick_if_any(region).unwrap_or(0) as u64,
+    }
+}
+
+/// A schedule, some too long or with a bad byte.
 pub(super) fn schedule(random: &mut Random, size: Size) -> Vec<u8> {
     let length = match size {
         Size::Limit => random.pick(&[4096, 4096, 4096, 4095, 2000]),

@@ -1,4 +1,4 @@
-//! A program that was made, with the number that its check answers.
+//! A program that was made, with the number that its check answers where that is known; merges that have no path are thinned out.
 
 use super::trees::{statements_of, Program};
 use crate::reference;

@@ -1,4 +1,4 @@
-//! Which program a case has.
+//! Programs for a case: which of the kinds that the other parts make, and its file, as it is or with its bytes damaged.
 
 use super::byte_damage::damage_bytes;
 use super::corridors::{corridor_program, looping_program, merging_program};
@@ -10,31 +10,30 @@ use super::sizes::Size;
 use super::tree_damage::{damage_shape, damage_tree};
 use super::typed::{careless_program, typed_program, LOOSE};
 use super::wild::wild_program;
-use crate::reference;
+use crate::reference::{DEEPEST_BLOCK, LONGEST_PROGRAM};
 
-/// A program file for the job, one in `damaged_one_in` with its bytes damaged.
-pub(super) fn program(
-    random: &mut Random,
-    plan: &Device,
-    job: u8,
-    size: Size,
-    damaged_one_in: usize,
-) -> (Vec<u8>, Option<u8>) {
-    let region = plan.region(job);
-    let mut made = match random.below(50) {
-        0..=14 => {
-            let mut made = typed_program(random, &region, size, 0);
-            match random.below(16) {
-                0 => nest(random, &mut made.program, reference::DEEPEST_BLOCK),
-                1 if size != Size::Small => {
-                    let length = random.pick(&[4096, 4096, 4095, 4097]);
-                    pad(random, &mut made.program, &region, length);
-                }
-                _ => {}
-            }
-            thin_out(&mut made, &plan.encode(), job);
-            made
+/// A program file for the job, one in `damaged_one_in` with its bytes damaged; and the number that its check answers, if it is known.
+pub(super) fn program(random: &mut Random, plan: &Device, job: u8, size: Size, damaged_one_in: usize) -> (Vec<u8>, Option<u8>) {
+    let made = made_program(random, plan, job, size);
+    let (mut bytes, marks) = made.program.encode();
+    // A file too long is refused for that before anything else.
+    let mut claim = if bytes.len() > LONGEST_PROGRAM { Some(4) } else { made.claim };
+    if random.one_in(damaged_one_in) {
+        claim = None;
+        let length = bytes.len();
+        damage_bytes(random, &made.program, &mut bytes, &marks);
+        // A second fault shows which one is found first.
+        if random.one_in(3) && bytes.len() == length {
+            damage_bytes(random, &made.program, &mut bytes, &marks);
         }
+    }
+    (bytes, claim)
+}
+
+fn made_program(random: &mut Random, plan: &Device, job: u8, size: Size) -> Made {
+    let region = plan.region(job);
+    match random.below(50) {
+        0..=14 => accepted_program(random, plan, job, size),
         15..=23 => {
             let wanted = random.between(11, 19) as u8;
             let mut made = typed_program(random, &region, size, wanted);
@@ -66,14 +65,14 @@ pub(super) fn program(
         41 | 42 => Made { program: wild_program(random, &region), claim: None },
         43 => {
             let mut made = typed_program(random, &region, Size::Small, 0);
-            nest(random, &mut made.program, reference::DEEPEST_BLOCK + 1);
+            nest(random, &mut made.program, DEEPEST_BLOCK + 1);
             made.claim = Some(4);
             made
         }
         44 => {
             let mut made = typed_program(random, &region, Size::Small, 0).unclaimed();
             if random.one_in(2) {
-                nest(random, &mut made.program, reference::DEEPEST_BLOCK);
+                nest(random, &mut made.program, DEEPEST_BLOCK);
             }
             damage_shape(random, &mut made.program);
             made
@@ -87,20 +86,21 @@ pub(super) fn program(
         _ if size == Size::Limit && region.len() >= 2 => looping_program(&region),
         48 if region.len() >= 2 => looping_program(&region),
         _ => typed_program(random, &region, size, LOOSE).unclaimed(),
-    };
-    let (mut bytes, marks) = made.program.encode();
-    if bytes.len() > reference::LONGEST_PROGRAM {
-        // A file too long is refused for that before anything else.
-        made.claim = Some(4);
     }
-    if random.one_in(damaged_one_in) {
-        made.claim = None;
-        let length = bytes.len();
-        damage_bytes(random, &made.program, &mut bytes, &marks);
-        // A second fault shows which one is found first.
-        if random.one_in(3) && bytes.len() == length {
-            damage_bytes(random, &made.program, &mut bytes, &marks);
+}
+
+/// A typed program whose merges have a path, some as deep or about as long as there may be.
+fn accepted_program(random: &mut Random, plan: &Device, job: u8, size: Size) -> Made {
+    let region = plan.region(job);
+    let mut made = typed_program(random, &region, size, 0);
+    match random.below(16) {
+        0 => nest(random, &mut made.program, DEEPEST_BLOCK),
+        1 if size != Size::Small => {
+            let length = random.pick(&[4096, 4096, 4095, 4097]);
+            pad(random, &mut made.program, &region, length);
         }
+        _ => {}
     }
-    (bytes, made.claim)
+    thin_out(&mut made, &plan.encode(), job);
+    made
 }

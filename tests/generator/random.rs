@@ -1,4 +1,4 @@
-//! Random numbers: a stream for each seed and case.
+//! Random numbers: a stream for each seed and case, and what is drawn from it.
 
 pub struct Random {
     state: u64,

@@ -1,4 +1,4 @@
-//! How large a case is: few are at the limits, which take long.
+//! How large a case is, its device, programs and schedule: small most times, at the limits one time in forty.
 
 use super::random::Random;
 

@@ -21,24 +21,13 @@ pub(super) fn wild_program(random: &mut Random, region: &[usize]) -> Program {
     Program { functions, main }
 }
 
-fn wild_block(
-    random: &mut Random,
-    locations: &[usize],
-    callable: &[(usize, usize)],
-    depth: usize,
-    statements: usize,
-) -> Block {
+fn wild_block(random: &mut Random, locations: &[usize], callable: &[(usize, usize)], depth: usize, statements: usize) -> Block {
     (0..statements).map(|_| wild_statement(random, locations, callable, depth)).collect()
 }
 
 /// A statement that reads well; whether it is typed is left to chance. `locations` are those
 /// to draw from, `callable` the parameters and arguments of each function that may be called.
-pub(super) fn wild_statement(
-    random: &mut Random,
-    locations: &[usize],
-    callable: &[(usize, usize)],
-    depth: usize,
-) -> Statement {
+pub(super) fn wild_statement(random: &mut Random, locations: &[usize], callable: &[(usize, usize)], depth: usize) -> Statement {
     let slots = if random.one_in(6) { SLOTS } else { 5 };
     let slot = |random: &mut Random| random.below(slots) as u8;
     let (a, b, c) = (slot(random), slot(random), slot(random));
@@ -62,32 +51,33 @@ pub(super) fn wild_statement(
             }
             Statement { bytes: vec![kind, a], blocks }
         }
-        12 if !callable.is_empty() => {
-            let f = random.below(callable.len());
-            let (k, m) = callable[f];
-            if k > 0 && locations.is_empty() {
-                return simple(&[13, a, p]);
-            }
-            let mut bytes = vec![12, f as u8, k as u8, m as u8];
-            let first = random.below(locations.len().max(1));
-            for i in 0..k {
-                // In a row, so that they differ often.
-                bytes.push(if random.one_in(4) {
-                    random.pick(locations) as u8
-                } else {
-                    locations[(first + i) % locations.len()] as u8
-                });
-            }
-            for i in 0..m {
-                bytes.push(if random.one_in(4) { slot(random) } else { i as u8 });
-            }
-            simple(&bytes)
-        }
+        12 if !callable.is_empty() => wild_call(random, locations, callable, slots).unwrap_or(simple(&[13, a, p])),
         _ => simple(&[13, a, p]),
     }
 }
 
-/// What damage draws main's locations from: the region, and some that may lie outside.
+/// A call of any function, with slots below the limit; none if it needs locations and there are none.
+fn wild_call(random: &mut Random, locations: &[usize], callable: &[(usize, usize)], slots: usize) -> Option<Statement> {
+    let f = random.below(callable.len());
+    let (k, m) = callable[f];
+    if k > 0 && locations.is_empty() {
+        return None;
+    }
+    let mut bytes = vec![12, f as u8, k as u8, m as u8];
+    let first = random.below(locations.len().max(1));
+    for i in 0..k {
+        // In a row, so that they differ often.
+        let location = if random.one_in(4) { random.pick(locations) } else { locations[(first + i) % locations.len()] };
+        bytes.push(location as u8);
+    }
+    for i in 0..m {
+        let slot = if random.one_in(4) { random.below(slots) } else { i };
+        bytes.push(slot as u8);
+    }
+    Some(simple(&bytes))
+}
+
+/// What main's locations are drawn from: the region, and some that may lie outside.
 pub(super) fn main_locations(region: &[usize]) -> Vec<usize> {
     let mut locations = region.to_vec();
     locations.truncate(6);

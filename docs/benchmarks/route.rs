@@ -3,7 +3,10 @@
 // Both sides keep their tables between searches, and both stop as soon as the other end is met. The plain search is there twice, with a VecDeque
 // and with an array as its queue. The work is cut into slices. In a round every search has its turn at each slice, and a slice's time is the least
 // of all rounds, so that what else the computer does weighs on no side alone. The sums that the sides give must be equal in each slice.
-use std::collections::{BTreeSet, VecDeque};
+mod devices;
+
+use devices::{comb, grid, line, random, Edges};
+use std::collections::VecDeque;
 use std::time::Instant;
 
 #[link(name = "bench_route", kind = "static")]
@@ -123,44 +126,12 @@ impl Plain {
 }
 
 // The devices, and two ends of each that lie far apart.
-fn devices() -> Vec<(&'static str, Vec<(usize, usize)>, (usize, usize))> {
-    let line = (0..255).map(|i| (i, i + 1)).collect();
-    let mut grid = vec![];
-    let mut comb = vec![];
-    for y in 0..16 {
-        for x in 0..16 {
-            let l = y * 16 + x;
-            if x < 15 {
-                grid.push((l, l + 1));
-                comb.push((l, l + 1));
-            }
-            if y < 15 {
-                grid.push((l, l + 16));
-                if x == 0 {
-                    comb.push((l, l + 16));
-                }
-            }
-        }
-    }
-    let mut seed: u64 = 12345;
-    let mut draw = || {
-        seed ^= seed << 13;
-        seed ^= seed >> 7;
-        seed ^= seed << 17;
-        (seed >> 20) as usize % 256
-    };
-    let mut random = BTreeSet::new();
-    while random.len() < 1024 {
-        let (x, y) = (draw(), draw());
-        if x < y {
-            random.insert((x, y));
-        }
-    }
+fn devices() -> Vec<(&'static str, Edges, (usize, usize))> {
     vec![
-        ("line", line, (0, 255)),
-        ("grid 16x16", grid, (0, 255)),
-        ("random, 1,024 edges", random.into_iter().collect(), (0, 255)),
-        ("comb", comb, (15, 255)),
+        ("line", line(), (0, 255)),
+        ("grid 16x16", grid(), (0, 255)),
+        ("random, 1,024 edges", random(), (0, 255)),
+        ("comb", comb(), (15, 255)),
     ]
 }
 

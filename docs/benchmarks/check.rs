@@ -8,6 +8,7 @@ mod devices;
 mod exports;
 #[path = "../../tests/files.rs"]
 mod files;
+mod plain;
 mod plain_check;
 
 use clock::of_thread;

@@ -2,12 +2,14 @@
 // `run-route` builds it and runs it. Times are of one search, in ns; a share is the proved search's time divided by the plain one's.
 // Both sides keep their tables between searches, and both stop as soon as the other end is met. The plain search is there twice, with a VecDeque
 // and with an array as its queue. The work is cut into slices. In a round every search has its turn at each slice, and a slice's time is the least
-// of all rounds, so that what else the computer does weighs on no side alone. The sums that the sides give must be equal in each slice.
+// of all rounds, so that what else the computer does weighs on no side alone. It is the processor's time of this thread. The sums that the sides
+// give must be equal in each slice.
+mod clock;
 mod devices;
 
+use clock::of_thread;
 use devices::{comb, grid, line, random, Edges};
 use std::collections::VecDeque;
-use std::time::Instant;
 
 #[link(name = "bench_route", kind = "static")]
 extern "C" {
@@ -145,13 +147,13 @@ fn measure(edges: &[(usize, usize)], start: usize, step: usize, slices: usize, r
             let first = (start + slice * TIMES * step) % 65536;
             let mut sums = [0u64; 6];
             for f in 0..6 {
-                let begun = Instant::now();
+                let begun = of_thread();
                 sums[f] = match f {
                     2 => unsafe { bench_distances(bytes.as_ptr(), bytes.len(), first as u16, step as u16, TIMES as u32) },
                     5 => unsafe { bench_routes(bytes.as_ptr(), bytes.len(), first as u16, step as u16, TIMES as u32) },
                     _ => plain.searches(f, first, step),
                 };
-                best[f] = best[f].min(begun.elapsed().as_secs_f64() * 1e9 / TIMES as f64);
+                best[f] = best[f].min((of_thread() - begun).as_secs_f64() * 1e9 / TIMES as f64);
             }
             assert!(sums[0] == sums[1] && sums[1] == sums[2] && sums[3] == sums[4] && sums[4] == sums[5], "the answers differ");
         }

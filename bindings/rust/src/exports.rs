@@ -1,4 +1,4 @@
-//! The exports, as `include/abwakiris.h` declares them. This is their one declaration in Rust: the tests and the benchmark of the check take it from
+//! The exports, as `include/abwakiris.h` declares them. This is their one declaration in Rust: the tests and the benchmarks take it from
 //! here by its path.
 
 #![allow(dead_code)] // who takes it by its path may call some of them only

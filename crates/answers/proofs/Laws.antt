@@ -2,12 +2,12 @@
 -- each check; completeness rewrites with what each check was shown to give.
 use mathlib.Core.Bool.{Bool, true, false}
 use mathlib.Core.Logic.{_⊎_, inl, inr}
-use mathlib.Core.Path.{_≡_, refl, sym, ap, subst, _∙_}
+use mathlib.Core.Path.{_≡_, refl, subst}
 use native.Mathlib.Omega.{arith}
 use Prim.Native.Nat.{ℕ}
 use Rattle.answers.specs.declared.File.{File}
 use Rattle.answers.specs.declared.Refusal.{Refusal}
-use Rattle.answers.specs.Check.{Check, ok, refused, refusal, _>>=_, _>>_, need, within}
+use Rattle.answers.specs.Check.{Check, ok, refused, _>>=_, _>>_, need, within}
 
 pub data Holds {A : Type 0} (P : A → Type 0) : Check A → Type 0 where
   not-ok : {r : Refusal} → Holds P (refused r)

@@ -1,7 +1,7 @@
 -- How a read program file is taken apart. Every reading function is a row of checks, so what it gave says what each check let through and what each
 -- inner reading gave: for each of them one lemma says so, and the laws are these lemmas at the result that was read. The statement table is taken
 -- by its thirteen rows once, in `table-seen`: each row, at its own byte, gives the part of `View` that is named for it.
-use mathlib.Core.Bool.{Bool, true, false, _&&_}
+use mathlib.Core.Bool.{_&&_}
 use mathlib.Core.List.{List, [], _∷_, _++_, append-assoc, append-nil}
 use mathlib.Core.Path.{_≡_, refl, sym, ap, subst, _∙_}
 use native.Mathlib.Nat.{add-zero, add-suc, suc-add, le-of-suc-le-suc, not-suc-le-zero}
@@ -12,15 +12,15 @@ use lib.ListN.{getElem?, length, length-replicate, replicate, take}
 use Rattle.answers.specs.Check.{Check, ok}
 use Rattle.answers.proofs.Laws.{Holds, not-ok, by, holds-bind, holds-then, holds-need, holds-map, holds-any, holds-at, holds-choice}
 use Rattle.rules.specs.declared.statements.Operand.{Operand}
-use Rattle.rules.specs.declared.statements.Operand.the-variants.{Slot, Location, Gate, Basis, Value, Callee, CalleeK, CalleeM, Nothing}
+use Rattle.rules.specs.declared.statements.Operand.the-variants.{Slot, Location, Callee, CalleeK, CalleeM}
 use Rattle.rules.specs.Basics.{byte, word, hasMark}
 use Rattle.rules.specs.Syntax.{Side, device, parameter, Op, Statement, op, Statements, done, _⨾_, Block, block, Function, function, Program}
 use Rattle.rules.specs.Table.{simple, branches, loops, calls, Row, table, rowOf, size}
-use Rattle.rules.specs.Program.{Read, Scope, inRange, known, operands, meant, statement, statements, readBlock}
+use Rattle.rules.specs.Program.{Read, Scope, known, operands, meant, statement, statements, readBlock}
 use Rattle.rules.specs.Program.{functionHeader, programHeader, functionsAt, readProgram}
 use Rattle.program.specs.In.{BlockIn, StatementIn, StatementsIn, ProgramIn, offsetOf, mainScope}
 use Rattle.program.specs.In.{View, is-init, is-magic, is-free, is-gate, is-measure, is-merge, is-new, is-get, is-set, is-if, is-while, is-call, is-bool}
-use Rattle.rules.proofs.Fitting.{Fits, AllFit, operands-fit, split-fit, each-fits}
+use Rattle.rules.proofs.Fitting.{AllFit, operands-fit, split-fit, each-fits}
 use Rattle.rules.proofs.Tests.{eqb-true, below, at-most, not-below, and-left, and-right}
 
 -- with what holds of a check's value, that it is the value

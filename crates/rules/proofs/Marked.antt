@@ -1,5 +1,5 @@
 -- The marked cases (P) hold: the promises, computed on each row's bytes, give the row's answer and final buffer.
-use mathlib.Core.List.{List, map}
+use mathlib.Core.List.{map}
 use mathlib.Core.Path.{_≡_, refl}
 use Rattle.answers.specs.Check.{ok, _>>=_, _>>_}
 use Rattle.rules.specs.Typing.{sameEnv}

@@ -1,7 +1,7 @@
 -- Laws of the sets, one for each function of a set that makes or asks one. A member is a bit of one of four words, so each law is a law of bits, at the
 -- word and the bit where the member stands. With the laws of rows this is the only file that looks into `has`.
 use mathlib.Core.Bool.{Bool, true, false, not, _&&_, _||_}
-use mathlib.Core.List.{List, [], _∷_}
+use mathlib.Core.List.{[], _∷_}
 use mathlib.Core.Logic.{⊎-elim}
 use mathlib.Core.Path.{_≡_, refl, sym, ap, _∙_}
 use native.Mathlib.Decide.{ℕ-discrete}

@@ -4,19 +4,18 @@
 -- byte at its record's offset says so.
 use mathlib.Core.Bool.{Bool, true, false, not, _&&_}
 use mathlib.Core.List.{List, [], _∷_, _++_, map}
-use mathlib.Core.Path.{_≡_, refl, sym, ap, subst, _∙_}
+use mathlib.Core.Path.{_≡_, refl, sym, subst, _∙_}
 use native.Mathlib.Nat.{add-zero, add-suc, suc-add}
 use native.Mathlib.Omega.{arith}
-use Prim.Native.Nat.{ℕ, zero, suc, _+_, _≤_}
+use Prim.Native.Nat.{ℕ, zero, suc, _+_}
 use lib.Dec.{eqb, ltb, leb}
-use lib.ListN.{getElem?, length, take, replicate}
-use Rattle.answers.specs.declared.Refusal.{Refusal}
+use lib.ListN.{getElem?, length, replicate}
 use Rattle.answers.specs.Check.{Check, ok, refused, need}
-use Rattle.answers.proofs.Laws.{Holds, not-ok, by, holds-bind, holds-then, holds-need, holds-map, holds-any, holds-at, holds-choice}
+use Rattle.answers.proofs.Laws.{Holds, not-ok, by, holds-bind, holds-then, holds-any, holds-at, holds-choice}
 use Rattle.rules.specs.declared.statements.Operand.the-variants.{Slot as ASlot, Location as ALocation}
-use Rattle.rules.specs.Basics.{chosen, byte, word, hasMark}
+use Rattle.rules.specs.Basics.{byte, word, hasMark}
 use Rattle.rules.specs.Region.{Region}
-use Rattle.rules.specs.Syntax.{Side, device, parameter, Place, Op, init, free, gate, measure, merge, newRef, getRef, setRef, constant}
+use Rattle.rules.specs.Syntax.{Side, device, parameter, Op, init, free, gate, measure, merge, newRef, getRef, setRef, constant}
 use Rattle.rules.specs.Syntax.{Statement, op, if, while, call, Statements, done, _⨾_, Block, block, Function, function, Program}
 use Rattle.rules.specs.Table.{Meaning, simple, branches, loops, calls, Row, table, rowOf, size}
 use Rattle.rules.specs.Program.{Read, Scope, known, operands, meant, statement, statements, readBlock, functionHeader, programHeader, functionsAt, readProgram}

@@ -1,29 +1,29 @@
 -- Locations occupied equal moved inits less moved frees, over the bytes of a run. `occupied` counts the acts of a job's turns; a turn acts as an init or a free
 -- exactly where its record says moved and points at a byte of the job's program that is an init's or a free's (FromBytes). So the records' bytes count
 -- the acts.
-use mathlib.Core.Bool.{Bool, true, false, _&&_, _||_, false≢true}
+use mathlib.Core.Bool.{Bool, true, _&&_, _||_, false≢true}
 use mathlib.Core.List.{List, [], _∷_, _++_, map}
 use mathlib.Core.Path.{_≡_, refl, sym, ap, ap₂, _∙_}
 use native.Mathlib.Decide.{ℕ-discrete}
 use native.Mathlib.Omega.{arith}
 use Prim.Native.Nat.{ℕ, zero, suc, _+_, _*_, _/_, _%_, _≤_}
 use lib.Dec.{eqb}
-use lib.ListN.{length, take, drop}
+use lib.ListN.{length, take}
 use Rattle.answers.specs.Check.{ok}
 use Rattle.answers.specs.declared.Moved.{Moved}
 use Rattle.rules.specs.Basics.{chosen, byte, word}
 use Rattle.rules.specs.Device.{Device}
 use Rattle.rules.specs.Region.{Region, regionOf, freeIn}
 use Rattle.rules.specs.Syntax as trees
-use Rattle.rules.specs.Syntax.{function, Program}
+use Rattle.rules.specs.Syntax.{Program}
 use Rattle.rules.specs.Program.{readProgram}
 use Rattle.rules.specs.Slots.{Act}
-use Rattle.rules.specs.Machine.{Job, Stepped, step}
+use Rattle.rules.specs.Machine.{Stepped}
 use Rattle.rules.specs.Run.{Turn, Machine, started, stepOf, after, final, records, recordBytes}
 use Rattle.rules.specs.Promises.{over, Ran, runWritten, runOf}
 use Rattle.theory.specs.Tidy.{isInit, isFree, bytesOf, Readable, acts}
 use Rattle.theory.specs.TheRun.{turnOf, movedAt, initByte, freeByte, ofJob, Files, OccupiedAtEnd, OccupiedInRuns}
-use Rattle.rules.proofs.Tests.{eqb-true, eqb-same, eqb-other}
+use Rattle.rules.proofs.Tests.{eqb-same, eqb-other}
 use Rattle.theory.proofs.WellRead.{well-read}
 use Rattle.theory.proofs.Isolation.{sound-started, sound-final}
 use Rattle.theory.proofs.Tidy.{occupied}

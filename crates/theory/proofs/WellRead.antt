@@ -1,10 +1,9 @@
 -- What reading guarantees. Every reading function is a row of checks, so what it gives is what its checks let through: for each of them one lemma
 -- says what holds of its result, and the lemmas follow the functions. The statement table is taken by its thirteen rows once, in `table-good`. The
 -- statements of a block fill it exactly: each takes at least one byte, so the count of bytes is enough for them.
-use mathlib.Core.Bool.{Bool, true, false, _&&_}
+use mathlib.Core.Bool.{_&&_}
 use mathlib.Core.List.{List, [], _∷_, _++_, append-assoc, append-nil}
 use mathlib.Core.Path.{_≡_, refl, sym, ap, subst, _∙_}
-use native.Mathlib.Nat.{add-zero, add-suc, suc-add, le-of-suc-le-suc, not-suc-le-zero}
 use native.Mathlib.Omega.{arith}
 use Prim.Native.Nat.{ℕ, zero, suc, _+_, _<_, _≤_}
 use lib.Dec.{eqb, ltb, leb}
@@ -12,17 +11,17 @@ use lib.ListN.{getD, getElem?, length, length-replicate, replicate}
 use Rattle.answers.specs.Check.{Check}
 use Rattle.answers.proofs.Laws.{Holds, not-ok, by, holds-bind, holds-then, holds-need, holds-map, holds-at, holds-choice}
 use Rattle.rules.specs.declared.statements.Operand.{Operand}
-use Rattle.rules.specs.declared.statements.Operand.the-variants.{Slot, Location, Gate, Basis, Value, Callee, CalleeK, CalleeM, Nothing}
+use Rattle.rules.specs.declared.statements.Operand.the-variants.{Slot, Location, Callee, CalleeK, CalleeM}
 use Rattle.rules.specs.Basics.{upTo, byte, word, hasMark}
 use Rattle.rules.proofs.Basics.{length-upTo, getD-upTo}
-use Rattle.rules.specs.Syntax.{Side, device, parameter, Place, at, Op, Statement, call, done, Block, Function, function}
+use Rattle.rules.specs.Syntax.{Side, device, parameter, Place, at, Op, Statement, call, done, Block, Function}
 use Rattle.rules.specs.Table.{simple, branches, loops, calls, Row, table, rowOf, size}
-use Rattle.rules.specs.Program.{Read, Scope, inRange, known, operands, meant, statement, statements}
+use Rattle.rules.specs.Program.{Read, Scope, known, operands, meant, statement, statements}
 use Rattle.rules.specs.Program.{readBlock, functionHeader, programHeader, functionsAt, readProgram}
 use Rattle.theory.specs.WellRead.{OpRead, CallRead, StatementRead, op-read, if-read, while-read, call-read, StatementsRead, done-read, next-read}
 use Rattle.theory.specs.WellRead.{BlockRead, block-read, FunctionsRead, none-read, function-read, ProgramRead, WellRead}
-use Rattle.rules.proofs.Fitting.{Fits, AllFit, operands-fit, split-fit, each-fits}
-use Rattle.rules.proofs.Tests.{eqb-true, below, not-below, at-most, and-left, and-right}
+use Rattle.rules.proofs.Fitting.{AllFit, operands-fit, split-fit, each-fits}
+use Rattle.rules.proofs.Tests.{eqb-true, not-below, at-most, and-left, and-right}
 
 -- what a row of the table must be: the operands of an operation give what the operation asks for; before blocks there is one slot, before a call's
 -- lists its function, k and m

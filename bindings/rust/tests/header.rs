@@ -1,4 +1,5 @@
-//! That names, words, sizes and version are those of include/abwakiris.h, and that a line of its list that is not as it must be is refused.
+//! That names, words, sizes and version are those of include/abwakiris.h, and the version that of CHANGELOG.md; and that a line of the header's list
+//! that is not as it must be is refused.
 
 #[path = "../build/list.rs"]
 mod list;
@@ -6,6 +7,7 @@ mod list;
 use abwakiris::{Number, MOST_COUNT, MOST_EDGES, MOST_LOCATIONS, MOST_PROGRAM_BYTES, MOST_STEPS, RECORD_BYTES};
 
 const HEADER: &str = include_str!("../../../include/abwakiris.h");
+const CHANGELOG: &str = include_str!("../../../CHANGELOG.md");
 
 #[test]
 fn no_entry_is_missing() {
@@ -79,6 +81,8 @@ fn sizes() {
 #[test]
 fn version() {
     assert_eq!(constant("ABWAKIRIS_VERSION"), concat!('"', env!("CARGO_PKG_VERSION"), '"'));
+    let newest = CHANGELOG.lines().find_map(|line| line.strip_prefix("## "));
+    assert_eq!(newest.and_then(|section| section.split(',').next()), Some(env!("CARGO_PKG_VERSION")));
 }
 
 /// What is wrong with a list whose second line is this one.

@@ -11,6 +11,8 @@ use Rattle.answers.specs.declared.CheckAnswer.{CheckAnswer}
 use Rattle.answers.specs.declared.CheckAnswer.the-variants.{Accepted, Refused as NotAccepted}
 use Rattle.answers.specs.declared.RouteAnswer.{RouteAnswer}
 use Rattle.answers.specs.declared.RouteAnswer.the-variants.{Routed, Refused as NotRouted}
+use Rattle.answers.specs.declared.WrittenAnswer.{WrittenAnswer}
+use Rattle.answers.specs.declared.WrittenAnswer.the-variants.{Written, Refused as NotWritten}
 use Rattle.answers.specs.declared.Moved.{Moved}
 use Rattle.answers.specs.declared.RunAnswer.{RunAnswer}
 use Rattle.answers.specs.declared.RunAnswer.the-variants.{Ran, Refused as NotRan}
@@ -34,6 +36,11 @@ checkSaid (NotAccepted r) = refused r
 abbrev pub routeSaid : RouteAnswer → Check ℕ
 routeSaid (Routed n) = ok n
 routeSaid (NotRouted r) = refused r
+
+-- a call that writes answers the number of bytes
+abbrev pub writtenSaid : WrittenAnswer → Check ℕ
+writtenSaid (Written n) = ok n
+writtenSaid (NotWritten r) = refused r
 
 -- a run answers how many steps each job moved
 abbrev pub runSaid : RunAnswer → Check Moved

@@ -7,6 +7,7 @@ pub enum File {
     NoFile,
     Device,
     Schedule,
+    Listing,
     Program(u8),
 }
 
@@ -60,6 +61,12 @@ pub enum CheckAnswer {
 // The answer of a route search: the number of locations written.
 pub enum RouteAnswer {
     Routed(usize),
+    Refused(Refusal),
+}
+
+// The answer of a call that writes a file or a text: the number of bytes written.
+pub enum WrittenAnswer {
+    Written(usize),
     Refused(Refusal),
 }
 

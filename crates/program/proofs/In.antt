@@ -15,6 +15,7 @@ use Rattle.rules.specs.declared.statements.Operand.{Operand}
 use Rattle.rules.specs.declared.statements.Operand.the-variants.{Slot, Location, Callee, CalleeK, CalleeM}
 use Rattle.rules.specs.Basics.{byte, word, hasMark}
 use Rattle.rules.specs.Syntax.{Side, device, parameter, Op, Statement, op, Statements, done, _⨾_, Block, block, Function, function, Program}
+use Rattle.rules.specs.Words.{Text}
 use Rattle.rules.specs.Table.{simple, branches, loops, calls, Row, table, rowOf, size}
 use Rattle.rules.specs.Program.{Read, Scope, known, operands, meant, statement, statements, readBlock}
 use Rattle.rules.specs.Program.{functionHeader, programHeader, functionsAt, readProgram}
@@ -76,14 +77,14 @@ Shows b os f =
 
 -- the row of statement byte b
 data SeenRow (b : ℕ) : Row → Type 0 where
-  seen-simple : {os : List Operand} {f : (d : Side) → (ℕ → ℕ) → Op d} → Shows b os f → SeenRow b (record { operands = os; meaning = simple f })
-  seen-branches : b ≡ 10 → SeenRow b (record { operands = Slot ∷ []; meaning = branches })
-  seen-loops : b ≡ 11 → SeenRow b (record { operands = Slot ∷ []; meaning = loops })
-  seen-calls : b ≡ 12 → SeenRow b (record { operands = Callee ∷ CalleeK ∷ CalleeM ∷ []; meaning = calls })
+  seen-simple : {w : Text} {os : List Operand} {f : (d : Side) → (ℕ → ℕ) → Op d} → Shows b os f → SeenRow b (record { name = w; operands = os; meaning = simple f })
+  seen-branches : {w : Text} → b ≡ 10 → SeenRow b (record { name = w; operands = Slot ∷ []; meaning = branches })
+  seen-loops : {w : Text} → b ≡ 11 → SeenRow b (record { name = w; operands = Slot ∷ []; meaning = loops })
+  seen-calls : {w : Text} → b ≡ 12 → SeenRow b (record { name = w; operands = Callee ∷ CalleeK ∷ CalleeM ∷ []; meaning = calls })
 
 -- the same as a function, so that the row that is asked for says which operation it is
-simple-row : {b : ℕ} {os : List Operand} {f : (d : Side) → (ℕ → ℕ) → Op d} → Shows b os f
-    → SeenRow b (record { operands = os; meaning = simple f })
+simple-row : {w : Text} {b : ℕ} {os : List Operand} {f : (d : Side) → (ℕ → ℕ) → Op d} → Shows b os f
+    → SeenRow b (record { name = w; operands = os; meaning = simple f })
 simple-row h = seen-simple h
 
 -- the rows of a list, from statement byte b on

@@ -3,6 +3,8 @@ pub mod Device
 pub mod Region
 pub mod Path
 pub mod Syntax
+pub mod Words
+pub mod Names
 pub mod Table
 pub mod Program
 pub mod Slots
@@ -11,5 +13,8 @@ pub mod Typing
 pub mod Figures
 pub mod Machine
 pub mod Run
+pub mod Listing
+pub mod Grammar
+pub mod Unlisting
 pub mod Promises
 pub mod Marked

@@ -5,7 +5,7 @@ use Prim.Native.Nat.{ℕ, _*_}
 use lib.Dec.{eqb, leb}
 use lib.ListN.{length, drop}
 use Rattle.answers.specs.Check.{Check, ok, refused, _>>=_, _>>_, need, within}
-use Rattle.answers.specs.declared.File.the-variants.{Device, Schedule, Program}
+use Rattle.answers.specs.declared.File.the-variants.{Device, Schedule, Listing, Program}
 use Rattle.answers.specs.declared.Moved.{Moved}
 use Rattle.rules.specs.Basics.{chosen}
 use Rattle.rules.specs.Device.{readDevice}
@@ -13,6 +13,9 @@ use Rattle.rules.specs.Region.{Region, regionOf, owns, freeIn}
 use Rattle.rules.specs.Path.{route}
 use Rattle.rules.specs.Syntax as syntax
 use Rattle.rules.specs.Program.{readProgram}
+use Rattle.rules.specs.Words.{Text}
+use Rattle.rules.specs.Listing.{listing}
+use Rattle.rules.specs.Unlisting.{unlisted}
 use Rattle.rules.specs.Commands.{sizeOf, needRoute, walk}
 use Rattle.rules.specs.Typing.{typeProgram}
 use Rattle.rules.specs.Run.{turns, Machine, started, final, Told, records, recordBytes, movedBy}
@@ -110,3 +113,32 @@ runWritten buffer map (refused r) = record { answer = refused r; records = buffe
 abbrev pub runOf : List ℕ → List ℕ → List ℕ → List ℕ → List ℕ → List ℕ → Ran
 runOf device program₁ program₂ schedule buffer map =
     runWritten buffer map (ran device program₁ program₂ schedule (length buffer) (length map))
+
+-- a number of bytes, and the buffer that they were written to
+pub record Copied : Type 0 where
+  pub answer : Check ℕ
+  pub buffer : List ℕ
+
+abbrev pub copied : List ℕ → Check (List ℕ) → Copied
+copied buffer (ok t) = record { answer = ok (length t); buffer = over t buffer }
+copied buffer (refused r) = record { answer = refused r; buffer = buffer }
+
+-- Writing a listing: the program's own refusals, 24 exactly when the listing is longer than the buffer
+abbrev pub listed : List ℕ → ℕ → Check Text
+listed program room = do
+  t ← within (Program 0) (listing program)
+  need (leb (length t) room) 24 0
+  ok t
+
+abbrev pub writeListingOf : List ℕ → List ℕ → Copied
+writeListingOf program buffer = copied buffer (listed program (length buffer))
+
+-- Reading a listing: 27, 24 exactly when the program is longer than the buffer
+abbrev pub readBack : Text → ℕ → Check (List ℕ)
+readBack text room = do
+  s ← within Listing (unlisted text)
+  need (leb (length s) room) 24 0
+  ok s
+
+abbrev pub readListingOf : Text → List ℕ → Copied
+readListingOf text buffer = copied buffer (readBack text (length buffer))

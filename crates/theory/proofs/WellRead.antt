@@ -15,6 +15,7 @@ use Rattle.rules.specs.declared.statements.Operand.the-variants.{Slot, Location
 use Rattle.rules.specs.Basics.{upTo, byte, word, hasMark}
 use Rattle.rules.proofs.Basics.{length-upTo, getD-upTo}
 use Rattle.rules.specs.Syntax.{Side, device, parameter, Place, at, Op, Statement, call, done, Block, Function}
+use Rattle.rules.specs.Words.{Text}
 use Rattle.rules.specs.Table.{simple, branches, loops, calls, Row, table, rowOf, size}
 use Rattle.rules.specs.Program.{Read, Scope, known, operands, meant, statement, statements}
 use Rattle.rules.specs.Program.{readBlock, functionHeader, programHeader, functionsAt, readProgram}
@@ -26,17 +27,17 @@ use Rattle.rules.proofs.Tests.{eqb-true, not-below, at-most, and-left, and-righ
 -- what a row of the table must be: the operands of an operation give what the operation asks for; before blocks there is one slot, before a call's
 -- lists its function, k and m
 data GoodRow : Row → Type 0 where
-  good-simple : {os : List Operand} {f : (d : Side) → (ℕ → ℕ) → Op d}
+  good-simple : {w : Text} {os : List Operand} {f : (d : Side) → (ℕ → ℕ) → Op d}
       → ((s : List ℕ) (S : Scope) (i : ℕ) (d : Side) → AllFit s S i 1 os → OpRead S (f d λ n. byte s (i + n)))
-      → GoodRow (record { operands = os; meaning = simple f })
-  good-branches : GoodRow (record { operands = Slot ∷ []; meaning = branches })
-  good-loops : GoodRow (record { operands = Slot ∷ []; meaning = loops })
-  good-calls : GoodRow (record { operands = Callee ∷ CalleeK ∷ CalleeM ∷ []; meaning = calls })
+      → GoodRow (record { name = w; operands = os; meaning = simple f })
+  good-branches : {w : Text} → GoodRow (record { name = w; operands = Slot ∷ []; meaning = branches })
+  good-loops : {w : Text} → GoodRow (record { name = w; operands = Slot ∷ []; meaning = loops })
+  good-calls : {w : Text} → GoodRow (record { name = w; operands = Callee ∷ CalleeK ∷ CalleeM ∷ []; meaning = calls })
 
 -- the same as a function, so that the row that is asked for says which operation it is
-simple-row : {os : List Operand} {f : (d : Side) → (ℕ → ℕ) → Op d}
+simple-row : {w : Text} {os : List Operand} {f : (d : Side) → (ℕ → ℕ) → Op d}
     → ((s : List ℕ) (S : Scope) (i : ℕ) (d : Side) → AllFit s S i 1 os → OpRead S (f d λ n. byte s (i + n)))
-    → GoodRow (record { operands = os; meaning = simple f })
+    → GoodRow (record { name = w; operands = os; meaning = simple f })
 simple-row h = good-simple h
 
 -- each row of a list is

@@ -52,6 +52,10 @@ abbrev pub listed : Text → List ℕ → Line
 listed w [] = []
 listed w (x ∷ xs) = w ∷ decimal x ∷ map decimal xs
 
+-- function i, with k locations and m arguments
+abbrev pub headLine : ℕ → ℕ → ℕ → Line
+headLine i k m = function ∷ decimal i ∷ locations ∷ decimal k ∷ arguments ∷ decimal m ∷ []
+
 abbrev pub operandsIn : Option Row → List Operand
 operandsIn none = []
 operandsIn (some r) = r .operands
@@ -84,8 +88,7 @@ module _ (s : List ℕ) where
   -- functions from number i on
   abbrev pub functionsLines : ℕ → List Function → List Line
   functionsLines i [] = []
-  functionsLines i (f ∷ fs) =
-      (function ∷ decimal i ∷ locations ∷ decimal (f .k) ∷ arguments ∷ decimal (f .m) ∷ []) ∷ (blockLines 1 (f .body) ++ functionsLines (suc i) fs)
+  functionsLines i (f ∷ fs) = headLine i (f .k) (f .m) ∷ (blockLines 1 (f .body) ++ functionsLines (suc i) fs)
 
   abbrev pub programLines : Program → List Line
   programLines p = (program ∷ decimal 1 ∷ []) ∷ (functionsLines 0 (p .functions) ++ ((main ∷ []) ∷ blockLines 1 (p .main)))

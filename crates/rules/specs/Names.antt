@@ -69,3 +69,8 @@ with = 0x77 ∷ 0x69 ∷ 0x74 ∷ 0x68 ∷ []
 -- gates X, Z, H, S by their number; a basis is one of the first two
 abbrev pub gates : List Text
 gates = (0x58 ∷ []) ∷ (0x5A ∷ []) ∷ (0x48 ∷ []) ∷ (0x53 ∷ []) ∷ []
+
+-- the words that are no names, from number 0 on
+abbrev pub vocabulary : List Text
+vocabulary =
+    [] ∷ program ∷ function ∷ locations ∷ arguments ∷ main ∷ else ∷ at ∷ with ∷ (0x58 ∷ []) ∷ (0x5A ∷ []) ∷ (0x48 ∷ []) ∷ (0x53 ∷ []) ∷ []

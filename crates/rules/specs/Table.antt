@@ -1,6 +1,6 @@
 -- The one table of the thirteen statement kinds, by statement byte from 1 on: the name, what the operands are, and the meaning. The size of a
 -- statement's fixed part is one more than the number of its operands.
-use mathlib.Core.List.{List, [], _∷_, map}
+use mathlib.Core.List.{List, [], _∷_, _++_, map}
 use mathlib.Core.Option.{Option, none, some}
 use Prim.Native.Nat.{ℕ, zero, suc}
 use lib.Dec.{eqb}
@@ -8,6 +8,7 @@ use lib.ListN.{getD, getElem?, length}
 use Rattle.rules.specs.declared.statements.Operand.{Operand}
 use Rattle.rules.specs.declared.statements.Operand.the-variants.{Slot, Location, Gate, Basis, Value, Callee, CalleeK, CalleeM, Nothing}
 use Rattle.rules.specs.Words.{Text}
+use Rattle.rules.specs.Names.{vocabulary}
 use Rattle.rules.specs.Names.{init-name, magic-name, free-name, gate-name, measure-name, merge-name, ref-name}
 use Rattle.rules.specs.Names.{get-name, set-name, if-name, while-name, call-name, bool-name}
 use Rattle.rules.specs.Syntax.{Side, plain, magic, Op, init, free, gate, measure, merge, newRef, getRef, setRef, constant}
@@ -68,3 +69,7 @@ names = map (λ r. r .name) table
 
 abbrev pub nameOf : ℕ → Text
 nameOf b = elim (rowOf b) [ none ↦ [] | some r ↦ r .name ]
+
+-- all words by number, the kinds' names last: that of statement byte b is number 12 + b
+abbrev pub wordOf : ℕ → Text
+wordOf w = getD (vocabulary ++ names) w []

@@ -107,7 +107,8 @@ made p loops bs = stop (some (opened p false bs))
 made p calls bs =
     let k : ℕ = getD bs 2 0 in
     let m : ℕ = getD bs 3 0 in
-    room p (length bs + k + m) (list (p .scope) at Location k λ ls. list (p .scope) with Slot m λ xs. stop (some (added p (bs ++ (ls ++ xs)))))
+    room p (length bs + k + m)
+    (list (p .scope) at Location k λ ls. list (p .scope) with Slot m λ xs. stop (some (added p (bs ++ (ls ++ xs)))))
 
 -- the length words that a statement's blocks take
 abbrev pub blocksOf : Meaning → ℕ
@@ -123,7 +124,9 @@ deeper p (suc n) g = elim (ltb (length (p .open-blocks)) 8) [ true ↦ g | false
 
 abbrev pub rowLine : Sofar → ℕ → Option Row → Grammar Sofar
 rowLine p b none = dead
-rowLine p b (some r) = room p (size r + blocksOf (r .meaning)) (deeper p (blocksOf (r .meaning)) (operands (p .scope) (r .operands) λ xs. made p (r .meaning) (b ∷ xs)))
+rowLine p b (some r) =
+    room p (size r + blocksOf (r .meaning))
+    (deeper p (blocksOf (r .meaning)) (operands (p .scope) (r .operands) λ xs. made p (r .meaning) (b ∷ xs)))
 
 abbrev pub statementLine : Sofar → Grammar Sofar
 statementLine p = ask none names λ i. rowLine p (suc i) (rowOf (suc i))
@@ -132,22 +135,46 @@ abbrev pub indent : {A : Type 0} → ℕ → Grammar A → Grammar A
 indent zero g = g
 indent (suc d) g = word [] (word [] (indent d g))
 
--- the lines outside functions and main, where the bytes so far are F: a function, of which there are at most 15, or main
+-- A function with k locations and m arguments is begun after the functions fs, whose bytes are F; main is; nothing is, after the first line.
+abbrev pub functionBegun : List Function → List ℕ → ℕ → ℕ → Sofar
+functionBegun fs F k m = record {
+  scope = record { places = k; earlier = fs };
+  after = some (fs ++ (record { k = k; m = m; body = block 0 done } ∷ []));
+  open-blocks = record { before = F ++ (k ∷ m ∷ []); due = false } ∷ [];
+  bytes = [];
+}
+
+abbrev pub mainBegun : List Function → List ℕ → Sofar
+mainBegun fs F = record {
+  scope = record { places = 256; earlier = fs };
+  after = none;
+  open-blocks = record { before = F; due = false } ∷ [];
+  bytes = [];
+}
+
+abbrev pub programBegun : Sofar
+programBegun = record { scope = record { places = 0; earlier = [] }; after = some []; open-blocks = []; bytes = [] }
+
+-- the lines outside functions and main: a function, of which there are at most 15, or main
 abbrev pub functionLine : List Function → List ℕ → Grammar Sofar
 functionLine fs F = word function (word (decimal (length fs)) (word locations (ask none (upTo 0 17 decimal) λ k.
-    word arguments (ask none (upTo 0 (suc (elim (leb k 8) [ true ↦ k | false ↦ 8 ])) decimal) λ m. stop (some (record {
-      scope = record { places = k; earlier = fs };
-      after = some (fs ++ (record { k = k; m = m; body = block 0 done } ∷ []));
-      open-blocks = record { before = F ++ (k ∷ m ∷ []); due = false } ∷ [];
-      bytes = [];
-    }))))))
+    word arguments (ask none (upTo 0 (suc (elim (leb k 8) [ true ↦ k | false ↦ 8 ])) decimal) λ m. stop (some (functionBegun fs F k m))))))
 
 abbrev pub mainLine : List Function → List ℕ → Grammar Sofar
-mainLine fs F = word main (stop (some (record { scope = record { places = 256; earlier = fs }; after = none; open-blocks = record { before = F; due = false } ∷ []; bytes = [] })))
+mainLine fs F = word main (stop (some (mainBegun fs F)))
+
+abbrev pub functionLines : List Function → List ℕ → List (Grammar Sofar)
+functionLines fs F =
+    elim (leb (12 + length F) 4096) [ true ↦ elim (ltb (length fs) 15) [ true ↦ functionLine fs F ∷ [] | false ↦ [] ] | false ↦ [] ]
 
 abbrev pub topLines : Option (List Function) → List ℕ → List (Grammar Sofar)
 topLines none F = []
-topLines (some fs) F = elim (leb (12 + length F) 4096) [ true ↦ elim (ltb (length fs) 15) [ true ↦ functionLine fs F ∷ [] | false ↦ [] ] | false ↦ [] ] ++ (mainLine fs F ∷ [])
+topLines (some fs) F = functionLines fs F ++ (mainLine fs F ∷ [])
+
+-- the else of the innermost block, which has ended
+abbrev pub elseBegun : Scope → Option (List Function) → Opened → List Opened → List ℕ → Sofar
+elseBegun S a b bs bytes =
+    record { scope = S; after = a; open-blocks = record { before = b .before ++ sized bytes; due = false } ∷ bs; bytes = [] }
 
 -- The lines that may follow: a statement at the innermost depth; the else that is due; or, with the innermost block ended, those that may follow then.
 abbrev pub linesAfter : Scope → Option (List Function) → List Opened → List ℕ → List (Grammar Sofar)
@@ -155,7 +182,7 @@ linesAfter S a [] bytes = topLines a bytes
 linesAfter S a (b ∷ bs) bytes =
     let p : Sofar = record { scope = S; after = a; open-blocks = b ∷ bs; bytes = bytes } in
     indent (suc (length bs)) (statementLine p) ∷ elim (b .due) [
-      | true ↦ indent (length bs) (word else (stop (some (record { scope = S; after = a; open-blocks = record { before = b .before ++ sized bytes; due = false } ∷ bs; bytes = [] })))) ∷ []
+      | true ↦ indent (length bs) (word else (stop (some (elseBegun S a b bs bytes)))) ∷ []
       | false ↦ linesAfter S a bs (b .before ++ sized bytes)
     ]
 
@@ -165,7 +192,7 @@ pub data State : Type 0 where
   sofar : Sofar → State
 
 abbrev pub lines : State → List (Grammar Sofar)
-lines fresh = word program (word (decimal 1) (stop (some (record { scope = record { places = 0; earlier = [] }; after = some []; open-blocks = []; bytes = [] })))) ∷ []
+lines fresh = word program (word (decimal 1) (stop (some programBegun))) ∷ []
 lines (sofar p) = linesAfter (p .scope) (p .after) (p .open-blocks) (p .bytes)
 
 -- the file, when main has ended and no else is due
@@ -173,11 +200,15 @@ abbrev pub ended : List Opened → List ℕ → Option (List ℕ)
 ended [] bytes = some bytes
 ended (b ∷ bs) bytes = elim (b .due) [ true ↦ none | false ↦ ended bs (b .before ++ sized bytes) ]
 
+-- a file's header, for so many functions
+abbrev pub header : ℕ → List ℕ
+header n = 0x51 ∷ 0x4C ∷ 0x53 ∷ 0x00 ∷ 0x01 ∷ n ∷ []
+
 abbrev pub file : State → Option (List ℕ)
 file fresh = none
 file (sofar p) = elim (p .after) [
   | some fs ↦ none
-  | none ↦ elim (ended (p .open-blocks) (p .bytes)) [ none ↦ none | some bs ↦ some (0x51 ∷ 0x4C ∷ 0x53 ∷ 0x00 ∷ 0x01 ∷ length (p .scope .earlier) ∷ bs) ]
+  | none ↦ elim (ended (p .open-blocks) (p .bytes)) [ none ↦ none | some bs ↦ some (header (length (p .scope .earlier)) ++ bs) ]
 ]
 
 -- what is left of a text behind its last newline: nothing, or an unfinished line; 27 at its start where no line begins so, else at the text's end

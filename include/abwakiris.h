@@ -1,4 +1,4 @@
-/* The loader's interface: five calls of the proved library.
+/* The loader's interface: seven calls of the proved library.
  *
  * Every call takes any bytes, any lengths and any numbers, and always answers. A length of 0 with any pointer is fine. Each answer is one u64:
  *
@@ -8,17 +8,19 @@
  *   bits 40 to 47   the file that the place is in, ABWAKIRIS_IN_..
  *   bits 48 to 63   0
  *
- * Packing cuts nothing off: a refusal's number is 1 to 26 and its place at most 4,096; n, a device's number of locations, is 1 to 256, a command
- * count is at most 65,535, a route has at most 256 locations, and a job moves at most 4,096 steps in a run. So taking an answer apart, as the
- * macros below do, gives back exactly what the call promises; that is proved of every call.
+ * Packing cuts nothing off: a refusal's number is 1 to 27 and its place at most 4,096, in a listing at most 65,536; n, a device's number of
+ * locations, is 1 to 256, a command count is at most 65,535, a route has at most 256 locations, a job moves at most 4,096 steps in a run, a listing has
+ * at most 65,536 bytes and a program at most 4,096. So taking an answer apart, as the macros below do, gives back exactly what the call promises; that
+ * is proved of every call.
  *
  * After a refusal every buffer that was lent holds the bytes it held before. Bytes past what a call writes stay as they are. A buffer that a
- * call writes (buffer, records, map) must overlap nothing else that is given to it; what it only reads may overlap.
+ * call writes (buffer, records, map, the text of write_listing, the program of read_listing) must overlap nothing else that is given to it; what it
+ * only reads may overlap.
  *
  * Threads: no state is kept between calls, so every call may be made from any thread at once, with its own buffers.
  *
- * Stack, in bytes at most, measured on x86-64 at -O3, not proved: read_device 144, read_program 5,936, check 52,912, route 9,152, run 40,016. So
- * 64 KiB were enough for any call.
+ * Stack, in bytes at most, measured on x86-64 at -O3, not proved: read_device 144, read_program 5,936, check 52,912, route 9,152, run 40,016,
+ * write_listing FIGURE, read_listing FIGURE. So 64 KiB were enough for any call.
  *
  * Linking: the archive is x86-64 code for Linux. By `nm` its only symbols from outside are memcpy and memset, so it allocates nothing; by `size` it has
  * code and constants, and no data and no bss.
@@ -34,9 +36,9 @@ extern "C" {
 #endif
 
 /* The version of this interface. */
-#define ABWAKIRIS_VERSION "0.9.0"
+#define ABWAKIRIS_VERSION "0.10.0"
 #define ABWAKIRIS_VERSION_MAJOR 0
-#define ABWAKIRIS_VERSION_MINOR 9
+#define ABWAKIRIS_VERSION_MINOR 10
 #define ABWAKIRIS_VERSION_PATCH 0
 
 /* Taking an answer apart. */
@@ -51,6 +53,7 @@ enum {
     ABWAKIRIS_IN_NONE = 0,
     ABWAKIRIS_IN_DEVICE = 1,
     ABWAKIRIS_IN_SCHEDULE = 2,
+    ABWAKIRIS_IN_LISTING = 3,
     ABWAKIRIS_IN_PROGRAM = 16,
     ABWAKIRIS_IN_PROGRAM_1 = 17,
     ABWAKIRIS_IN_PROGRAM_2 = 18
@@ -84,7 +87,8 @@ enum {
     X(23, ABWAKIRIS_NO_SCHEDULE_BYTE, ScheduleByte, "bad schedule byte") \
     X(24, ABWAKIRIS_NO_ROOM, BufferTooShort, "buffer too short") \
     X(25, ABWAKIRIS_NO_JOB, Job, "job not 1 or 2") \
-    X(26, ABWAKIRIS_NO_OCCUPANCY_LENGTH, OccupancyLength, "occupancy length not n")
+    X(26, ABWAKIRIS_NO_OCCUPANCY_LENGTH, OccupancyLength, "occupancy length not n") \
+    X(27, ABWAKIRIS_NO_LISTING, Listing, "not a listing: a line that cannot stand there, or lines are missing")
 
 #define ABWAKIRIS_CONSTANT_(number, name, rust, words) , name = number
 #define ABWAKIRIS_CASE_(number, name, rust, words) case name: return words;
@@ -108,6 +112,7 @@ enum {
     ABWAKIRIS_MOST_LOCATIONS = 256,
     ABWAKIRIS_MOST_EDGES = 1024,
     ABWAKIRIS_MOST_PROGRAM_BYTES = 4096,
+    ABWAKIRIS_MOST_LISTING_BYTES = 65536,
     ABWAKIRIS_MOST_COUNT = 65535,
     ABWAKIRIS_MOST_STEPS = 4096,
     ABWAKIRIS_RECORD_BYTES = 4
@@ -168,6 +173,17 @@ uint64_t abwakiris_route(const uint8_t *device, size_t device_len, uint64_t job,
 uint64_t abwakiris_run(const uint8_t *device, size_t device_len, const uint8_t *first_program, size_t first_len,
                        const uint8_t *second_program, size_t second_len, const uint8_t *schedule, size_t schedule_len,
                        uint8_t *records, size_t records_len, uint8_t *map, size_t map_len);
+
+/* The listing of a program: its text, one statement a line (docs/listing.md), written from the text's start. It is ASCII, ends in a newline and has no
+ * zero byte behind it. Value: its number of bytes. Refused, in this order: the program's own refusals, as a program read for no job; 24 where the text is
+ * shorter than the listing, which ABWAKIRIS_MOST_LISTING_BYTES never are. */
+uint64_t abwakiris_write_listing(const uint8_t *program, size_t program_len, uint8_t *text, size_t text_len);
+
+/* The program that a text is the listing of, written from the program's start. Exactly what abwakiris_write_listing writes is taken, so a program has one
+ * listing and a listing one program. Value: the program's number of bytes. Refused, in this order: 27, in the listing, at the start of the first line
+ * with which the text so far begins no listing, and at the text's end where lines are missing or the last one is unfinished; 24 where the buffer is shorter
+ * than the program, which ABWAKIRIS_MOST_PROGRAM_BYTES never are. */
+uint64_t abwakiris_read_listing(const uint8_t *text, size_t text_len, uint8_t *program, size_t program_len);
 
 #ifdef __cplusplus
 }

@@ -23,12 +23,12 @@ static const int names[] = {
     ABWAKIRIS_NO_EDGE, ABWAKIRIS_NO_FIT, ABWAKIRIS_NO_STATEMENT, ABWAKIRIS_NO_OPERAND, ABWAKIRIS_NO_KIND, ABWAKIRIS_NO_UNBOUND_SLOT,
     ABWAKIRIS_NO_REGION, ABWAKIRIS_NO_FREE_LOCATION, ABWAKIRIS_NO_TWICE, ABWAKIRIS_NO_ARGUMENT_PLACE, ABWAKIRIS_NO_QUBIT_OUTLIVES,
     ABWAKIRIS_NO_BRANCHES_DIFFER, ABWAKIRIS_NO_LOOP_LOSES, ABWAKIRIS_NO_COUNT, ABWAKIRIS_NO_PATH, ABWAKIRIS_NO_SCHEDULE_LENGTH,
-    ABWAKIRIS_NO_SCHEDULE_BYTE, ABWAKIRIS_NO_ROOM, ABWAKIRIS_NO_JOB, ABWAKIRIS_NO_OCCUPANCY_LENGTH
+    ABWAKIRIS_NO_SCHEDULE_BYTE, ABWAKIRIS_NO_ROOM, ABWAKIRIS_NO_JOB, ABWAKIRIS_NO_OCCUPANCY_LENGTH, ABWAKIRIS_NO_LISTING
 };
 
 static void numbers(void) {
     const unsigned count = (unsigned)(sizeof names / sizeof names[0]);
-    expect(count == 27, "not 26 numbers", count - 1);
+    expect(count == 28, "not 27 numbers", count - 1);
     for (unsigned number = 0; number < count; number++)
         expect(names[number] == (int)number, "not its name's number", number);
 }
@@ -36,11 +36,11 @@ static void numbers(void) {
 static void words(void) {
     const char *unknown = abwakiris_words(UINT_MAX);
     expect(strcmp(abwakiris_words(0), "accepted") == 0, "not accepted", 0);
-    for (unsigned number = 0; number < 27; number++) {
+    for (unsigned number = 0; number < 28; number++) {
         const char *line = abwakiris_words(number);
         expect(line[0] != 0 && strchr(line, '\n') == NULL && strcmp(line, unknown) != 0, "not one line of words", number);
     }
-    for (unsigned number = 27; number < 300; number++)
+    for (unsigned number = 28; number < 300; number++)
         expect(strcmp(abwakiris_words(number), unknown) == 0, "words for no number", number);
 }
 
@@ -51,7 +51,7 @@ static void list(void) {
     next++;
     ABWAKIRIS_REFUSALS(ENTRY)
 #undef ENTRY
-    expect(next == 27, "not 26 entries", next - 1);
+    expect(next == 28, "not 27 entries", next - 1);
 }
 
 static void record(const uint8_t *records, size_t step, unsigned told, unsigned edges, unsigned offset) {
@@ -77,9 +77,13 @@ static void steps(void) {
 
 static void answers(void) {
     const uint64_t refused = (UINT64_C(18) << 40) | (UINT64_C(13) << 32) | 4096u, moved = UINT64_C(4096) << 16 | 3u;
+    const uint64_t unlisted = (UINT64_C(3) << 40) | (UINT64_C(27) << 32) | 65536u;
     expect(ABWAKIRIS_NUMBER(refused) == ABWAKIRIS_NO_REGION, "not the number", 13);
     expect(ABWAKIRIS_FILE(refused) == ABWAKIRIS_IN_PROGRAM_2, "not the file", 18);
     expect(ABWAKIRIS_VALUE(refused) == 4096u, "not the place", 4096);
+    expect(ABWAKIRIS_NUMBER(unlisted) == ABWAKIRIS_NO_LISTING, "not the number", 27);
+    expect(ABWAKIRIS_FILE(unlisted) == ABWAKIRIS_IN_LISTING, "not the file", 3);
+    expect(ABWAKIRIS_VALUE(unlisted) == ABWAKIRIS_MOST_LISTING_BYTES, "not the place", 65536);
     expect(ABWAKIRIS_MOVED_1(moved) == 3u && ABWAKIRIS_MOVED_2(moved) == 4096u, "not what moved", 3);
 }
 

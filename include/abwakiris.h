@@ -88,7 +88,7 @@ enum {
     X(24, ABWAKIRIS_NO_ROOM, BufferTooShort, "buffer too short") \
     X(25, ABWAKIRIS_NO_JOB, Job, "job not 1 or 2") \
     X(26, ABWAKIRIS_NO_OCCUPANCY_LENGTH, OccupancyLength, "occupancy length not n") \
-    X(27, ABWAKIRIS_NO_LISTING, Listing, "not a listing: a line that cannot stand there, or lines are missing")
+    X(27, ABWAKIRIS_NO_LISTING, Listing, "with this line the text begins no listing, or the rest is missing")
 
 #define ABWAKIRIS_CONSTANT_(number, name, rust, words) , name = number
 #define ABWAKIRIS_CASE_(number, name, rust, words) case name: return words;

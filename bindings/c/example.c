@@ -1,10 +1,11 @@
-/* The five calls on device G and program A of the document, as a loader would make them, and a refusal in words. From the top of the repository:
+/* The seven calls on device G and program A of the document, as a loader would make them, and refusals in words. From the top of the repository:
  *
  *   gcc -Iinclude bindings/c/example.c target/staticlib/libabwakiris.a -o target/example && target/example
  *
  * G: 2 rows of 3 locations, all owned by job 1. A: inits at 0 and 2, a merge of both, two frees. The whole output is in example.out.
  */
 #include <stdio.h>
+#include <string.h>
 
 #include "abwakiris.h"
 
@@ -26,6 +27,7 @@ static const char *file(uint64_t answer) {
     case ABWAKIRIS_IN_NONE: return "no file";
     case ABWAKIRIS_IN_DEVICE: return "the device";
     case ABWAKIRIS_IN_SCHEDULE: return "the schedule";
+    case ABWAKIRIS_IN_LISTING: return "the listing";
     case ABWAKIRIS_IN_PROGRAM: return "the program";
     case ABWAKIRIS_IN_PROGRAM_1: return "the program of job 1";
     case ABWAKIRIS_IN_PROGRAM_2: return "the program of job 2";
@@ -99,6 +101,38 @@ static void run(size_t n) {
     print_bytes(map, n);
 }
 
+/* The bytes of the listing of A, which is printed; 0 where it is refused. */
+static size_t write_listing(uint8_t *text, size_t length) {
+    uint64_t answer = abwakiris_write_listing(program, sizeof program, text, length);
+    if (!accepted("write_listing", answer))
+        return 0;
+    printf("write_listing: %lu bytes\n", (unsigned long)ABWAKIRIS_VALUE(answer));
+    fwrite(text, 1, ABWAKIRIS_VALUE(answer), stdout);
+    return ABWAKIRIS_VALUE(answer);
+}
+
+static void read_listing(const uint8_t *text, size_t length) {
+    uint8_t bytes[ABWAKIRIS_MOST_PROGRAM_BYTES];
+    uint64_t answer = abwakiris_read_listing(text, length, bytes, sizeof bytes);
+    if (accepted("read_listing", answer)) {
+        int same = ABWAKIRIS_VALUE(answer) == sizeof program && memcmp(bytes, program, sizeof program) == 0;
+        printf("read_listing: %lu bytes, %s\n", (unsigned long)ABWAKIRIS_VALUE(answer), same ? "the program again" : "another program");
+    }
+}
+
+/* A and its listing, there and back; then texts that are no listing. */
+static void listings(void) {
+    static const char slot[] = "program 1\nmain\n  init 0 0\n  free 32\n"; /* slots are 0 to 31 */
+    uint8_t text[ABWAKIRIS_MOST_LISTING_BYTES];
+    size_t length = write_listing(text, sizeof text);
+    if (length == 0)
+        return;
+    read_listing(text, length);
+    read_listing(text, length - 1); /* the last newline is missing */
+    read_listing((const uint8_t *)slot, strlen(slot));
+    write_listing(text, 10);
+}
+
 int main(void) {
     uint8_t occupancy[ABWAKIRIS_MOST_LOCATIONS] = {0};
     size_t n = read_files();
@@ -111,5 +145,6 @@ int main(void) {
     check(2);         /* job 2 owns nothing */
     occupancy[4] = 1; /* the long way too */
     route(occupancy, n);
+    listings();
     return 0;
 }

@@ -1,4 +1,4 @@
-//! The calls of the library, as safe functions.
+//! The calls of the library, as safe functions; those of listings are in `listing.rs`.
 //!
 //! Safety of each: a pointer and its length are those of a slice that is lent for the call. What is written is lent by `&mut`, so that it overlaps
 //! nothing else.

@@ -32,4 +32,6 @@ extern "C" {
         map: *mut u8,
         map_len: usize,
     ) -> u64;
+    pub fn abwakiris_write_listing(program: *const u8, program_len: usize, text: *mut u8, text_len: usize) -> u64;
+    pub fn abwakiris_read_listing(text: *const u8, text_len: usize, program: *mut u8, program_len: usize) -> u64;
 }

@@ -1,4 +1,4 @@
-//! The five calls of the proved library, as safe functions.
+//! The seven calls of the proved library, as safe functions.
 //!
 //! Every call takes any bytes and any numbers and always answers: a value, or a [`Refusal`] that says why, where and in which file. After a
 //! refusal every buffer that was lent holds the bytes it held before; bytes past what a call writes stay as they are.
@@ -30,6 +30,7 @@
 mod calls;
 mod exports;
 mod job;
+mod listing;
 mod numbers;
 mod record;
 mod refusal;
@@ -38,8 +39,9 @@ mod sizes;
 
 pub use calls::{check, locations, read_device, read_program, route, run, Moved};
 pub use job::Job;
+pub use listing::{read_listing, write_listing};
 pub use numbers::{Number, UnknownNumber};
 pub use record::{Record, Records, Told};
 pub use refusal::{File, Refusal};
 pub use schedule::Schedule;
-pub use sizes::{MOST_COUNT, MOST_EDGES, MOST_LOCATIONS, MOST_PROGRAM_BYTES, MOST_STEPS, RECORD_BYTES};
+pub use sizes::{MOST_COUNT, MOST_EDGES, MOST_LISTING_BYTES, MOST_LOCATIONS, MOST_PROGRAM_BYTES, MOST_STEPS, RECORD_BYTES};

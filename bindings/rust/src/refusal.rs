@@ -15,6 +15,8 @@ pub enum File {
     Device,
     /// The schedule.
     Schedule,
+    /// The text that was read as a listing.
+    Listing,
     /// The program of this job; of none where it was read for no job.
     Program(Option<Job>),
     /// A file that this crate has no name for, by its code in an answer, from a library that is newer than the crate.
@@ -28,6 +30,7 @@ impl File {
             0 => File::NoFile,
             1 => File::Device,
             2 => File::Schedule,
+            3 => File::Listing,
             16 => File::Program(None),
             _ => program_of(code).unwrap_or(File::Unknown(code)),
         }
@@ -46,6 +49,7 @@ impl fmt::Display for File {
             File::NoFile => write!(f, "no file"),
             File::Device => write!(f, "the device"),
             File::Schedule => write!(f, "the schedule"),
+            File::Listing => write!(f, "the listing"),
             File::Program(None) => write!(f, "the program"),
             File::Program(Some(job)) => write!(f, "the program of {job}"),
             File::Unknown(code) => write!(f, "file {code}, which has no name here"),
@@ -98,6 +102,7 @@ mod tests {
         assert_eq!(refusal(26, 0, 0), (Number::OccupancyLength, 0, File::NoFile));
         assert_eq!(refusal(5, 0, 1), (Number::DeviceLength, 0, File::Device));
         assert_eq!(refusal(23, 4095, 2), (Number::ScheduleByte, 4095, File::Schedule));
+        assert_eq!(refusal(27, 65536, 3), (Number::Listing, 65536, File::Listing));
         assert_eq!(refusal(8, 4096, 16), (Number::Fit, 4096, File::Program(None)));
         assert_eq!(refusal(8, 8, 17), (Number::Fit, 8, File::Program(Some(Job::ONE))));
         assert_eq!(refusal(8, 8, 18), (Number::Fit, 8, File::Program(Some(Job::TWO))));
@@ -105,7 +110,7 @@ mod tests {
 
     #[test]
     fn newer_answers() {
-        assert_eq!(refusal(27, 3, 3), (Number::Unknown(27), 3, File::Unknown(3)));
+        assert_eq!(refusal(28, 3, 4), (Number::Unknown(28), 3, File::Unknown(4)));
         assert_eq!(refusal(8, 3, 15), (Number::Fit, 3, File::Unknown(15)));
         assert_eq!(refusal(8, 3, 19), (Number::Fit, 3, File::Unknown(19)));
         assert_eq!(refusal(255, 3, 255), (Number::Unknown(255), 3, File::Unknown(255)));

@@ -6,6 +6,8 @@ pub const MOST_LOCATIONS: usize = 256;
 pub const MOST_EDGES: usize = 1024;
 /// The most bytes of a program file.
 pub const MOST_PROGRAM_BYTES: usize = 4096;
+/// The most bytes of a listing.
+pub const MOST_LISTING_BYTES: usize = 65536;
 /// The most commands of a program.
 pub const MOST_COUNT: u32 = 65535;
 /// The most bytes of a schedule, each one step.

@@ -4,7 +4,7 @@
 #[path = "../build/list.rs"]
 mod list;
 
-use abwakiris::{Number, MOST_COUNT, MOST_EDGES, MOST_LOCATIONS, MOST_PROGRAM_BYTES, MOST_STEPS, RECORD_BYTES};
+use abwakiris::{Number, MOST_COUNT, MOST_EDGES, MOST_LISTING_BYTES, MOST_LOCATIONS, MOST_PROGRAM_BYTES, MOST_STEPS, RECORD_BYTES};
 
 const HEADER: &str = include_str!("../../../include/abwakiris.h");
 const CHANGELOG: &str = include_str!("../../../CHANGELOG.md");
@@ -13,9 +13,9 @@ const CHANGELOG: &str = include_str!("../../../CHANGELOG.md");
 fn no_entry_is_missing() {
     let entries = list::entries(HEADER).unwrap();
     let numbers: Vec<usize> = entries.iter().map(|entry| entry.number).collect();
-    assert_eq!(numbers, (1..=26).collect::<Vec<usize>>());
+    assert_eq!(numbers, (1..=27).collect::<Vec<usize>>());
     let numbers: Vec<u8> = Number::ALL.iter().map(|number| number.number()).collect();
-    assert_eq!(numbers, (1..=26).collect::<Vec<u8>>());
+    assert_eq!(numbers, (1..=27).collect::<Vec<u8>>());
 }
 
 /// Outside programs use these names.
@@ -24,7 +24,7 @@ fn names() {
     use Number::*;
     let first = [FileTooShort, Mark, Version, Limit, DeviceLength, Owner, Edge, Fit, Statement, Operand, Kind, SlotBound, OutsideRegion];
     let second = [NotFree, Twice, ArgumentPlace, QubitOutlives, BranchesDiffer, LoopLoses, Count, NoPath, ScheduleLength, ScheduleByte];
-    let third = [BufferTooShort, Job, OccupancyLength];
+    let third = [BufferTooShort, Job, OccupancyLength, Listing];
     assert_eq!([&first[..], &second[..], &third[..]].concat(), Number::ALL);
 }
 
@@ -44,7 +44,7 @@ fn numbers() {
     for number in 0..=255 {
         let found = Number::of(number);
         assert_eq!(found.number(), number);
-        assert_eq!(Number::ALL.contains(&found), (1..=26).contains(&number));
+        assert_eq!(Number::ALL.contains(&found), (1..=27).contains(&number));
         match Number::try_from(number) {
             Ok(known) => assert_eq!(known, found),
             Err(unknown) => assert_eq!((found, unknown.number()), (Number::Unknown(number), number)),
@@ -69,6 +69,7 @@ fn sizes() {
         ("ABWAKIRIS_MOST_LOCATIONS", MOST_LOCATIONS),
         ("ABWAKIRIS_MOST_EDGES", MOST_EDGES),
         ("ABWAKIRIS_MOST_PROGRAM_BYTES", MOST_PROGRAM_BYTES),
+        ("ABWAKIRIS_MOST_LISTING_BYTES", MOST_LISTING_BYTES),
         ("ABWAKIRIS_MOST_COUNT", MOST_COUNT as usize),
         ("ABWAKIRIS_MOST_STEPS", MOST_STEPS),
         ("ABWAKIRIS_RECORD_BYTES", RECORD_BYTES),

@@ -51,9 +51,7 @@ pub fn write_listing(program: &[u8]) -> Result<String, Refusal> {
 /// ```
 pub fn read_listing(text: impl AsRef<[u8]>) -> Result<Vec<u8>, Refusal> {
     let text = text.as_ref();
-    filled(MOST_PROGRAM_BYTES, |program| unsafe {
-        exports::abwakiris_read_listing(text.as_ptr(), text.len(), program.as_mut_ptr(), program.len())
-    })
+    filled(MOST_PROGRAM_BYTES, |program| unsafe { exports::abwakiris_read_listing(text.as_ptr(), text.len(), program.as_mut_ptr(), program.len()) })
 }
 
 /// What a call writes from the start of a buffer of so many bytes; its value is how many it wrote.

@@ -369,17 +369,17 @@ fn depths(page: &Page, t: &mut Tried) {
 
 // Numbers, orders and limits
 
-const CALLS: [&str; 5] = ["read_device", "read_program", "check", "route", "run"];
+const CALLS: [&str; 7] = ["read_device", "read_program", "check", "route", "run", "write_listing", "read_listing"];
 
 type Numbers = BTreeSet<u64>;
 
 /// The numbers that each call can answer, and last those that a step can be stuck with, by the marks of the table.
 fn marked(page: &Page) -> Vec<Numbers> {
     let rows = page.table("| no. |");
-    assert!(rows.iter().map(|row| number(&row[0])).eq(1..=26), "the numbers 1 to 26 in order");
+    assert!(rows.iter().map(|row| number(&row[0])).eq(1..=27), "the numbers 1 to 27 in order");
     assert!(rows.iter().all(|row| row[1..4].iter().all(|cell| !cell.is_empty())), "each has its case, place and file");
     let column = |i: usize| rows.iter().filter(|row| row[4 + i] == "x").map(|row| number(&row[0])).collect();
-    (0..6).map(column).collect()
+    (0..=CALLS.len()).map(column).collect()
 }
 
 /// The numbers of the tests of a part of an order: of its own row and of the rows for its parts.
@@ -428,7 +428,7 @@ fn constant(name: &str) -> Option<u64> {
 }
 
 fn limits(page: &Page) {
-    assert!(named().into_iter().eq(1..=26), "the header names the page's numbers");
+    assert!(named().into_iter().eq(1..=27), "the header names the page's numbers");
     let rows = page.table("| what | limits |");
     let with_constant: Vec<_> = rows.iter().filter(|row| !row[3].is_empty()).collect();
     assert!(with_constant.len() >= 10, "the limits have constants");

@@ -1,3 +1,4 @@
 pub mod Texts
 pub mod Grammars
 pub mod Rows
+pub mod Reading

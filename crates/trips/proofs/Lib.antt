@@ -2,3 +2,4 @@ pub mod Texts
 pub mod Grammars
 pub mod Rows
 pub mod Reading
+pub mod Offered

@@ -3,3 +3,4 @@ pub mod Grammars
 pub mod Rows
 pub mod Reading
 pub mod Offered
+pub mod Raw

@@ -4,3 +4,4 @@ pub mod Rows
 pub mod Reading
 pub mod Offered
 pub mod Raw
+pub mod Running

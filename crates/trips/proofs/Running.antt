@@ -1,0 +1,349 @@
+-- The lines of a good tree are followed, to its bytes.
+use mathlib.Core.Bool.{Bool, true, false, not, _&&_, false≢true}
+use mathlib.Core.List.{List, [], _∷_, _++_, append-assoc, append-nil, map}
+use mathlib.Core.Option.{Option, none, some}
+use mathlib.Core.Path.{_≡_, refl, sym, ap, subst, _∙_}
+use native.Mathlib.Nat.{le-of-suc-le-suc, not-suc-le-zero}
+use native.Mathlib.Omega.{arith}
+use Prim.Native.Nat.{ℕ, zero, suc, _+_, _-_, _*_, _<_, _≤_}
+use lib.Dec.{T, eqb, ltb, leb, le→leb, lt→ltb}
+use lib.ListN.{getD, length, length-append, length-replicate, replicate, getElem?}
+use Rattle.rules.specs.Basics.{chosen, upTo}
+use Rattle.rules.proofs.Basics.{all-upTo}
+use Rattle.rules.specs.declared.statements.Operand.{Operand}
+use Rattle.rules.specs.declared.statements.Operand.the-variants.{Slot, Location}
+use Rattle.rules.specs.Syntax.{Side, Op, Function}
+use Rattle.rules.specs.Table.{Meaning, simple, branches, loops, calls, Row, table, rowOf, size, names, nameOf}
+use Rattle.rules.specs.Program.{Scope}
+use Rattle.rules.specs.Words.{Text, decimal, place}
+use Rattle.rules.specs.Listing.{spoken, silent, Line, indented, listed, operandsIn}
+use Rattle.rules.specs.Names.{program, function, locations, arguments, main, else, at, with}
+use Rattle.rules.specs.Grammar.{Grammar, stop, ask, dead, word, takes, takesOne}
+use Rattle.rules.specs.Unlisting.{Opened, Sofar, State, fresh, sofar, sized, owed, pending, least, room, deeper, added, opened, operands, list, made, blocksOf, rowLine, statementLine, indent, functionLine, mainLine, topLines, linesAfter, lines, ended, file}
+use Rattle.rules.proofs.Tests.{T→eq}
+use Rattle.trips.proofs.Grammars.{none-not-some, word-same, takes-next}
+use Rattle.trips.proofs.Reading.{run, run-next, run-on}
+use Rattle.trips.proofs.Offered.{place-numbered, apart-decimal, elseLine}
+use Rattle.trips.proofs.Rows.{byte-of-row, name-filled, name-at, place-name}
+use Rattle.trips.proofs.Raw.{Raw, plain, called, fork, loop, Raws, end, _then_, rawBytes, rawsBytes, said, rawLine, rawLines, rawsLines, Operands, Ranged, ranged-length, operands-length, takes-operands, takes-list, Good, good-plain, good-called, good-fork, good-loop, Goods, good-end, good-then, RawFunction, RawProgram, headOf, heads, functionsBytes, programBytes, rawFunctions, rawProgramLines, GoodFunctions, no-functions, a-function, GoodProgram, Runs}
+
+abbrev pub state : Scope → Option (List Function) → List Opened → List ℕ → Sofar
+state S a bs bytes = record { scope = S; after = a; open-blocks = bs; bytes = bytes }
+
+-- Lines and indents.
+pub takes-word : {A : Type 0} (w : Text) (g : Grammar A) (ws : List Text) → takes (word w g) (w ∷ ws) ≡ takes g ws
+takes-word w g ws = takes-next none (w ∷ []) (λ i. g) w ws 0 (ap (λ (b : Bool). elim b [ true ↦ some 0 | false ↦ none ]) (word-same w))
+
+pub takes-indent : {A : Type 0} (n : ℕ) (g : Grammar A) (l : Line) → takes (indent n g) (indented n l) ≡ takes g l
+takes-indent zero g l = refl
+takes-indent (suc n) g l = takes-indent n g l
+
+-- a line that is less deep
+pub not-so-deep : {A : Type 0} (k m : ℕ) → m ≤ k → (g : Grammar A) (x : ℕ) (w : Text) (ws : List Text) → takes (indent (suc k) g) (indented m ((x ∷ w) ∷ ws)) ≡ none
+not-so-deep k zero h g x w ws = refl
+not-so-deep zero (suc m) h g x w ws = absurd (not-suc-le-zero h)
+not-so-deep (suc k) (suc m) h g x w ws = not-so-deep k m (le-of-suc-le-suc h) g x w ws
+
+pub name-taken : (p : Sofar) (b : ℕ) (r : Row) → rowOf b ≡ some r → (ws : List Text) → takes (statementLine p) (nameOf b ∷ ws) ≡ takes (rowLine p b (some r)) ws
+name-taken p zero r h ws = none-not-some h
+name-taken p (suc i) r h ws =
+    let l : i < length table = omega (arith, byte-of-row (suc i) r h .1, byte-of-row (suc i) r h .2) in
+    ap (λ (w : Text). takes (statementLine p) (w ∷ ws)) (name-at i)
+    ∙ takes-next none names (λ i. rowLine p (suc i) (rowOf (suc i))) (getD names i []) ws i (place-name i l)
+    ∙ ap (λ (o : Option Row). takes (rowLine p (suc i) o) ws) h
+
+pub roomy : {A : Type 0} (p : Sofar) (n : ℕ) (g : Grammar A) → least p + n ≤ 4096 → room p n g ≡ g
+roomy {A} p n g h = ap {B = Grammar A} (λ (b : Bool). elim b [ true ↦ g | false ↦ dead ]) (T→eq (leb (least p + n) 4096) (le→leb (least p + n) 4096 h))
+
+pub not-deepest : {A : Type 0} (p : Sofar) (n : ℕ) (g : Grammar A) → length (p .open-blocks) < 8 → deeper p n g ≡ g
+not-deepest p zero g h = refl
+not-deepest {A} p (suc n) g h = ap {B = Grammar A} (λ (b : Bool). elim b [ true ↦ g | false ↦ dead ]) (T→eq (ltb (length (p .open-blocks)) 8) (lt→ltb (length (p .open-blocks)) 8 h))
+
+-- a statement's line, up to what its row's meaning makes of it
+module _ (p : Sofar) (b : ℕ) (r : Row) (m : Meaning) (row : rowOf b ≡ some r) (means : r .meaning ≡ m) (fits : least p + (size r + blocksOf m) ≤ 4096)
+    (deep : (g : Grammar Sofar) → deeper p (blocksOf m) g ≡ g) (xs : List ℕ) (good : Operands (p .scope) (r .operands) xs) where
+  pub line-taken : (n : ℕ) (ws : List Text) → takes (indent n (statementLine p)) (indented n (rawLine b xs ++ ws)) ≡ takes (made p m (b ∷ xs)) ws
+  line-taken n ws =
+      let G : Meaning → Grammar Sofar = λ m. operands (p .scope) (r .operands) λ xs. made p m (b ∷ xs) in
+      takes-indent n (statementLine p) (rawLine b xs ++ ws)
+      ∙ name-taken p b r row (said (operandsIn (rowOf b)) xs ++ ws)
+      ∙ ap (λ (o : Option Row). takes (rowLine p b (some r)) (said (operandsIn o) xs ++ ws)) row
+      ∙ ap (λ (m : Meaning). takes (room p (size r + blocksOf m) (deeper p (blocksOf m) (G m))) (said (r .operands) xs ++ ws)) means
+      ∙ ap (λ (g : Grammar Sofar). takes g (said (r .operands) xs ++ ws)) (roomy p (size r + blocksOf m) (deeper p (blocksOf m) (G m)) fits ∙ deep (G m))
+      ∙ takes-operands (p .scope) (r .operands) (λ xs. made p m (b ∷ xs)) xs good ws
+
+-- a state that is another once its innermost blocks have ended
+pub data Closes (q : Sofar) : Sofar → Type 0 where
+  same : Closes q q
+  closed : (S : Scope) (a : Option (List Function)) (b : Opened) (bs : List Opened) (bytes : List ℕ) → Closes q (state S a (b ∷ bs) bytes) → b .due ≡ false
+      → {p : Sofar} → p ≡ state S a bs (b .before ++ sized bytes) → Closes q p
+
+first-line : (S : Scope) (a : Option (List Function)) (b : Opened) (bs : List Opened) (bytes : List ℕ) (l : Line) (p : Sofar)
+    → takes (indent (suc (length bs)) (statementLine (state S a (b ∷ bs) bytes))) l ≡ some p → takesOne (lines (sofar (state S a (b ∷ bs) bytes))) l ≡ some p
+first-line S a b bs bytes l p h =
+    ap (λ (o : Option Sofar). elim o [ none ↦ takesOne (elim (b .due) [ true ↦ indent (length bs) (elseLine S a b bs bytes) ∷ [] | false ↦ linesAfter S a bs (b .before ++ sized bytes) ]) l | some a ↦ some a ]) h
+
+later-line : (S : Scope) (a : Option (List Function)) (b : Opened) (bs : List Opened) (bytes : List ℕ) (m : ℕ) → m ≤ length bs → (x : ℕ) (w : Text) (ws : List Text)
+    → takesOne (lines (sofar (state S a (b ∷ bs) bytes))) (indented m ((x ∷ w) ∷ ws))
+    ≡ takesOne (elim (b .due) [ true ↦ indent (length bs) (elseLine S a b bs bytes) ∷ [] | false ↦ linesAfter S a bs (b .before ++ sized bytes) ]) (indented m ((x ∷ w) ∷ ws))
+later-line S a b bs bytes m h x w ws =
+    ap (λ (o : Option Sofar). elim o [ none ↦ takesOne (elim (b .due) [ true ↦ indent (length bs) (elseLine S a b bs bytes) ∷ [] | false ↦ linesAfter S a bs (b .before ++ sized bytes) ]) (indented m ((x ∷ w) ∷ ws)) | some a ↦ some a ])
+    (not-so-deep (length bs) m h (statementLine (state S a (b ∷ bs) bytes)) x w ws)
+
+pub closes-takes : (q p : Sofar) → Closes q p → (m : ℕ) → m ≤ length (p .open-blocks) → (x : ℕ) (w : Text) (ws : List Text)
+    → takesOne (lines (sofar q)) (indented m ((x ∷ w) ∷ ws)) ≡ takesOne (lines (sofar p)) (indented m ((x ∷ w) ∷ ws))
+closes-takes q p same m h x w ws = refl
+closes-takes q p (closed S a b bs bytes c e e′) m h x w ws =
+    let k : m ≤ length bs = subst (λ (r : Sofar). m ≤ length (r .open-blocks)) e′ h in
+    let l : Line = indented m ((x ∷ w) ∷ ws) in
+    closes-takes q (state S a (b ∷ bs) bytes) c m (omega (arith, k)) x w ws ∙ later-line S a b bs bytes m k x w ws
+    ∙ ap {B = Option Sofar} (λ (d : Bool). takesOne (elim d [ true ↦ indent (length bs) (elseLine S a b bs bytes) ∷ [] | false ↦ linesAfter S a bs (b .before ++ sized bytes) ]) l) e
+    ∙ ap (λ (r : Sofar). takesOne (lines (sofar r)) l) (sym e′)
+
+pub closes-file : (q p : Sofar) → Closes q p → file (sofar q) ≡ file (sofar p)
+closes-file q p same = refl
+closes-file q p (closed S a b bs bytes c e e′) =
+    let E : Bool → Option (List ℕ) = λ d. elim d [ true ↦ none | false ↦ ended bs (b .before ++ sized bytes) ] in
+    closes-file q (state S a (b ∷ bs) bytes) c
+    ∙ ap {B = Option (List ℕ)} (λ (d : Bool). elim a [ some fs ↦ none | none ↦ elim (E d) [ none ↦ none | some z ↦ some (0x51 ∷ 0x4C ∷ 0x53 ∷ 0x00 ∷ 0x01 ∷ length (S .earlier) ∷ z) ] ]) e
+    ∙ ap (λ (r : Sofar). file (sofar r)) (sym e′)
+
+closes-run : (q p : Sofar) → Closes q p → (m : ℕ) → m ≤ length (p .open-blocks) → (x : ℕ) (w : Text) (ws : List Text) (ls : List Line)
+    → run (sofar q) (indented m ((x ∷ w) ∷ ws) ∷ ls) ≡ run (sofar p) (indented m ((x ∷ w) ∷ ws) ∷ ls)
+closes-run q p c m h x w ws ls = ap (λ (o : Option Sofar). elim o [ none ↦ none | some r ↦ run (sofar r) ls ]) (closes-takes q p c m h x w ws)
+
+-- Statements and blocks.
+abbrev Ran : Sofar → List Line → Sofar → Type 0
+Ran p ls p′ = (q : Sofar) × (run (sofar p) ls ≡ some (sofar q)) × Closes q p′
+
+-- a tree's first line is at its depth
+starts-at : (n : ℕ) (S : Scope) (d : ℕ) (r : Raw) → Good S d r → (x : ℕ) × (w : Text) × (ws : List Text) × (ls : List Line) × (rawLines n r ≡ indented n ((x ∷ w) ∷ ws) ∷ ls)
+starts-at n S d (plain b xs) (good-plain r f row e h) =
+    let N : (x : ℕ) × (w : Text) × (nameOf b ≡ x ∷ w) = name-filled b r row in
+    (N .0, N .1, said (operandsIn (rowOf b)) xs, [], ap (λ (v : Text). indented n (v ∷ said (operandsIn (rowOf b)) xs) ∷ []) (N .2))
+starts-at n S d (called b xs ls ms) (good-called r row e h i j) =
+    let N : (x : ℕ) × (w : Text) × (nameOf b ≡ x ∷ w) = name-filled b r row in
+    (N .0, N .1, said (operandsIn (rowOf b)) xs ++ (listed at ls ++ listed with ms), [], ap (λ (v : Text). indented n (v ∷ (said (operandsIn (rowOf b)) xs ++ (listed at ls ++ listed with ms))) ∷ []) (N .2))
+starts-at n S (suc d) (fork b xs q t) (good-fork r row e h i j) =
+    let N : (x : ℕ) × (w : Text) × (nameOf b ≡ x ∷ w) = name-filled b r row in
+    let L : List Line = rawsLines (suc n) q ++ (indented n (else ∷ []) ∷ rawsLines (suc n) t) in
+    (N .0, N .1, said (operandsIn (rowOf b)) xs, L, ap (λ (v : Text). indented n (v ∷ said (operandsIn (rowOf b)) xs) ∷ L) (N .2))
+starts-at n S (suc d) (loop b xs q) (good-loop r row e h i) =
+    let N : (x : ℕ) × (w : Text) × (nameOf b ≡ x ∷ w) = name-filled b r row in
+    (N .0, N .1, said (operandsIn (rowOf b)) xs, rawsLines (suc n) q, ap (λ (v : Text). indented n (v ∷ said (operandsIn (rowOf b)) xs) ∷ rawsLines (suc n) q) (N .2))
+
+-- what follows a state follows the state that it is
+on-from : (S : Scope) (d : ℕ) (rs : Raws) → Goods S d rs → (q p : Sofar) → Closes q p → (n : ℕ) → n ≤ length (p .open-blocks) → (p′ : Sofar)
+    → ((rs ≡ end → p′ ≡ p)) → Ran p (rawsLines n rs) p′ → Ran q (rawsLines n rs) p′
+on-from S d end g q p c n h p′ e r = (q, refl, subst (λ (x : Sofar). Closes q x) (sym (e refl)) c)
+on-from S d (t then rs) (good-then g gs) q p c n h p′ e r =
+    let s : (x : ℕ) × (w : Text) × (ws : List Text) × (ls : List Line) × (rawLines n t ≡ indented n ((x ∷ w) ∷ ws) ∷ ls) = starts-at n S d t g in
+    let z : run (sofar q) (rawLines n t ++ rawsLines n rs) ≡ run (sofar p) (rawLines n t ++ rawsLines n rs) =
+    ap (λ (l : List Line). run (sofar q) (l ++ rawsLines n rs)) (s .4) ∙ closes-run q p c n h (s .0) (s .1) (s .2) (s .3 ++ rawsLines n rs) ∙ ap (λ (l : List Line). run (sofar p) (l ++ rawsLines n rs)) (sym (s .4)) in
+    (r .0, z ∙ r .1, r .2)
+
+pub size-xs : (S : Scope) (r : Row) (xs : List ℕ) → Operands S (r .operands) xs → size r ≡ suc (length xs)
+size-xs S r xs h = ap suc (sym (operands-length S (r .operands) xs h))
+
+one-step : (p q : Sofar) (l : Line) → takesOne (lines (sofar p)) l ≡ some q → run (sofar p) (l ∷ []) ≡ some (sofar q)
+one-step p q l h = run-next (sofar p) l [] q h
+
+mutual
+  run-raw : (S : Scope) (a : Option (List Function)) (d : ℕ) (r : Raw) → Good S d r → (b : Opened) (bs : List Opened) (bytes : List ℕ) → length bs + d ≡ 7
+      → least (state S a (b ∷ bs) bytes) + length (rawBytes r) ≤ 4096 → Ran (state S a (b ∷ bs) bytes) (rawLines (suc (length bs)) r) (state S a (b ∷ bs) (bytes ++ rawBytes r))
+  run-raw S a d (plain c xs) (good-plain r f row e h) b bs bytes n l =
+      let p : Sofar = state S a (b ∷ bs) bytes in
+      let z : size r ≡ suc (length xs) = size-xs S r xs h in
+      let t : takes (indent (suc (length bs)) (statementLine p)) (indented (suc (length bs)) (rawLine c xs)) ≡ some (added p (c ∷ xs)) =
+      ap (λ (w : Line). takes (indent (suc (length bs)) (statementLine p)) (indented (suc (length bs)) w)) (sym (append-nil (rawLine c xs)))
+      ∙ line-taken p c r (simple f) row e (omega arith) (λ g. refl) xs h (suc (length bs)) [] in
+      (added p (c ∷ xs), one-step p (added p (c ∷ xs)) (indented (suc (length bs)) (rawLine c xs)) (first-line S a b bs bytes (indented (suc (length bs)) (rawLine c xs)) (added p (c ∷ xs)) t), same)
+  run-raw S a d (called c xs ls ms) (good-called r row e h i j) b bs bytes n l =
+      let p : Sofar = state S a (b ∷ bs) bytes in
+      let z : size r ≡ suc (length xs) = size-xs S r xs h in
+      let li : length ls ≡ length (replicate (getD xs 1 0) Location) = ranged-length S 0 (replicate (getD xs 1 0) Location) ls i in
+      let lj : length ms ≡ length (replicate (getD xs 2 0) Slot) = ranged-length S 0 (replicate (getD xs 2 0) Slot) ms j in
+      let li′ : length (replicate (getD xs 1 0) Location) ≡ getD xs 1 0 = length-replicate (getD xs 1 0) Location in
+      let lj′ : length (replicate (getD xs 2 0) Slot) ≡ getD xs 2 0 = length-replicate (getD xs 2 0) Slot in
+      let lx : length (xs ++ (ls ++ ms)) ≡ length xs + length (ls ++ ms) = length-append xs (ls ++ ms) in
+      let ly : length (ls ++ ms) ≡ length ls + length ms = length-append ls ms in
+      let w : Line = listed at ls ++ listed with ms in
+      let p′ : Sofar = state S a (b ∷ bs) (bytes ++ (c ∷ (xs ++ (ls ++ ms)))) in
+      let g₂ : List ℕ → List ℕ → Grammar Sofar = λ ls ms. stop (some (added p ((c ∷ xs) ++ (ls ++ ms)))) in
+      let g₁ : List ℕ → Grammar Sofar = λ ls. list S with Slot (getD xs 2 0) (g₂ ls) in
+      let t : takes (indent (suc (length bs)) (statementLine p)) (indented (suc (length bs)) (rawLine c xs ++ w)) ≡ some p′ =
+      line-taken p c r calls row e (omega arith) (λ g. refl) xs h (suc (length bs)) w
+      ∙ ap (λ (g : Grammar Sofar). takes g w) (roomy p (suc (length xs) + getD xs 1 0 + getD xs 2 0) (list S at Location (getD xs 1 0) g₁) (omega arith))
+      ∙ takes-list S at Location refl (λ x. refl) (getD xs 1 0) g₁ ls i (listed with ms)
+      ∙ ap (takes (g₁ ls)) (sym (append-nil (listed with ms)))
+      ∙ takes-list S with Slot refl (λ x. refl) (getD xs 2 0) (g₂ ls) ms j [] in
+      (p′, one-step p p′ (indented (suc (length bs)) (rawLine c xs ++ w)) (first-line S a b bs bytes (indented (suc (length bs)) (rawLine c xs ++ w)) p′ t), same)
+  run-raw S a (suc d) (fork c xs q t) (good-fork r row e h i j) b bs bytes n l =
+      let p : Sofar = state S a (b ∷ bs) bytes in
+      let N : ℕ = suc (length bs) in
+      let z : size r ≡ suc (length xs) = size-xs S r xs h in
+      let qb : List ℕ = rawsBytes q in
+      let tb : List ℕ = rawsBytes t in
+      let B₁ : Opened = record { before = bytes ++ (c ∷ xs); due = true } in
+      let B₂ : Opened = record { before = (bytes ++ (c ∷ xs)) ++ sized (rawsBytes q); due = false } in
+      let p₁ : Sofar = state S a (B₁ ∷ (b ∷ bs)) [] in
+      let p₂ : Sofar = state S a (B₂ ∷ (b ∷ bs)) [] in
+      let lb : length (bytes ++ (c ∷ xs)) ≡ length bytes + suc (length xs) = length-append bytes (c ∷ xs) in
+      let lc : length ((bytes ++ (c ∷ xs)) ++ sized (rawsBytes q)) ≡ length (bytes ++ (c ∷ xs)) + suc (suc (length (rawsBytes q))) = length-append (bytes ++ (c ∷ xs)) (sized (rawsBytes q)) in
+      let lx : length (xs ++ (sized (rawsBytes q) ++ sized (rawsBytes t))) ≡ length xs + length (sized (rawsBytes q) ++ sized (rawsBytes t)) = length-append xs (sized (rawsBytes q) ++ sized (rawsBytes t)) in
+      let ly : length (sized (rawsBytes q) ++ sized (rawsBytes t)) ≡ suc (suc (length (rawsBytes q))) + suc (suc (length (rawsBytes t))) = length-append (sized (rawsBytes q)) (sized (rawsBytes t)) in
+      let line : takes (indent (suc (length bs)) (statementLine p)) (indented (suc (length bs)) (rawLine c xs)) ≡ some p₁ =
+      ap (λ (w : Line). takes (indent (suc (length bs)) (statementLine p)) (indented (suc (length bs)) w)) (sym (append-nil (rawLine c xs)))
+      ∙ line-taken p c r branches row e (omega arith) (λ g. not-deepest p 4 g (omega arith)) xs h (suc (length bs)) [] in
+      let R : Ran p₁ (rawsLines (suc (suc (length bs))) q) (state S a (B₁ ∷ (b ∷ bs)) (rawsBytes q)) = run-raws S a d q i B₁ (b ∷ bs) [] (omega arith) (omega arith) in
+      let els : takesOne (lines (sofar (R .0))) (indented (suc (length bs)) (else ∷ [])) ≡ some p₂ =
+      closes-takes (R .0) (state S a (B₁ ∷ (b ∷ bs)) (rawsBytes q)) (R .2) (suc (length bs)) (omega arith) 0x65 (0x6C ∷ 0x73 ∷ 0x65 ∷ []) []
+      ∙ later-line S a B₁ (b ∷ bs) (rawsBytes q) (suc (length bs)) (omega arith) 0x65 (0x6C ∷ 0x73 ∷ 0x65 ∷ []) []
+      ∙ ap (λ (o : Option Sofar). elim o [ none ↦ none | some x ↦ some x ]) (takes-indent (suc (length bs)) (elseLine S a B₁ (b ∷ bs) (rawsBytes q)) (else ∷ [])) in
+      let Q : Ran p₂ (rawsLines (suc (suc (length bs))) t) (state S a (B₂ ∷ (b ∷ bs)) (rawsBytes t)) = run-raws S a d t j B₂ (b ∷ bs) [] (omega arith) (omega arith) in
+      let s : run (sofar p) (indented (suc (length bs)) (rawLine c xs) ∷ (rawsLines (suc (suc (length bs))) q ++ (indented (suc (length bs)) (else ∷ []) ∷ rawsLines (suc (suc (length bs))) t))) ≡ some (sofar (Q .0)) =
+      run-next (sofar p) (indented (suc (length bs)) (rawLine c xs)) (rawsLines (suc (suc (length bs))) q ++ (indented (suc (length bs)) (else ∷ []) ∷ rawsLines (suc (suc (length bs))) t)) p₁ (first-line S a b bs bytes (indented (suc (length bs)) (rawLine c xs)) p₁ line)
+      ∙ run-on (sofar p₁) (sofar (R .0)) (rawsLines (suc (suc (length bs))) q) (indented (suc (length bs)) (else ∷ []) ∷ rawsLines (suc (suc (length bs))) t) (R .1)
+      ∙ run-next (sofar (R .0)) (indented (suc (length bs)) (else ∷ [])) (rawsLines (suc (suc (length bs))) t) p₂ els ∙ Q .1 in (
+        Q .0,
+        s,
+        closed S a B₂ (b ∷ bs) (rawsBytes t) (Q .2) refl
+            (ap (state S a (b ∷ bs)) (sym (append-assoc bytes (c ∷ xs) (sized (rawsBytes q) ++ sized (rawsBytes t))) ∙ sym (append-assoc (bytes ++ (c ∷ xs)) (sized (rawsBytes q)) (sized (rawsBytes t))))),
+      )
+  run-raw S a (suc d) (loop c xs q) (good-loop r row e h i) b bs bytes n l =
+      let p : Sofar = state S a (b ∷ bs) bytes in
+      let z : size r ≡ suc (length xs) = size-xs S r xs h in
+      let B : Opened = record { before = bytes ++ (c ∷ xs); due = false } in
+      let p₁ : Sofar = state S a (B ∷ (b ∷ bs)) [] in
+      let lb : length (bytes ++ (c ∷ xs)) ≡ length bytes + suc (length xs) = length-append bytes (c ∷ xs) in
+      let lx : length (xs ++ sized (rawsBytes q)) ≡ length xs + suc (suc (length (rawsBytes q))) = length-append xs (sized (rawsBytes q)) in
+      let t : takes (indent (suc (length bs)) (statementLine p)) (indented (suc (length bs)) (rawLine c xs)) ≡ some p₁ =
+      ap (λ (w : Line). takes (indent (suc (length bs)) (statementLine p)) (indented (suc (length bs)) w)) (sym (append-nil (rawLine c xs)))
+      ∙ line-taken p c r loops row e (omega arith) (λ g. not-deepest p 2 g (omega arith)) xs h (suc (length bs)) [] in
+      let R : Ran p₁ (rawsLines (suc (suc (length bs))) q) (state S a (B ∷ (b ∷ bs)) (rawsBytes q)) = run-raws S a d q i B (b ∷ bs) [] (omega arith) (omega arith) in
+      let s : run (sofar p) (indented (suc (length bs)) (rawLine c xs) ∷ rawsLines (suc (suc (length bs))) q) ≡ some (sofar (R .0)) =
+      run-next (sofar p) (indented (suc (length bs)) (rawLine c xs)) (rawsLines (suc (suc (length bs))) q) p₁ (first-line S a b bs bytes (indented (suc (length bs)) (rawLine c xs)) p₁ t) ∙ R .1 in
+      (R .0, s, closed S a B (b ∷ bs) (rawsBytes q) (R .2) refl (ap (state S a (b ∷ bs)) (sym (append-assoc bytes (c ∷ xs) (sized (rawsBytes q))))))
+
+  run-raws : (S : Scope) (a : Option (List Function)) (d : ℕ) (rs : Raws) → Goods S d rs → (b : Opened) (bs : List Opened) (bytes : List ℕ) → length bs + d ≡ 7
+      → least (state S a (b ∷ bs) bytes) + length (rawsBytes rs) ≤ 4096 → Ran (state S a (b ∷ bs) bytes) (rawsLines (suc (length bs)) rs) (state S a (b ∷ bs) (bytes ++ rawsBytes rs))
+  run-raws S a d end g b bs bytes n l = (state S a (b ∷ bs) bytes, refl, subst (λ (z : List ℕ). Closes (state S a (b ∷ bs) bytes) (state S a (b ∷ bs) z)) (sym (append-nil bytes)) same)
+  run-raws S a d (r then rs) (good-then g gs) b bs bytes n l =
+      let la : length (rawBytes r ++ rawsBytes rs) ≡ length (rawBytes r) + length (rawsBytes rs) = length-append (rawBytes r) (rawsBytes rs) in
+      let lb : length (bytes ++ rawBytes r) ≡ length bytes + length (rawBytes r) = length-append bytes (rawBytes r) in
+      let R : Ran (state S a (b ∷ bs) bytes) (rawLines (suc (length bs)) r) (state S a (b ∷ bs) (bytes ++ rawBytes r)) = run-raw S a d r g b bs bytes n (omega arith) in
+      let Q : Ran (state S a (b ∷ bs) (bytes ++ rawBytes r)) (rawsLines (suc (length bs)) rs) (state S a (b ∷ bs) ((bytes ++ rawBytes r) ++ rawsBytes rs)) = run-raws S a d rs gs b bs (bytes ++ rawBytes r) n (omega arith) in
+      let P : Ran (R .0) (rawsLines (suc (length bs)) rs) (state S a (b ∷ bs) ((bytes ++ rawBytes r) ++ rawsBytes rs)) =
+      on-from S d rs gs (R .0) (state S a (b ∷ bs) (bytes ++ rawBytes r)) (R .2) (suc (length bs)) (omega arith) (state S a (b ∷ bs) ((bytes ++ rawBytes r) ++ rawsBytes rs))
+      (λ e. ap (λ (z : Raws). state S a (b ∷ bs) ((bytes ++ rawBytes r) ++ rawsBytes z)) e ∙ ap (state S a (b ∷ bs)) (append-nil (bytes ++ rawBytes r))) Q in (
+        P .0,
+        run-on (sofar (state S a (b ∷ bs) bytes)) (sofar (R .0)) (rawLines (suc (length bs)) r) (rawsLines (suc (length bs)) rs) (R .1) ∙ P .1,
+        subst (λ (z : List ℕ). Closes (P .0) (state S a (b ∷ bs) z)) (append-assoc bytes (rawBytes r) (rawsBytes rs)) (P .2),
+      )
+
+-- Functions and main.
+least-8 : (k m : ℕ) → m ≤ 8 → m ≤ k → m < suc (elim (leb k 8) [ true ↦ k | false ↦ 8 ])
+least-8 k m h l = go (leb k 8)
+  where
+    go : (b : Bool) → m < suc (elim b [ true ↦ k | false ↦ 8 ])
+    go true = omega arith
+    go false = omega arith
+
+abbrev pub inFunction : List Function → List ℕ → ℕ → ℕ → Sofar
+inFunction fs F k m = state (record { places = k; earlier = fs }) (some (fs ++ (headOf k m ∷ []))) (record { before = F ++ (k ∷ m ∷ []); due = false } ∷ []) []
+
+takes-number : {A : Type 0} (n : ℕ) (g : ℕ → Grammar A) (x : ℕ) → x < n → (ws : List Text) → takes (ask none (upTo 0 n decimal) g) (decimal x ∷ ws) ≡ takes (g x) ws
+takes-number n g x h ws = takes-next none (upTo 0 n decimal) g (decimal x) ws x (place-numbered n decimal (apart-decimal n) x h)
+
+function-taken : (fs : List Function) (F : List ℕ) (k m : ℕ) → k ≤ 16 → m ≤ 8 → m ≤ k
+    → takes (functionLine fs F) (function ∷ decimal (length fs) ∷ locations ∷ decimal k ∷ arguments ∷ decimal m ∷ []) ≡ some (inFunction fs F k m)
+function-taken fs F k m hk hm l =
+    let M : ℕ → ℕ = λ k. suc (elim (leb k 8) [ true ↦ k | false ↦ 8 ]) in
+    let g₃ : ℕ → Grammar Sofar = λ k. ask none (upTo 0 (M k) decimal) λ m. stop (some (inFunction fs F k m)) in
+    let g₂ : Grammar Sofar = ask none (upTo 0 17 decimal) λ k. word arguments (g₃ k) in
+    takes-word (decimal (length fs)) (word locations g₂) (locations ∷ decimal k ∷ arguments ∷ decimal m ∷ [])
+    ∙ takes-number 17 (λ k. word arguments (g₃ k)) k (omega arith) (arguments ∷ decimal m ∷ [])
+    ∙ takes-number (M k) (λ m. stop (some (inFunction fs F k m))) m (least-8 k m hm l) []
+
+top-function : (S : Scope) (fs : List Function) (F : List ℕ) (l : Line) (p : Sofar) → 12 + length F ≤ 4096 → length fs < 15 → takes (functionLine fs F) l ≡ some p
+    → takesOne (lines (sofar (state S (some fs) [] F))) l ≡ some p
+top-function S fs F l p h k t =
+    ap {B = Option Sofar} (λ (b : Bool). takesOne (elim b [ true ↦ elim (ltb (length fs) 15) [ true ↦ functionLine fs F ∷ [] | false ↦ [] ] | false ↦ [] ] ++ (mainLine fs F ∷ [])) l) (T→eq (leb (12 + length F) 4096) (le→leb (12 + length F) 4096 h))
+    ∙ ap {B = Option Sofar} (λ (b : Bool). takesOne (elim b [ true ↦ functionLine fs F ∷ [] | false ↦ [] ] ++ (mainLine fs F ∷ [])) l) (T→eq (ltb (length fs) 15) (lt→ltb (length fs) 15 k))
+    ∙ ap (λ (o : Option Sofar). elim o [ none ↦ takesOne (mainLine fs F ∷ []) l | some a ↦ some a ]) t
+
+abbrev pub inMain : List Function → List ℕ → Sofar
+inMain fs F = state (record { places = 256; earlier = fs }) none (record { before = F; due = false } ∷ []) []
+
+top-main : (S : Scope) (fs : List Function) (F : List ℕ) → takesOne (lines (sofar (state S (some fs) [] F))) (main ∷ []) ≡ some (inMain fs F)
+top-main S fs F = go (leb (12 + length F) 4096) (ltb (length fs) 15)
+  where
+    go : (a b : Bool) → takesOne (elim a [ true ↦ elim b [ true ↦ functionLine fs F ∷ [] | false ↦ [] ] | false ↦ [] ] ++ (mainLine fs F ∷ [])) (main ∷ []) ≡ some (inMain fs F)
+    go true true = refl
+    go true false = refl
+    go false b = refl
+
+abbrev RanFunctions : Sofar → List Line → List Function → List ℕ → Type 0
+RanFunctions p ls fs F = (S : Scope) × (q : Sofar) × (run (sofar p) ls ≡ some (sofar q)) × Closes q (state S (some fs) [] F)
+
+run-functions : (gs : List RawFunction) (fs : List Function) → GoodFunctions fs gs → (S : Scope) (F : List ℕ) (p : Sofar) → Closes p (state S (some fs) [] F) → length fs + length gs ≤ 15
+    → 8 + length F + length (functionsBytes gs) ≤ 4096 → RanFunctions p (rawFunctions (length fs) gs) (fs ++ heads gs) (F ++ functionsBytes gs)
+run-functions [] fs g S F p c n l =
+    (S, p, refl, subst (λ (z : List ℕ). Closes p (state S (some (fs ++ [])) [] z)) (sym (append-nil F)) (subst (λ (z : List Function). Closes p (state S (some z) [] F)) (sym (append-nil fs)) c))
+run-functions (f ∷ gs) fs (a-function hk hm hl body rest) S F p c n l =
+    let k : ℕ = f .k in
+    let m : ℕ = f .m in
+    let fs′ : List Function = fs ++ (headOf (f .k) (f .m) ∷ []) in
+    let bb : List ℕ = rawsBytes (f .body) in
+    let F′ : List ℕ = (F ++ (f .k ∷ f .m ∷ [])) ++ sized (rawsBytes (f .body)) in
+    let B : Opened = record { before = F ++ (f .k ∷ f .m ∷ []); due = false } in
+    let T : Scope = record { places = f .k; earlier = fs } in
+    let lf : length (fs ++ (headOf (f .k) (f .m) ∷ [])) ≡ length fs + 1 = length-append fs (headOf (f .k) (f .m) ∷ []) in
+    let l₁ : length (F ++ (f .k ∷ f .m ∷ [])) ≡ length F + 2 = length-append F (f .k ∷ f .m ∷ []) in
+    let l₂ : length ((F ++ (f .k ∷ f .m ∷ [])) ++ sized (rawsBytes (f .body))) ≡ length (F ++ (f .k ∷ f .m ∷ [])) + suc (suc (length (rawsBytes (f .body)))) = length-append (F ++ (f .k ∷ f .m ∷ [])) (sized (rawsBytes (f .body))) in
+    let l₃ : length (sized (rawsBytes (f .body)) ++ functionsBytes gs) ≡ suc (suc (length (rawsBytes (f .body)))) + length (functionsBytes gs) = length-append (sized (rawsBytes (f .body))) (functionsBytes gs) in
+    let line : Line = function ∷ decimal (length fs) ∷ locations ∷ decimal (f .k) ∷ arguments ∷ decimal (f .m) ∷ [] in
+    let s₁ : takesOne (lines (sofar p)) line ≡ some (inFunction fs F (f .k) (f .m)) =
+    closes-takes p (state S (some fs) [] F) c 0 (omega arith) 0x66 (0x75 ∷ 0x6E ∷ 0x63 ∷ 0x74 ∷ 0x69 ∷ 0x6F ∷ 0x6E ∷ []) (decimal (length fs) ∷ locations ∷ decimal (f .k) ∷ arguments ∷ decimal (f .m) ∷ [])
+    ∙ top-function S fs F line (inFunction fs F (f .k) (f .m)) (omega arith) (omega arith) (function-taken fs F (f .k) (f .m) hk hm hl) in
+    let R : Ran (inFunction fs F (f .k) (f .m)) (rawsLines 1 (f .body)) (state T (some fs′) (B ∷ []) (rawsBytes (f .body))) = run-raws T (some fs′) 7 (f .body) body B [] [] (omega arith) (omega arith) in
+    let C : Closes (R .0) (state T (some fs′) [] F′) = closed T (some fs′) B [] (rawsBytes (f .body)) (R .2) refl refl in
+    let Q : RanFunctions (R .0) (rawFunctions (length fs′) gs) (fs′ ++ heads gs) (F′ ++ functionsBytes gs) = run-functions gs fs′ rest T F′ (R .0) C (omega arith) (omega arith) in
+    let i : length fs′ ≡ suc (length fs) = omega (arith, lf) in (
+      Q .0,
+      Q .1,
+      run-next (sofar p) line (rawsLines 1 (f .body) ++ rawFunctions (suc (length fs)) gs) (inFunction fs F (f .k) (f .m)) s₁
+          ∙ run-on (sofar (inFunction fs F (f .k) (f .m))) (sofar (R .0)) (rawsLines 1 (f .body)) (rawFunctions (suc (length fs)) gs) (R .1)
+          ∙ ap (λ (j : ℕ). run (sofar (R .0)) (rawFunctions j gs)) (sym i) ∙ Q .2,
+      subst (λ (z : List ℕ). Closes (Q .1) (state (Q .0) (some (fs ++ (headOf (f .k) (f .m) ∷ heads gs))) [] z))
+          (append-assoc (F ++ (f .k ∷ f .m ∷ [])) (sized (rawsBytes (f .body))) (functionsBytes gs) ∙ append-assoc F (f .k ∷ f .m ∷ []) (sized (rawsBytes (f .body)) ++ functionsBytes gs))
+          (subst (λ (z : List Function). Closes (Q .1) (state (Q .0) (some z) [] (F′ ++ functionsBytes gs))) (append-assoc fs (headOf (f .k) (f .m) ∷ []) (heads gs)) (Q .3)),
+    )
+
+pub length-heads : (gs : List RawFunction) → length (heads gs) ≡ length gs
+length-heads [] = refl
+length-heads (g ∷ gs) = ap suc (length-heads gs)
+
+pub runs : Runs
+runs q g =
+    let gs : List RawFunction = q .functions in
+    let mb : List ℕ = rawsBytes (q .main) in
+    let F : List ℕ = functionsBytes (q .functions) in
+    let lp : length (functionsBytes (q .functions) ++ sized (rawsBytes (q .main))) ≡ length (functionsBytes (q .functions)) + suc (suc (length (rawsBytes (q .main)))) = length-append (functionsBytes (q .functions)) (sized (rawsBytes (q .main))) in
+    let sh : length (programBytes q) ≤ 4096 = g .short in
+    let p₀ : Sofar = state (record { places = 0; earlier = [] }) (some []) [] [] in
+    let R : RanFunctions p₀ (rawFunctions 0 (q .functions)) (heads (q .functions)) (functionsBytes (q .functions)) =
+    run-functions (q .functions) [] (g .functions) (record { places = 0; earlier = [] }) [] p₀ same (omega (arith, g .few)) (omega arith) in
+    let M : Scope = record { places = 256; earlier = heads (q .functions) } in
+    let B : Opened = record { before = functionsBytes (q .functions); due = false } in
+    let s₁ : takesOne (lines (sofar (R .1))) (main ∷ []) ≡ some (inMain (heads (q .functions)) (functionsBytes (q .functions))) =
+    closes-takes (R .1) (state (R .0) (some (heads (q .functions))) [] (functionsBytes (q .functions))) (R .3) 0 (omega arith) 0x6D (0x61 ∷ 0x69 ∷ 0x6E ∷ []) []
+    ∙ top-main (R .0) (heads (q .functions)) (functionsBytes (q .functions)) in
+    let Q : Ran (inMain (heads (q .functions)) (functionsBytes (q .functions))) (rawsLines 1 (q .main)) (state M none (B ∷ []) (rawsBytes (q .main))) = run-raws M none 7 (q .main) (g .main) B [] [] (omega arith) (omega arith) in
+    let C : Closes (Q .0) (state M none [] (functionsBytes (q .functions) ++ sized (rawsBytes (q .main)))) = closed M none B [] (rawsBytes (q .main)) (Q .2) refl refl in (
+      sofar (Q .0),
+      run-on (sofar p₀) (sofar (R .1)) (rawFunctions 0 (q .functions)) ((main ∷ []) ∷ rawsLines 1 (q .main)) (R .2)
+          ∙ run-next (sofar (R .1)) (main ∷ []) (rawsLines 1 (q .main)) (inMain (heads (q .functions)) (functionsBytes (q .functions))) s₁ ∙ Q .1,
+      closes-file (Q .0) (state M none [] (functionsBytes (q .functions) ++ sized (rawsBytes (q .main)))) C
+          ∙ ap (λ (n : ℕ). some (0x51 ∷ 0x4C ∷ 0x53 ∷ 0x00 ∷ 0x01 ∷ n ∷ (functionsBytes (q .functions) ++ sized (rawsBytes (q .main))))) (length-heads (q .functions)),
+    )

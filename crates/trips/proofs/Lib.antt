@@ -5,3 +5,4 @@ pub mod Reading
 pub mod Offered
 pub mod Raw
 pub mod Running
+pub mod Standing

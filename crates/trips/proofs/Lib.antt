@@ -6,3 +6,4 @@ pub mod Offered
 pub mod Raw
 pub mod Running
 pub mod Standing
+pub mod Placed

@@ -7,3 +7,4 @@ pub mod Raw
 pub mod Running
 pub mod Standing
 pub mod Placed
+pub mod Readback

@@ -8,3 +8,4 @@ pub mod Running
 pub mod Standing
 pub mod Placed
 pub mod Readback
+pub mod Parsed

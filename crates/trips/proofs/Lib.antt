@@ -9,3 +9,4 @@ pub mod Standing
 pub mod Placed
 pub mod Readback
 pub mod Parsed
+pub mod Lengths

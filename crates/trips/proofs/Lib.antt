@@ -10,3 +10,4 @@ pub mod Placed
 pub mod Readback
 pub mod Parsed
 pub mod Lengths
+pub mod Listings

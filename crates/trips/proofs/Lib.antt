@@ -11,3 +11,4 @@ pub mod Readback
 pub mod Parsed
 pub mod Lengths
 pub mod Listings
+pub mod Once

@@ -12,3 +12,5 @@ pub mod Parsed
 pub mod Lengths
 pub mod Listings
 pub mod Once
+pub mod Cases
+pub mod Limits

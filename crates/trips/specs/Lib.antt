@@ -1,1 +1,3 @@
 pub mod Trips
+pub mod Cases
+pub mod Limits

@@ -1,5 +1,5 @@
 -- The cases hold: the two definitions, computed.
-use mathlib.Core.List.{List, _∷_, [], _++_, map}
+use mathlib.Core.List.{_∷_, [], _++_, map}
 use mathlib.Core.Path.{_≡_, refl}
 use lib.ListN.{length}
 use Rattle.answers.specs.Check.{ok, refused, refusal, _>>=_, _>>_}

@@ -1,19 +1,19 @@
 -- Grammars: a start that is admitted is the start of a line that is taken, and the other way round.
-use mathlib.Core.Bool.{Bool, true, false, not, _&&_, false≢true}
+use mathlib.Core.Bool.{Bool, true, false, _&&_, false≢true}
 use mathlib.Core.List.{List, [], _∷_, _++_, append-assoc, append-nil}
 use mathlib.Core.Logic.{_⊎_, inl, inr}
 use mathlib.Core.Option.{Option, none, some}
 use mathlib.Core.Path.{_≡_, refl, sym, ap, subst, _∙_}
 use native.Mathlib.Nat.{le-of-suc-le-suc, not-suc-le-zero}
 use native.Mathlib.Omega.{arith}
-use Prim.Native.Nat.{ℕ, zero, suc, _+_, _<_, _≤_}
-use lib.Dec.{T, eqb, eqb→eq, eqb-refl}
+use Prim.Native.Nat.{ℕ, zero, suc, _<_}
+use lib.Dec.{eqb, eqb→eq, eqb-refl}
 use lib.ListN.{getD, length}
 use Rattle.rules.specs.Basics.{sameList}
 use Rattle.rules.specs.Words.{Text, space, newline, split, behind, join, opens, place}
-use Rattle.rules.specs.Grammar.{Grammar, stop, ask, isSome, someBelow, takes, live, starts, word, takesOne, startsOne}
+use Rattle.rules.specs.Grammar.{Grammar, stop, ask, isSome, someBelow, takes, live, starts}
 use Rattle.rules.proofs.Tests.{T→eq, eq→T}
-use Rattle.trips.proofs.Texts.{Free, AllFree, split-shape, join-split, split-seam, split-one, split-behind}
+use Rattle.trips.proofs.Texts.{Free, split-shape, split-seam, split-one}
 
 pub none-not-some : {A X : Type 0} {a : A} → none ≡ some a → X
 none-not-some e = let z : _≡_ {A = ℕ} 0 1 = cc in absurd (omega arith)

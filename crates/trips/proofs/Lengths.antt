@@ -1,29 +1,27 @@
 -- A listing has at most sixteen characters for each byte of its program.
-use mathlib.Core.Bool.{Bool, true, false, not, _&&_}
+use mathlib.Core.Bool.{Bool, true, false, _&&_}
 use mathlib.Core.List.{List, [], _∷_, _++_, append-assoc, append-nil, map}
-use mathlib.Core.Option.{Option, none, some}
+use mathlib.Core.Option.{some}
 use mathlib.Core.Path.{_≡_, refl, sym, ap, subst, _∙_}
-use native.Mathlib.Nat.{not-suc-le-zero}
 use native.Mathlib.Omega.{arith}
-use Prim.Native.Nat.{ℕ, zero, suc, _+_, _-_, _*_, _/_, _%_, _<_, _≤_}
-use lib.Dec.{T, eqb, ltb, leb, leb→le}
-use lib.ListN.{getD, length, length-append, replicate}
+use Prim.Native.Nat.{ℕ, zero, suc, _+_, _*_, _/_, _%_, _≤_}
+use lib.Dec.{ltb, leb, leb→le}
+use lib.ListN.{getD, length, length-append}
 use Rattle.answers.specs.Check.{ok}
 use Rattle.rules.specs.Basics.{all, chosen}
-use Rattle.rules.proofs.Basics.{all-upTo}
 use Rattle.rules.specs.declared.statements.Operand.{Operand}
 use Rattle.rules.specs.declared.statements.Operand.the-variants.{Slot, Location, Gate, Basis, Value, Callee, CalleeK, CalleeM, Nothing}
 use Rattle.rules.specs.Syntax.{Function, Program}
-use Rattle.rules.specs.Table.{Row, table, rowOf, size, names, nameOf}
+use Rattle.rules.specs.Table.{Row, rowOf, nameOf}
 use Rattle.rules.specs.Program.{Scope, readProgram}
 use Rattle.rules.specs.Words.{Text, space, newline, behind, join, written, decimal}
 use Rattle.rules.specs.Names.{gates, program, function, locations, arguments, main, else, at, with}
-use Rattle.rules.specs.Listing.{spoken, silent, Line, indented, listed, operandsIn, programLines, listing}
+use Rattle.rules.specs.Listing.{spoken, silent, Line, indented, listed, operandsIn, programLines}
 use Rattle.rules.specs.Unlisting.{sized}
-use Rattle.trips.specs.Trips.{Bytes, Short}
-use Rattle.rules.proofs.Tests.{T→eq, eq→T}
-use Rattle.trips.proofs.Reading.{listing-of, written-append}
-use Rattle.trips.proofs.Raw.{Raw, plain, called, fork, loop, Raws, end, _then_, rawBytes, rawsBytes, said, rawLine, rawLines, rawsLines, Operands, operands-length, Good, good-plain, good-called, good-fork, good-loop, Goods, good-end, good-then, RawFunction, RawProgram, headOf, heads, functionsBytes, programBytes, rawFunctions, rawProgramLines, GoodFunctions, no-functions, a-function, GoodProgram}
+use Rattle.trips.specs.Trips.{Short}
+use Rattle.rules.proofs.Tests.{eq→T}
+use Rattle.trips.proofs.Reading.{listing-of}
+use Rattle.trips.proofs.Raw.{Raw, plain, called, fork, loop, Raws, end, _then_, rawBytes, rawsBytes, said, rawLine, rawLines, rawsLines, Operands, operands-length, Good, good-plain, good-called, good-fork, good-loop, Goods, good-then, RawFunction, RawProgram, headOf, heads, functionsBytes, programBytes, rawFunctions, rawProgramLines, GoodFunctions, a-function, GoodProgram}
 use Rattle.trips.proofs.Rows.{row-some, name-short}
 use Rattle.trips.proofs.Parsed.{reads}
 

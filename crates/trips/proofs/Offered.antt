@@ -1,13 +1,12 @@
 -- The words that the reader's lines offer differ, and have neither spaces nor newlines.
 use mathlib.Core.Bool.{Bool, true, false, not, _&&_, false≢true}
-use mathlib.Core.List.{List, [], _∷_, _++_, append-assoc, append-nil}
-use mathlib.Core.Logic.{_⊎_, inl, inr}
+use mathlib.Core.List.{List, [], _∷_, _++_}
 use mathlib.Core.Option.{Option, none, some}
 use mathlib.Core.Path.{_≡_, refl, sym, ap, subst, _∙_}
-use native.Mathlib.Nat.{le-of-suc-le-suc, not-suc-le-zero, div-add-mod', add-zero, add-suc, suc-add, zero-add}
+use native.Mathlib.Nat.{le-of-suc-le-suc, not-suc-le-zero, add-zero, zero-add}
 use native.Mathlib.Omega.{arith}
 use Prim.Native.Nat.{ℕ, zero, suc, _+_, _-_, _*_, _/_, _%_, _<_, _≤_}
-use lib.Dec.{T, eqb, eqb→eq, eqb-refl, ltb, leb}
+use lib.Dec.{T, eqb, eqb→eq, ltb, leb}
 use lib.ListN.{getD, length, replicate}
 use Rattle.rules.specs.Basics.{all, sameList, upTo}
 use Rattle.rules.proofs.Basics.{length-upTo, getD-upTo-zero, all-upTo}
@@ -20,7 +19,7 @@ use Rattle.rules.specs.Program.{Scope}
 use Rattle.rules.specs.Words.{Text, space, newline, decimal, place}
 use Rattle.rules.specs.Names.{gates, program, function, locations, arguments, main, else, at, with}
 use Rattle.rules.specs.Listing.{spoken}
-use Rattle.rules.specs.Unlisting.{count, wordsFor, Opened, Sofar, State, fresh, sofar, sized, least, added, room, deeper, operand, others, operands, list, made, blocksOf, rowLine, statementLine, indent, functionLine, mainLine, topLines, linesAfter, lines}
+use Rattle.rules.specs.Unlisting.{count, Opened, Sofar, fresh, sofar, sized, least, added, room, deeper, operand, others, operands, list, made, blocksOf, rowLine, statementLine, indent, functionLine, mainLine, topLines, linesAfter}
 use Rattle.rules.specs.Grammar.{Grammar, stop, ask, dead, word, takes}
 use Rattle.rules.proofs.Tests.{T→eq, eq→T}
 use Rattle.trips.proofs.Texts.{Free}

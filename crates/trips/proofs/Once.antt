@@ -5,15 +5,14 @@ use mathlib.Core.Logic.{_⊎_, inl, inr}
 use mathlib.Core.Path.{_≡_, refl, sym, ap, subst, _∙_}
 use native.Mathlib.Omega.{arith}
 use Prim.Native.Nat.{ℕ}
-use lib.Dec.{eqb}
 use lib.ListN.{length}
-use Rattle.answers.specs.Check.{Check, ok, refused, refusal}
+use Rattle.answers.specs.Check.{ok, refused, refusal}
 use Rattle.answers.specs.declared.Refusal.{Refusal}
 use Rattle.answers.proofs.Laws.{ok-or-refused}
 use Rattle.rules.specs.Words.{Text, newline}
 use Rattle.rules.specs.Listing.{listing}
 use Rattle.rules.specs.Unlisting.{unlisted}
-use Rattle.trips.specs.Trips.{Bytes, Begins, Unbroken, Whole, OneLine, Stops, at-line, at-end, Refuses, OnlyListings, RefusesExactly}
+use Rattle.trips.specs.Trips.{Bytes, Begins, Unbroken, Whole, OneLine, Stops, at-line, at-end, RefusesExactly}
 use Rattle.trips.proofs.Grammars.{longer}
 use Rattle.trips.proofs.Listings.{only-listings, refuses}
 

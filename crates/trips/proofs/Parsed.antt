@@ -1,34 +1,34 @@
 -- A readable file is the bytes of a good tree, and has its lines.
-use mathlib.Core.Bool.{Bool, true, false, not, _&&_, false≢true}
+use mathlib.Core.Bool.{Bool, true, false, _&&_, false≢true}
 use mathlib.Core.List.{List, [], _∷_, _++_, append-assoc, append-nil, map}
 use mathlib.Core.Option.{Option, none, some}
 use mathlib.Core.Path.{_≡_, refl, sym, ap, subst, _∙_}
-use native.Mathlib.Nat.{le-of-suc-le-suc, not-suc-le-zero, add-zero, zero-add, add-suc, suc-add}
+use native.Mathlib.Nat.{add-zero, add-suc, suc-add}
 use native.Mathlib.Omega.{arith}
-use Prim.Native.Nat.{ℕ, zero, suc, _+_, _-_, _*_, _/_, _%_, _<_, _≤_}
-use lib.Dec.{T, eqb, ltb, leb, eqb→eq, ltb→lt, leb→le}
-use lib.ListN.{getD, length, length-append, length-replicate, length-map, replicate}
-use Rattle.answers.specs.Check.{Check, ok, refused, _>>=_, _>>_, need}
-use Rattle.answers.proofs.Laws.{Holds, not-ok, by, holds-bind, holds-then, holds-need, holds-map, holds-any, holds-at}
+use Prim.Native.Nat.{ℕ, zero, suc, _+_, _-_, _%_, _<_, _≤_}
+use lib.Dec.{eqb, ltb, leb}
+use lib.ListN.{getD, length, length-append, length-replicate, replicate}
+use Rattle.answers.specs.Check.{Check}
+use Rattle.answers.proofs.Laws.{Holds, not-ok, by, holds-bind, holds-then, holds-need, holds-map, holds-at}
 use Rattle.rules.specs.declared.program.FunctionHeader.{FunctionHeader}
-use Rattle.rules.specs.Basics.{all, chosen, upTo, byte, word, hasMark}
+use Rattle.rules.specs.Basics.{all, upTo, byte, word, hasMark}
 use Rattle.rules.proofs.Basics.{length-upTo, getD-upTo}
 use Rattle.rules.specs.declared.statements.Operand.{Operand}
 use Rattle.rules.specs.declared.statements.Operand.the-variants.{Slot, Location}
-use Rattle.rules.specs.Syntax.{Side, device, parameter, Place, Statement, op, if, while, call, Statements, done, _⨾_, Block, block, Function, Program}
-use Rattle.rules.specs.Table.{Meaning, simple, branches, loops, calls, Row, rowOf, size, nameOf}
+use Rattle.rules.specs.Syntax.{Side, device, parameter, Place, Statement, call, Statements, Block, Function, Program}
+use Rattle.rules.specs.Table.{Meaning, simple, branches, loops, calls, Row, rowOf, size}
 use Rattle.rules.specs.Program.{Read, Scope, inRange, known, operands, meant, statement, statements, readBlock, functionHeader, programHeader, functionsAt, readProgram}
-use Rattle.rules.proofs.Tests.{eqb-true, below, at-most, not-below, and-left, and-right}
-use Rattle.rules.specs.Words.{Text, decimal}
+use Rattle.rules.proofs.Tests.{eqb-true, at-most, not-below, and-left, and-right}
+use Rattle.rules.specs.Words.{decimal}
 use Rattle.rules.specs.Names.{at, with, else}
 use Rattle.rules.specs.Names as names
 use Rattle.rules.specs.Listing.{Line, indented, listed, statementLines, statementsLines, blockLines, functionsLines, programLines}
 use Rattle.rules.specs.Unlisting.{sized}
 use Rattle.trips.specs.Trips.{Bytes}
 use Rattle.trips.proofs.Grammars.{both}
-use Rattle.trips.proofs.Raw.{Raw, plain, called, fork, loop, Raws, end, _then_, rawBytes, rawsBytes, said, rawLine, rawLines, rawsLines, Within, Ranged, Operands, ranged-length, operands-length, Good, good-plain, good-called, good-fork, good-loop, Goods, good-end, good-then, RawFunction, RawProgram, headOf, heads, functionsBytes, programBytes, rawFunctions, rawProgramLines, GoodFunctions, no-functions, a-function, GoodProgram, Reads}
+use Rattle.trips.proofs.Raw.{Raw, plain, called, fork, loop, Raws, end, _then_, rawBytes, rawsBytes, rawLine, rawLines, rawsLines, Within, Ranged, Operands, Good, good-plain, good-called, good-fork, good-loop, Goods, good-end, good-then, RawFunction, RawProgram, headOf, heads, functionsBytes, programBytes, rawFunctions, rawProgramLines, GoodFunctions, no-functions, a-function, GoodProgram, Reads}
 use Rattle.trips.proofs.Rows.{headSpoken, isOperand, row-head, row-operands, row-calls}
-use Rattle.trips.proofs.Placed.{At, at-end, at-left, at-right, at-append, at-byte, at-upTo, upTo-at, at-all, stub, stubbed, map-snoc, withins, ranged-operands, words-said}
+use Rattle.trips.proofs.Placed.{At, at-end, at-append, at-upTo, at-all, stub, stubbed, map-snoc, withins, ranged-operands}
 use Rattle.trips.proofs.Readback.{moved, fixed-line, map-places}
 
 holds-choice : {A : Type 0} {P : A → Type 0} (b : Bool) {x y : Check A} → (b ≡ false → Holds P x) → (b ≡ true → Holds P y) → Holds P (elim b [ false ↦ x | true ↦ y ])

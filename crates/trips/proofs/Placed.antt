@@ -1,25 +1,22 @@
 -- Bytes that stand at a position of a file; scopes and rows as reading has them and as raw trees have them.
-use mathlib.Core.Bool.{Bool, true, false, not, _&&_, false≢true}
-use mathlib.Core.List.{List, [], _∷_, _++_, append-assoc, append-nil, map}
-use mathlib.Core.Option.{Option, none, some}
+use mathlib.Core.Bool.{true, not, false≢true}
+use mathlib.Core.List.{List, [], _∷_, _++_, append-assoc, map}
 use mathlib.Core.Path.{_≡_, refl, sym, ap, subst, _∙_}
-use native.Mathlib.Nat.{le-of-suc-le-suc, not-suc-le-zero, add-zero, zero-add, add-suc, suc-add, div-add-mod'}
+use native.Mathlib.Nat.{le-of-suc-le-suc, not-suc-le-zero, add-zero, zero-add, add-suc, suc-add}
 use native.Mathlib.Omega.{arith}
-use Prim.Native.Nat.{ℕ, zero, suc, _+_, _-_, _*_, _/_, _%_, _<_, _≤_}
-use lib.Dec.{T, eqb, ltb, leb, eqb→eq, eqb-refl, ltb→lt, lt→ltb, leb→le}
-use lib.ListN.{getD, length, length-append, length-map, List·getD-map, getElem?, replicate}
+use Prim.Native.Nat.{ℕ, zero, suc, _+_, _/_, _%_, _<_, _≤_}
+use lib.Dec.{eqb, ltb, eqb→eq, eqb-refl, ltb→lt, lt→ltb}
+use lib.ListN.{getD, length, length-append, length-map, List·getD-map}
 use lib.Seq.{ext-getD, getD-append-seam}
-use Rattle.rules.specs.Basics.{all, chosen, upTo, byte, word}
+use Rattle.rules.specs.Basics.{chosen, upTo, byte, word}
 use Rattle.rules.specs.declared.statements.Operand.{Operand}
 use Rattle.rules.specs.declared.statements.Operand.the-variants.{Slot, Location, Gate, Basis, Value, Callee, CalleeK, CalleeM, Nothing}
 use Rattle.rules.specs.Syntax as syntax
 use Rattle.rules.specs.Syntax.{Function, block, done}
-use Rattle.rules.specs.Table.{Meaning, simple, branches, loops, calls, Row, table, rowOf, size}
 use Rattle.rules.specs.Program.{Scope, inRange}
 use Rattle.rules.specs.Listing.{spoken, silent, Line, words}
 use Rattle.rules.specs.Unlisting.{sized}
 use Rattle.rules.proofs.Tests.{T→eq, eq→T}
-use Rattle.trips.proofs.Grammars.{none-not-some, both}
 use Rattle.trips.proofs.Rows.{headSpoken, isOperand}
 use Rattle.trips.proofs.Raw.{said, Within, Ranged, Operands, headOf}
 

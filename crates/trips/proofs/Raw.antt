@@ -1,28 +1,26 @@
 -- Programs as raw trees: a statement is its byte and operand bytes, and its blocks. Their bytes and their lines; and the one law by which the operands of
 -- any row are written and taken.
-use mathlib.Core.Bool.{Bool, true, false, not, _&&_, false≢true}
-use mathlib.Core.List.{List, [], _∷_, _++_, append-assoc, append-nil, map}
-use mathlib.Core.Option.{Option, none, some}
+use mathlib.Core.Bool.{Bool, true, false}
+use mathlib.Core.List.{List, [], _∷_, _++_, map}
+use mathlib.Core.Option.{none, some}
 use mathlib.Core.Path.{_≡_, refl, sym, ap, subst, _∙_}
-use native.Mathlib.Nat.{le-of-suc-le-suc, not-suc-le-zero}
 use native.Mathlib.Omega.{arith}
-use Prim.Native.Nat.{ℕ, zero, suc, _+_, _-_, _*_, _<_, _≤_}
-use lib.Dec.{T, eqb, ltb, leb}
-use lib.ListN.{getD, length, length-append, replicate, getElem?}
-use Rattle.rules.specs.Basics.{chosen, upTo}
+use Prim.Native.Nat.{ℕ, zero, suc, _<_, _≤_}
+use lib.ListN.{getD, length, replicate}
+use Rattle.rules.specs.Basics.{chosen}
 use Rattle.rules.proofs.Basics.{length-upTo, getD-upTo-zero}
 use Rattle.rules.specs.declared.statements.Operand.{Operand}
 use Rattle.rules.specs.declared.statements.Operand.the-variants.{Slot, Location, Gate, Basis, Value, Callee, CalleeK, CalleeM, Nothing}
 use Rattle.rules.specs.Syntax as syntax
 use Rattle.rules.specs.Syntax.{Side, Op, Function, Program, block, done}
-use Rattle.rules.specs.Table.{Meaning, simple, branches, loops, calls, Row, table, rowOf, size, names, nameOf}
+use Rattle.rules.specs.Table.{simple, branches, loops, calls, Row, rowOf, nameOf}
 use Rattle.rules.specs.Program.{Scope, readProgram}
 use Rattle.answers.specs.Check.{ok}
 use Rattle.rules.specs.Words.{Text, decimal, place}
 use Rattle.rules.specs.Listing.{spoken, silent, Line, indented, listed, operandsIn, programLines}
 use Rattle.rules.specs.Unlisting.{count, wordsFor, State, fresh, file, sized, operand, others, operands, list}
 use Rattle.rules.specs.Names.{program, function, locations, arguments, main, else, at, with}
-use Rattle.rules.specs.Grammar.{Grammar, stop, ask, dead, word, takes, takesOne}
+use Rattle.rules.specs.Grammar.{Grammar, ask, takes}
 use Rattle.trips.proofs.Grammars.{none-not-some, word-same, place-found, takes-next, took}
 use Rattle.trips.specs.Trips.{Bytes}
 use Rattle.trips.proofs.Reading.{run, Forth, Back}

@@ -1,32 +1,32 @@
 -- The bytes of a good tree are readable, and what is read has the tree's lines.
-use mathlib.Core.Bool.{Bool, true, false, not, _&&_, false≢true}
+use mathlib.Core.Bool.{Bool, true, false, _&&_}
 use mathlib.Core.List.{List, [], _∷_, _++_, append-assoc, append-nil, map}
-use mathlib.Core.Option.{Option, none, some}
+use mathlib.Core.Option.{Option, some}
 use mathlib.Core.Path.{_≡_, refl, sym, ap, subst, _∙_}
-use native.Mathlib.Nat.{le-of-suc-le-suc, not-suc-le-zero, add-zero, zero-add, add-suc, suc-add}
+use native.Mathlib.Nat.{add-zero, add-suc}
 use native.Mathlib.Omega.{arith}
-use Prim.Native.Nat.{ℕ, zero, suc, _+_, _-_, _*_, _/_, _%_, _<_, _≤_}
-use lib.Dec.{T, eqb, ltb, leb, eqb→eq, eqb-refl, ltb→lt, lt→ltb, le→leb}
-use lib.ListN.{getD, length, length-append, length-replicate, length-map, replicate}
-use Rattle.answers.specs.Check.{Check, ok, refused, _>>=_, _>>_, need}
+use Prim.Native.Nat.{ℕ, zero, suc, _+_, _%_, _<_, _≤_}
+use lib.Dec.{eqb, ltb, leb, eqb-refl, ltb→lt, lt→ltb, le→leb}
+use lib.ListN.{getD, length, length-append, length-replicate, replicate}
+use Rattle.answers.specs.Check.{Check, ok, _>>=_, _>>_, need}
 use Rattle.rules.specs.declared.program.FunctionHeader.{FunctionHeader}
 use Rattle.rules.specs.declared.program.ProgramHeader.{ProgramHeader}
-use Rattle.rules.specs.Basics.{chosen, upTo, byte, word, hasMark}
+use Rattle.rules.specs.Basics.{upTo, byte, word, hasMark}
 use Rattle.rules.specs.declared.statements.Operand.{Operand}
 use Rattle.rules.specs.declared.statements.Operand.the-variants.{Slot, Location, Gate, Basis, Value, Callee, CalleeK, CalleeM, Nothing}
 use Rattle.rules.specs.Syntax.{Side, device, parameter, Place, Statement, op, if, while, call, Statements, done, _⨾_, Block, block, Function, function, Program}
-use Rattle.rules.specs.Table.{Meaning, simple, branches, loops, calls, Row, table, rowOf, size, nameOf}
+use Rattle.rules.specs.Table.{Meaning, calls, Row, table, rowOf, size, nameOf}
 use Rattle.rules.specs.Program.{Read, Scope, inRange, known, operands, meant, statement, statements, readBlock, functionHeader, functionsAt, readProgram}
-use Rattle.rules.specs.Words.{Text, decimal}
+use Rattle.rules.specs.Words.{decimal}
 use Rattle.rules.specs.Names.{at, with, else}
-use Rattle.rules.specs.Listing.{Line, indented, listed, operandsIn, words, fixedLine, statementLines, statementsLines, blockLines, functionsLines, programLines}
+use Rattle.rules.specs.Listing.{Line, indented, listed, operandsIn, words, fixedLine, statementLines, statementsLines, blockLines, functionsLines}
 use Rattle.rules.specs.Unlisting.{sized}
 use Rattle.rules.proofs.Tests.{T→eq, eq→T}
-use Rattle.trips.proofs.Raw.{Raw, plain, called, fork, loop, Raws, end, _then_, rawBytes, rawsBytes, said, rawLine, rawLines, rawsLines, Within, Ranged, Operands, ranged-length, operands-length, Good, good-plain, good-called, good-fork, good-loop, Goods, good-end, good-then, RawFunction, RawProgram, headOf, heads, functionsBytes, programBytes, rawFunctions, rawProgramLines, GoodFunctions, no-functions, a-function, GoodProgram, ReadsBack}
+use Rattle.trips.proofs.Raw.{Raw, plain, called, fork, loop, Raws, end, _then_, rawBytes, rawsBytes, said, rawLine, rawLines, rawsLines, Within, Ranged, Operands, ranged-length, operands-length, Good, good-plain, good-called, good-fork, good-loop, Goods, good-then, RawFunction, headOf, heads, functionsBytes, programBytes, rawFunctions, GoodFunctions, a-function, ReadsBack}
 use Rattle.trips.specs.Trips.{Bytes}
 use Rattle.trips.proofs.Running.{size-xs, length-heads}
 use Rattle.trips.proofs.Rows.{byte-of-row, row-head, row-calls}
-use Rattle.trips.proofs.Placed.{At, at-end, at-left, at-right, at-append, at-byte, at-upTo, upTo-at, at-whole, stub, stubbed, map-snoc, ranges, operands-ranged, words-said}
+use Rattle.trips.proofs.Placed.{At, at-end, at-left, at-right, at-byte, upTo-at, at-whole, stub, stubbed, map-snoc, ranges, operands-ranged, words-said}
 
 leb-yes : (m n : ℕ) → m ≤ n → leb m n ≡ true
 leb-yes m n h = T→eq (leb m n) (le→leb m n h)

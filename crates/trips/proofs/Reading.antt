@@ -1,26 +1,25 @@
 -- The theorems, from three facts about the lines that may follow: the words that they offer are clean and differ (`proper`), the lines of a readable
 -- program are followed to its file (`forth`), and lines that were followed begin those of a readable program (`back`).
-use mathlib.Core.Bool.{Bool, true, false, not, _&&_, false≢true}
+use mathlib.Core.Bool.{Bool, true, false, false≢true}
 use mathlib.Core.List.{List, [], _∷_, _++_, append-assoc, append-nil}
 use mathlib.Core.Logic.{_⊎_, inl, inr}
 use mathlib.Core.Option.{Option, none, some}
 use mathlib.Core.Path.{_≡_, refl, sym, ap, subst, _∙_}
 use native.Mathlib.Omega.{arith}
-use Prim.Native.Nat.{ℕ, zero, suc, _+_, _<_, _≤_}
-use lib.Dec.{eqb}
-use lib.ListN.{getD, length, length-append}
+use Prim.Native.Nat.{ℕ, suc, _+_}
+use lib.ListN.{length, length-append}
 use Rattle.answers.specs.Check.{Check, ok, refused, refusal, _>>=_, _>>_, need}
 use Rattle.answers.specs.declared.Refusal.{Refusal}
 use Rattle.answers.proofs.Laws.{ok-not-refused}
 use Rattle.rules.specs.Syntax.{Program}
 use Rattle.rules.specs.Program.{readProgram}
-use Rattle.rules.specs.Words.{Text, space, newline, split, behind, join, written, opens}
+use Rattle.rules.specs.Words.{Text, space, newline, split, behind, join, written}
 use Rattle.rules.specs.Listing.{Line, programLines, listing}
-use Rattle.rules.specs.Grammar.{Grammar, stop, ask, takes, starts, takesOne, startsOne}
+use Rattle.rules.specs.Grammar.{Grammar, takes, starts, takesOne, startsOne}
 use Rattle.rules.specs.Unlisting.{Sofar, State, fresh, sofar, lines, file, ending, follow, unlisted}
-use Rattle.trips.specs.Trips.{Bytes, Begins, RoundTrip, OnlyListings, OneProgram, Unbroken, Whole, OneLine, Stops, at-line, at-end, Refuses}
-use Rattle.trips.proofs.Texts.{Free, AllFree, split-shape, join-split, split-free, split-seam, split-one, split-behind, peel}
-use Rattle.trips.proofs.Grammars.{none-not-some, longer, Clean, CleanLine, Proper, takes-clean, starts-begun, begun-starts}
+use Rattle.trips.specs.Trips.{Bytes, Begins, RoundTrip, OnlyListings, OneProgram, Unbroken, Whole, Stops, at-line, at-end, Refuses}
+use Rattle.trips.proofs.Texts.{Free, AllFree, split-shape, join-split, split-free, split-seam, split-behind, peel}
+use Rattle.trips.proofs.Grammars.{none-not-some, longer, CleanLine, Proper, takes-clean, starts-begun, begun-starts}
 
 -- Lines one after the other.
 abbrev pub run : State → List Line → Option State

@@ -1,6 +1,6 @@
 -- What the rows of the statement table have in common, computed over the table: a new row needs nothing here. The names differ, each has a letter and at
 -- most seven; a first operand that is written, no `Nothing`, an operand at all, and three operands before a call's lists.
-use mathlib.Core.Bool.{Bool, true, false, not, _&&_, false≢true}
+use mathlib.Core.Bool.{Bool, true, false, not, false≢true}
 use mathlib.Core.List.{List, [], _∷_, map}
 use mathlib.Core.Option.{Option, none, some}
 use mathlib.Core.Path.{_≡_, refl, sym, ap, subst, _∙_}

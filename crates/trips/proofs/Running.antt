@@ -1,31 +1,29 @@
 -- The lines of a good tree are followed, to its bytes.
-use mathlib.Core.Bool.{Bool, true, false, not, _&&_, false≢true}
-use mathlib.Core.List.{List, [], _∷_, _++_, append-assoc, append-nil, map}
+use mathlib.Core.Bool.{Bool, true, false}
+use mathlib.Core.List.{List, [], _∷_, _++_, append-assoc, append-nil}
 use mathlib.Core.Option.{Option, none, some}
 use mathlib.Core.Path.{_≡_, refl, sym, ap, subst, _∙_}
 use native.Mathlib.Nat.{le-of-suc-le-suc, not-suc-le-zero}
 use native.Mathlib.Omega.{arith}
-use Prim.Native.Nat.{ℕ, zero, suc, _+_, _-_, _*_, _<_, _≤_}
-use lib.Dec.{T, eqb, ltb, leb, le→leb, lt→ltb}
-use lib.ListN.{getD, length, length-append, length-replicate, replicate, getElem?}
-use Rattle.rules.specs.Basics.{chosen, upTo}
-use Rattle.rules.proofs.Basics.{all-upTo}
-use Rattle.rules.specs.declared.statements.Operand.{Operand}
+use Prim.Native.Nat.{ℕ, zero, suc, _+_, _<_, _≤_}
+use lib.Dec.{T, ltb, leb, le→leb, lt→ltb}
+use lib.ListN.{getD, length, length-append, length-replicate, replicate}
+use Rattle.rules.specs.Basics.{upTo}
 use Rattle.rules.specs.declared.statements.Operand.the-variants.{Slot, Location}
-use Rattle.rules.specs.Syntax.{Side, Op, Function}
+use Rattle.rules.specs.Syntax.{Function}
 use Rattle.rules.specs.Table.{Meaning, simple, branches, loops, calls, Row, table, rowOf, size, names, nameOf}
 use Rattle.rules.specs.Program.{Scope}
-use Rattle.rules.specs.Words.{Text, decimal, place}
-use Rattle.rules.specs.Listing.{spoken, silent, Line, indented, listed, operandsIn}
-use Rattle.rules.specs.Names.{program, function, locations, arguments, main, else, at, with}
+use Rattle.rules.specs.Words.{Text, decimal}
+use Rattle.rules.specs.Listing.{Line, indented, listed, operandsIn}
+use Rattle.rules.specs.Names.{function, locations, arguments, main, else, at, with}
 use Rattle.rules.specs.Grammar.{Grammar, stop, ask, dead, word, takes, takesOne}
-use Rattle.rules.specs.Unlisting.{Opened, Sofar, State, fresh, sofar, sized, owed, pending, least, room, deeper, added, opened, operands, list, made, blocksOf, rowLine, statementLine, indent, functionLine, mainLine, topLines, linesAfter, lines, ended, file}
+use Rattle.rules.specs.Unlisting.{Opened, Sofar, sofar, sized, least, room, deeper, added, operands, list, made, blocksOf, rowLine, statementLine, indent, functionLine, mainLine, linesAfter, lines, ended, file}
 use Rattle.rules.proofs.Tests.{T→eq}
 use Rattle.trips.proofs.Grammars.{none-not-some, word-same, takes-next}
 use Rattle.trips.proofs.Reading.{run, run-next, run-on}
 use Rattle.trips.proofs.Offered.{place-numbered, apart-decimal, elseLine}
 use Rattle.trips.proofs.Rows.{byte-of-row, name-filled, name-at, place-name}
-use Rattle.trips.proofs.Raw.{Raw, plain, called, fork, loop, Raws, end, _then_, rawBytes, rawsBytes, said, rawLine, rawLines, rawsLines, Operands, Ranged, ranged-length, operands-length, takes-operands, takes-list, Good, good-plain, good-called, good-fork, good-loop, Goods, good-end, good-then, RawFunction, RawProgram, headOf, heads, functionsBytes, programBytes, rawFunctions, rawProgramLines, GoodFunctions, no-functions, a-function, GoodProgram, Runs}
+use Rattle.trips.proofs.Raw.{Raw, plain, called, fork, loop, Raws, end, _then_, rawBytes, rawsBytes, said, rawLine, rawLines, rawsLines, Operands, ranged-length, operands-length, takes-operands, takes-list, Good, good-plain, good-called, good-fork, good-loop, Goods, good-then, RawFunction, headOf, heads, functionsBytes, programBytes, rawFunctions, GoodFunctions, a-function, Runs}
 
 abbrev pub state : Scope → Option (List Function) → List Opened → List ℕ → Sofar
 state S a bs bytes = record { scope = S; after = a; open-blocks = bs; bytes = bytes }

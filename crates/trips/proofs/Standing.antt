@@ -1,32 +1,32 @@
 -- Lines that were followed stand for a tree with an open end, and this can be completed to a good program.
-use mathlib.Core.Bool.{Bool, true, false, not, _&&_, false≢true}
-use mathlib.Core.List.{List, [], _∷_, _++_, append-assoc, append-nil, map}
+use mathlib.Core.Bool.{Bool, true, false, not}
+use mathlib.Core.List.{List, [], _∷_, _++_, append-assoc, append-nil}
 use mathlib.Core.Logic.{_⊎_, inl, inr}
 use mathlib.Core.Option.{Option, none, some}
 use mathlib.Core.Path.{_≡_, refl, sym, ap, subst, _∙_}
-use native.Mathlib.Nat.{le-of-suc-le-suc, not-suc-le-zero, add-zero, zero-add, add-suc, suc-add}
+use native.Mathlib.Nat.{add-zero, zero-add, add-suc, suc-add}
 use native.Mathlib.Omega.{arith}
-use Prim.Native.Nat.{ℕ, zero, suc, _+_, _-_, _*_, _<_, _≤_}
-use lib.Dec.{T, eqb, ltb, leb, leb→le, ltb→lt, nleb→lt}
-use lib.ListN.{getD, length, length-append, length-replicate, replicate, getElem?}
-use Rattle.rules.specs.Basics.{chosen, upTo}
+use Prim.Native.Nat.{ℕ, zero, suc, _+_, _<_, _≤_}
+use lib.Dec.{ltb, leb, leb→le, ltb→lt, nleb→lt}
+use lib.ListN.{getD, length, length-append, length-replicate, replicate}
+use Rattle.rules.specs.Basics.{upTo}
 use Rattle.rules.proofs.Basics.{length-upTo, getD-upTo-zero}
 use Rattle.rules.specs.declared.statements.Operand.the-variants.{Slot, Location}
-use Rattle.rules.specs.Syntax.{Side, Op, Function}
-use Rattle.rules.specs.Table.{Meaning, simple, branches, loops, calls, Row, table, rowOf, size, names, nameOf}
+use Rattle.rules.specs.Syntax.{Function}
+use Rattle.rules.specs.Table.{Meaning, simple, branches, loops, calls, Row, rowOf, size, names, nameOf}
 use Rattle.rules.specs.Program.{Scope}
 use Rattle.rules.specs.Words.{Text, decimal, place}
 use Rattle.rules.specs.Names.{program, function, locations, arguments, main, else, at, with}
 use Rattle.rules.specs.Listing.{Line, indented, listed, operandsIn}
 use Rattle.rules.specs.Grammar.{Grammar, stop, ask, dead, word, takes, takesOne}
-use Rattle.rules.specs.Unlisting.{Opened, Sofar, State, fresh, sofar, sized, owed, pending, least, room, deeper, added, opened, operands, list, made, blocksOf, rowLine, statementLine, indent, functionLine, mainLine, topLines, linesAfter, lines, ended, file}
+use Rattle.rules.specs.Unlisting.{Opened, Sofar, State, fresh, sofar, sized, least, room, deeper, added, opened, operands, list, made, blocksOf, rowLine, statementLine, indent, functionLine, mainLine, topLines, linesAfter, lines, file}
 use Rattle.rules.proofs.Tests.{eq→T}
 use Rattle.trips.proofs.Grammars.{none-not-some, place-found, took}
 use Rattle.trips.proofs.Reading.{run, ran}
 use Rattle.trips.proofs.Offered.{elseLine}
-use Rattle.trips.proofs.Running.{state, size-xs, Closes, same, closed, closes-file, inFunction, inMain, length-heads}
+use Rattle.trips.proofs.Running.{state, size-xs, same, closed, closes-file, inFunction, inMain, length-heads}
 use Rattle.trips.proofs.Rows.{name-at}
-use Rattle.trips.proofs.Raw.{Raw, plain, called, fork, loop, Raws, end, _then_, rawBytes, rawsBytes, said, rawLine, rawLines, rawsLines, Operands, Ranged, ranged-length, Said, took-operands, Listed, took-list, Good, good-plain, good-called, good-fork, good-loop, Goods, good-end, good-then, RawFunction, RawProgram, headOf, heads, functionsBytes, programBytes, rawFunctions, rawProgramLines, GoodFunctions, no-functions, a-function, GoodProgram, RunsBack}
+use Rattle.trips.proofs.Raw.{Raw, plain, called, fork, loop, Raws, end, _then_, rawBytes, rawsBytes, said, rawLine, rawLines, rawsLines, Operands, ranged-length, Said, took-operands, Listed, took-list, Good, good-plain, good-called, good-fork, good-loop, Goods, good-end, good-then, RawFunction, RawProgram, headOf, heads, functionsBytes, programBytes, rawFunctions, rawProgramLines, GoodFunctions, no-functions, a-function, GoodProgram, RunsBack}
 
 -- What a line that was taken is.
 module _ {A : Type 0} where

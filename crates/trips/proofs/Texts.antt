@@ -1,15 +1,11 @@
 -- Splitting and joining are inverse, where the parts are free of the separator; what a text begins with, its parts begin with.
-use mathlib.Core.Bool.{Bool, true, false, not, _&&_, false≢true}
-use mathlib.Core.List.{List, [], _∷_, _++_, append-assoc, append-nil}
-use mathlib.Core.Option.{Option, none, some}
-use mathlib.Core.Path.{_≡_, refl, sym, ap, subst, _∙_}
-use native.Mathlib.Omega.{arith}
-use Prim.Native.Nat.{ℕ, zero, suc, _+_}
-use lib.Dec.{T, eqb, eqb→eq, eqb-refl}
-use lib.ListN.{length, length-append}
-use Rattle.rules.specs.Basics.{sameList}
+use mathlib.Core.Bool.{Bool, true, false}
+use mathlib.Core.List.{List, [], _∷_, _++_, append-nil}
+use mathlib.Core.Path.{_≡_, refl, sym, ap, _∙_}
+use Prim.Native.Nat.{ℕ}
+use lib.Dec.{eqb, eqb→eq, eqb-refl}
 use Rattle.rules.proofs.Tests.{T→eq, eq→T}
-use Rattle.rules.specs.Words.{Text, space, newline, onto, split, behind, join, written, opens, place}
+use Rattle.rules.specs.Words.{Text, onto, split, behind, join}
 
 -- no character of the text is c
 abbrev pub Free : ℕ → Text → Type 0

@@ -16,7 +16,7 @@ use Rattle.rules.specs.Table.{Row, rowOf, nameOf}
 use Rattle.rules.specs.Program.{Scope, readProgram}
 use Rattle.rules.specs.Words.{Text, space, newline, behind, join, written, decimal}
 use Rattle.rules.specs.Names.{gates, program, function, locations, arguments, main, else, at, with}
-use Rattle.rules.specs.Listing.{spoken, silent, Line, indented, listed, operandsIn, programLines}
+use Rattle.rules.specs.Listing.{headLine, spoken, silent, Line, indented, listed, operandsIn, programLines}
 use Rattle.rules.specs.Unlisting.{sized}
 use Rattle.trips.specs.Trips.{Short}
 use Rattle.rules.proofs.Tests.{eq→T}
@@ -160,12 +160,12 @@ mutual
 functions-short : (gs : List RawFunction) (hs : List Function) → GoodFunctions hs gs → (i : ℕ) (t : List Line) → length (written (rawFunctions i gs ++ t)) ≤ 16 * length (functionsBytes gs) + length (written t)
 functions-short [] hs g i t = omega arith
 functions-short (f ∷ gs) hs (a-function hk hm hl body rest) i t =
-    let L : Line = function ∷ decimal i ∷ locations ∷ decimal (f .k) ∷ arguments ∷ decimal (f .m) ∷ [] in
+    let L : Line = headLine i (f .k) (f .m) in
     let a : length (written (rawFunctions (suc i) gs ++ t)) ≤ 16 * length (functionsBytes gs) + length (written t) = functions-short gs (hs ++ (headOf (f .k) (f .m) ∷ [])) rest (suc i) t in
     let b : length (written (rawsLines 1 (f .body) ++ (rawFunctions (suc i) gs ++ t))) ≤ 16 * length (rawsBytes (f .body)) + length (written (rawFunctions (suc i) gs ++ t)) = raws-short (record { places = f .k; earlier = hs }) 7 (f .body) body 1 (omega arith) (rawFunctions (suc i) gs ++ t) in
     let c : length (written ((rawsLines 1 (f .body) ++ rawFunctions (suc i) gs) ++ t)) ≡ length (written (rawsLines 1 (f .body) ++ (rawFunctions (suc i) gs ++ t))) = ap (λ (z : List Line). length (written z)) (append-assoc (rawsLines 1 (f .body)) (rawFunctions (suc i) gs) t) in
-    let e : length (join space (function ∷ decimal i ∷ locations ∷ decimal (f .k) ∷ arguments ∷ decimal (f .m) ∷ []) ++ (newline ∷ written ((rawsLines 1 (f .body) ++ rawFunctions (suc i) gs) ++ t)))
-    ≡ weight (function ∷ decimal i ∷ locations ∷ decimal (f .k) ∷ arguments ∷ decimal (f .m) ∷ []) + length (written ((rawsLines 1 (f .body) ++ rawFunctions (suc i) gs) ++ t)) = length-line function (decimal i ∷ locations ∷ decimal (f .k) ∷ arguments ∷ decimal (f .m) ∷ []) (written ((rawsLines 1 (f .body) ++ rawFunctions (suc i) gs) ++ t)) in
+    let e : length (join space (headLine i (f .k) (f .m)) ++ (newline ∷ written ((rawsLines 1 (f .body) ++ rawFunctions (suc i) gs) ++ t)))
+    ≡ weight (headLine i (f .k) (f .m)) + length (written ((rawsLines 1 (f .body) ++ rawFunctions (suc i) gs) ++ t)) = length-line function (decimal i ∷ locations ∷ decimal (f .k) ∷ arguments ∷ decimal (f .m) ∷ []) (written ((rawsLines 1 (f .body) ++ rawFunctions (suc i) gs) ++ t)) in
     let z : length (sized (rawsBytes (f .body)) ++ functionsBytes gs) ≡ suc (suc (length (rawsBytes (f .body)))) + length (functionsBytes gs) = length-append (sized (rawsBytes (f .body))) (functionsBytes gs) in
     omega (arith, short-decimal i, short-decimal (f .k), short-decimal (f .m))
 

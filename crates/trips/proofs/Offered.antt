@@ -19,7 +19,7 @@ use Rattle.rules.specs.Program.{Scope}
 use Rattle.rules.specs.Words.{Text, space, newline, decimal, place}
 use Rattle.rules.specs.Names.{gates, program, function, locations, arguments, main, else, at, with}
 use Rattle.rules.specs.Listing.{spoken}
-use Rattle.rules.specs.Unlisting.{count, Opened, Sofar, fresh, sofar, sized, least, added, room, deeper, operand, others, operands, list, made, blocksOf, rowLine, statementLine, indent, functionLine, mainLine, topLines, linesAfter}
+use Rattle.rules.specs.Unlisting.{count, Opened, Sofar, fresh, sofar, sized, least, added, room, deeper, operand, others, operands, list, made, blocksOf, rowLine, statementLine, indent, functionLine, mainLine, topLines, linesAfter, elseBegun, programBegun}
 use Rattle.rules.specs.Grammar.{Grammar, stop, ask, dead, word, takes}
 use Rattle.rules.proofs.Tests.{T→eq, eq→T}
 use Rattle.trips.proofs.Texts.{Free}
@@ -264,12 +264,12 @@ proper-top (some fs) F = go (leb (12 + length F) 4096) (ltb (length fs) 15)
     go false b = mains
 
 abbrev pub elseLine : Scope → Option (List Function) → Opened → List Opened → List ℕ → Grammar Sofar
-elseLine S a b bs bytes = word else (stop (some (record { scope = S; after = a; open-blocks = record { before = b .before ++ sized bytes; due = false } ∷ bs; bytes = [] })))
+elseLine S a b bs bytes = word else (stop (some (elseBegun S a b bs bytes)))
 
 proper-else : (S : Scope) (a : Option (List Function)) (b : Opened) (bs : List Opened) (bytes : List ℕ) → Offers (elseLine S a b bs bytes)
 proper-else S a b bs bytes = one-word else (clean-by else tt) ends
 
-proper-fresh : Offers (word program (word (decimal 1) (stop (some (record { scope = record { places = 0; earlier = [] }; after = some []; open-blocks = []; bytes = [] })))))
+proper-fresh : Offers (word program (word (decimal 1) (stop (some programBegun))))
 proper-fresh = one-word program (clean-by program tt) (one-word (decimal 1) (decimal-clean 1) ends)
 
 proper-after : (S : Scope) (a : Option (List Function)) (bs : List Opened) (bytes : List ℕ) → AllProper (linesAfter S a bs bytes)

@@ -22,7 +22,7 @@ use Rattle.rules.proofs.Tests.{eqb-true, at-most, not-below, and-left, and-righ
 use Rattle.rules.specs.Words.{decimal}
 use Rattle.rules.specs.Names.{at, with, else}
 use Rattle.rules.specs.Names as names
-use Rattle.rules.specs.Listing.{Line, indented, listed, statementLines, statementsLines, blockLines, functionsLines, programLines}
+use Rattle.rules.specs.Listing.{headLine, Line, indented, listed, statementLines, statementsLines, blockLines, functionsLines, programLines}
 use Rattle.rules.specs.Unlisting.{sized}
 use Rattle.trips.specs.Trips.{Bytes}
 use Rattle.trips.proofs.Grammars.{both}
@@ -301,8 +301,8 @@ module _ (s : List ℕ) (bytes : Bytes s) where
             ap (λ (z : List Function). headOf (H .locations) (H .arguments) ∷ z) (w .5),
             a,
             nx,
-            λ j. ap (λ (z : List Line). (names.function ∷ decimal j ∷ names.locations ∷ decimal (H .locations) ∷ names.arguments ∷ decimal (H .arguments) ∷ []) ∷ (z ++ functionsLines s (suc j) (w .1))) (v .7 1)
-                ∙ ap (λ (z : List Line). (names.function ∷ decimal j ∷ names.locations ∷ decimal (H .locations) ∷ names.arguments ∷ decimal (H .arguments) ∷ []) ∷ (rawsLines 1 (v .1) ++ z)) (w .8 (suc j)),
+            λ j. ap (λ (z : List Line). headLine j (H .locations) (H .arguments) ∷ (z ++ functionsLines s (suc j) (w .1))) (v .7 1)
+                ∙ ap (λ (z : List Line). headLine j (H .locations) (H .arguments) ∷ (rawsLines 1 (v .1) ++ z)) (w .8 (suc j)),
           )
 
   -- a program

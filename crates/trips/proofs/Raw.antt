@@ -17,9 +17,9 @@ use Rattle.rules.specs.Table.{simple, branches, loops, calls, Row, rowOf, nameO
 use Rattle.rules.specs.Program.{Scope, readProgram}
 use Rattle.answers.specs.Check.{ok}
 use Rattle.rules.specs.Words.{Text, decimal, place}
-use Rattle.rules.specs.Listing.{spoken, silent, Line, indented, listed, operandsIn, programLines}
-use Rattle.rules.specs.Unlisting.{count, wordsFor, State, fresh, file, sized, operand, others, operands, list}
-use Rattle.rules.specs.Names.{program, function, locations, arguments, main, else, at, with}
+use Rattle.rules.specs.Listing.{headLine, spoken, silent, Line, indented, listed, operandsIn, programLines}
+use Rattle.rules.specs.Unlisting.{count, wordsFor, State, fresh, file, header, sized, operand, others, operands, list}
+use Rattle.rules.specs.Names.{program, function, main, else, at, with}
 use Rattle.rules.specs.Grammar.{Grammar, ask, takes}
 use Rattle.trips.proofs.Grammars.{none-not-some, word-same, place-found, takes-next, took}
 use Rattle.trips.specs.Trips.{Bytes}
@@ -257,11 +257,11 @@ functionsBytes [] = []
 functionsBytes (f ∷ fs) = (f .k ∷ f .m ∷ sized (rawsBytes (f .body))) ++ functionsBytes fs
 
 abbrev pub programBytes : RawProgram → List ℕ
-programBytes p = 0x51 ∷ 0x4C ∷ 0x53 ∷ 0x00 ∷ 0x01 ∷ length (p .functions) ∷ (functionsBytes (p .functions) ++ sized (rawsBytes (p .main)))
+programBytes p = header (length (p .functions)) ++ (functionsBytes (p .functions) ++ sized (rawsBytes (p .main)))
 
 abbrev pub rawFunctions : ℕ → List RawFunction → List Line
 rawFunctions i [] = []
-rawFunctions i (f ∷ fs) = (function ∷ decimal i ∷ locations ∷ decimal (f .k) ∷ arguments ∷ decimal (f .m) ∷ []) ∷ (rawsLines 1 (f .body) ++ rawFunctions (suc i) fs)
+rawFunctions i (f ∷ fs) = headLine i (f .k) (f .m) ∷ (rawsLines 1 (f .body) ++ rawFunctions (suc i) fs)
 
 abbrev pub rawProgramLines : RawProgram → List Line
 rawProgramLines p = (program ∷ decimal 1 ∷ []) ∷ (rawFunctions 0 (p .functions) ++ ((main ∷ []) ∷ rawsLines 1 (p .main)))

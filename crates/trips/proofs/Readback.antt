@@ -18,8 +18,9 @@ use Rattle.rules.specs.Syntax.{Side, device, parameter, Place, Statement, op, i
 use Rattle.rules.specs.Table.{Meaning, calls, Row, table, rowOf, size, nameOf}
 use Rattle.rules.specs.Program.{Read, Scope, inRange, known, operands, meant, statement, statements, readBlock, functionHeader, functionsAt, readProgram}
 use Rattle.rules.specs.Words.{decimal}
+use Rattle.rules.specs.Names as names
 use Rattle.rules.specs.Names.{at, with, else}
-use Rattle.rules.specs.Listing.{Line, indented, listed, operandsIn, words, fixedLine, statementLines, statementsLines, blockLines, functionsLines}
+use Rattle.rules.specs.Listing.{headLine, Line, indented, listed, operandsIn, words, fixedLine, statementLines, statementsLines, blockLines, functionsLines}
 use Rattle.rules.specs.Unlisting.{sized}
 use Rattle.rules.proofs.Tests.{T→eq, eq→T}
 use Rattle.trips.proofs.Raw.{Raw, plain, called, fork, loop, Raws, end, _then_, rawBytes, rawsBytes, said, rawLine, rawLines, rawsLines, Within, Ranged, Operands, ranged-length, operands-length, Good, good-plain, good-called, good-fork, good-loop, Goods, good-then, RawFunction, headOf, heads, functionsBytes, programBytes, rawFunctions, GoodFunctions, a-function, ReadsBack}
@@ -314,8 +315,8 @@ module _ (s : List ℕ) where
             ∙ ap (λ (z : List Function). ok (record { it = z; next = i + 2 + 2 + length (rawsBytes (f .body)) + length (functionsBytes gs) })) (append-assoc fs (record { k = f .k; m = f .m; body = R .0 } ∷ []) (Q .0))
             ∙ ap (λ (p : ℕ). ok (record { it = fs ++ (record { k = f .k; m = f .m; body = R .0 } ∷ Q .0); next = p })) nx,
         ap (λ (z : List Function). headOf (f .k) (f .m) ∷ z) (Q .2),
-        λ j. ap (λ (w : List Line). (Rattle.rules.specs.Names.function ∷ decimal j ∷ Rattle.rules.specs.Names.locations ∷ decimal (f .k) ∷ Rattle.rules.specs.Names.arguments ∷ decimal (f .m) ∷ []) ∷ (w ++ functionsLines s (suc j) (Q .0))) (R .2 1)
-            ∙ ap (λ (w : List Line). (Rattle.rules.specs.Names.function ∷ decimal j ∷ Rattle.rules.specs.Names.locations ∷ decimal (f .k) ∷ Rattle.rules.specs.Names.arguments ∷ decimal (f .m) ∷ []) ∷ (rawsLines 1 (f .body) ++ w)) (Q .3 (suc j)),
+        λ j. ap (λ (w : List Line). headLine j (f .k) (f .m) ∷ (w ++ functionsLines s (suc j) (Q .0))) (R .2 1)
+            ∙ ap (λ (w : List Line). headLine j (f .k) (f .m) ∷ (rawsLines 1 (f .body) ++ w)) (Q .3 (suc j)),
       )
 
 -- Bytes.
@@ -452,8 +453,8 @@ reads-back q g =
       record { functions = R .0; main = Q .0 },
       program-is (programBytes q) (length (q .functions)) (record { it = R .0; next = 6 + length (functionsBytes (q .functions)) }) (record { it = Q .0; next = 6 + length (functionsBytes (q .functions)) + 2 + length (rawsBytes (q .main)) })
           (omega arith) sh refl refl refl few (R .1) (Q .1) ne,
-      ap (λ (w : List Line). (Rattle.rules.specs.Names.program ∷ decimal 1 ∷ []) ∷ (w ++ ((Rattle.rules.specs.Names.main ∷ []) ∷ blockLines (programBytes q) 1 (Q .0)))) (R .3 0)
-          ∙ ap (λ (w : List Line). (Rattle.rules.specs.Names.program ∷ decimal 1 ∷ []) ∷ (rawFunctions 0 (q .functions) ++ ((Rattle.rules.specs.Names.main ∷ []) ∷ w))) (Q .2 1),
+      ap (λ (w : List Line). (names.program ∷ decimal 1 ∷ []) ∷ (w ++ ((names.main ∷ []) ∷ blockLines (programBytes q) 1 (Q .0)))) (R .3 0)
+          ∙ ap (λ (w : List Line). (names.program ∷ decimal 1 ∷ []) ∷ (rawFunctions 0 (q .functions) ++ ((names.main ∷ []) ∷ w))) (Q .2 1),
       (
         omega arith,
         (

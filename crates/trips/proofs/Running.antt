@@ -14,10 +14,10 @@ use Rattle.rules.specs.Syntax.{Function}
 use Rattle.rules.specs.Table.{Meaning, simple, branches, loops, calls, Row, table, rowOf, size, names, nameOf}
 use Rattle.rules.specs.Program.{Scope}
 use Rattle.rules.specs.Words.{Text, decimal}
-use Rattle.rules.specs.Listing.{Line, indented, listed, operandsIn}
-use Rattle.rules.specs.Names.{function, locations, arguments, main, else, at, with}
+use Rattle.rules.specs.Listing.{headLine, Line, indented, listed, operandsIn}
+use Rattle.rules.specs.Names.{locations, arguments, main, else, at, with}
 use Rattle.rules.specs.Grammar.{Grammar, stop, ask, dead, word, takes, takesOne}
-use Rattle.rules.specs.Unlisting.{Opened, Sofar, sofar, sized, least, room, deeper, added, operands, list, made, blocksOf, rowLine, statementLine, indent, functionLine, mainLine, linesAfter, lines, ended, file}
+use Rattle.rules.specs.Unlisting.{Opened, Sofar, sofar, sized, least, room, deeper, added, operands, list, made, blocksOf, rowLine, statementLine, indent, functionLine, mainLine, linesAfter, lines, ended, file, header, functionBegun, mainBegun, programBegun}
 use Rattle.rules.proofs.Tests.{T→eq}
 use Rattle.trips.proofs.Grammars.{none-not-some, word-same, takes-next}
 use Rattle.trips.proofs.Reading.{run, run-next, run-on}
@@ -103,7 +103,7 @@ closes-file q p same = refl
 closes-file q p (closed S a b bs bytes c e e′) =
     let E : Bool → Option (List ℕ) = λ d. elim d [ true ↦ none | false ↦ ended bs (b .before ++ sized bytes) ] in
     closes-file q (state S a (b ∷ bs) bytes) c
-    ∙ ap {B = Option (List ℕ)} (λ (d : Bool). elim a [ some fs ↦ none | none ↦ elim (E d) [ none ↦ none | some z ↦ some (0x51 ∷ 0x4C ∷ 0x53 ∷ 0x00 ∷ 0x01 ∷ length (S .earlier) ∷ z) ] ]) e
+    ∙ ap {B = Option (List ℕ)} (λ (d : Bool). elim a [ some fs ↦ none | none ↦ elim (E d) [ none ↦ none | some z ↦ some (header (length (S .earlier)) ++ z) ] ]) e
     ∙ ap (λ (r : Sofar). file (sofar r)) (sym e′)
 
 closes-run : (q p : Sofar) → Closes q p → (m : ℕ) → m ≤ length (p .open-blocks) → (x : ℕ) (w : Text) (ws : List Text) (ls : List Line)
@@ -247,21 +247,18 @@ least-8 k m h l = go (leb k 8)
     go true = omega arith
     go false = omega arith
 
-abbrev pub inFunction : List Function → List ℕ → ℕ → ℕ → Sofar
-inFunction fs F k m = state (record { places = k; earlier = fs }) (some (fs ++ (headOf k m ∷ []))) (record { before = F ++ (k ∷ m ∷ []); due = false } ∷ []) []
-
 takes-number : {A : Type 0} (n : ℕ) (g : ℕ → Grammar A) (x : ℕ) → x < n → (ws : List Text) → takes (ask none (upTo 0 n decimal) g) (decimal x ∷ ws) ≡ takes (g x) ws
 takes-number n g x h ws = takes-next none (upTo 0 n decimal) g (decimal x) ws x (place-numbered n decimal (apart-decimal n) x h)
 
 function-taken : (fs : List Function) (F : List ℕ) (k m : ℕ) → k ≤ 16 → m ≤ 8 → m ≤ k
-    → takes (functionLine fs F) (function ∷ decimal (length fs) ∷ locations ∷ decimal k ∷ arguments ∷ decimal m ∷ []) ≡ some (inFunction fs F k m)
+    → takes (functionLine fs F) (headLine (length fs) k m) ≡ some (functionBegun fs F k m)
 function-taken fs F k m hk hm l =
     let M : ℕ → ℕ = λ k. suc (elim (leb k 8) [ true ↦ k | false ↦ 8 ]) in
-    let g₃ : ℕ → Grammar Sofar = λ k. ask none (upTo 0 (M k) decimal) λ m. stop (some (inFunction fs F k m)) in
+    let g₃ : ℕ → Grammar Sofar = λ k. ask none (upTo 0 (M k) decimal) λ m. stop (some (functionBegun fs F k m)) in
     let g₂ : Grammar Sofar = ask none (upTo 0 17 decimal) λ k. word arguments (g₃ k) in
     takes-word (decimal (length fs)) (word locations g₂) (locations ∷ decimal k ∷ arguments ∷ decimal m ∷ [])
     ∙ takes-number 17 (λ k. word arguments (g₃ k)) k (omega arith) (arguments ∷ decimal m ∷ [])
-    ∙ takes-number (M k) (λ m. stop (some (inFunction fs F k m))) m (least-8 k m hm l) []
+    ∙ takes-number (M k) (λ m. stop (some (functionBegun fs F k m))) m (least-8 k m hm l) []
 
 top-function : (S : Scope) (fs : List Function) (F : List ℕ) (l : Line) (p : Sofar) → 12 + length F ≤ 4096 → length fs < 15 → takes (functionLine fs F) l ≡ some p
     → takesOne (lines (sofar (state S (some fs) [] F))) l ≡ some p
@@ -270,13 +267,10 @@ top-function S fs F l p h k t =
     ∙ ap {B = Option Sofar} (λ (b : Bool). takesOne (elim b [ true ↦ functionLine fs F ∷ [] | false ↦ [] ] ++ (mainLine fs F ∷ [])) l) (T→eq (ltb (length fs) 15) (lt→ltb (length fs) 15 k))
     ∙ ap (λ (o : Option Sofar). elim o [ none ↦ takesOne (mainLine fs F ∷ []) l | some a ↦ some a ]) t
 
-abbrev pub inMain : List Function → List ℕ → Sofar
-inMain fs F = state (record { places = 256; earlier = fs }) none (record { before = F; due = false } ∷ []) []
-
-top-main : (S : Scope) (fs : List Function) (F : List ℕ) → takesOne (lines (sofar (state S (some fs) [] F))) (main ∷ []) ≡ some (inMain fs F)
+top-main : (S : Scope) (fs : List Function) (F : List ℕ) → takesOne (lines (sofar (state S (some fs) [] F))) (main ∷ []) ≡ some (mainBegun fs F)
 top-main S fs F = go (leb (12 + length F) 4096) (ltb (length fs) 15)
   where
-    go : (a b : Bool) → takesOne (elim a [ true ↦ elim b [ true ↦ functionLine fs F ∷ [] | false ↦ [] ] | false ↦ [] ] ++ (mainLine fs F ∷ [])) (main ∷ []) ≡ some (inMain fs F)
+    go : (a b : Bool) → takesOne (elim a [ true ↦ elim b [ true ↦ functionLine fs F ∷ [] | false ↦ [] ] | false ↦ [] ] ++ (mainLine fs F ∷ [])) (main ∷ []) ≡ some (mainBegun fs F)
     go true true = refl
     go true false = refl
     go false b = refl
@@ -300,18 +294,18 @@ run-functions (f ∷ gs) fs (a-function hk hm hl body rest) S F p c n l =
     let l₁ : length (F ++ (f .k ∷ f .m ∷ [])) ≡ length F + 2 = length-append F (f .k ∷ f .m ∷ []) in
     let l₂ : length ((F ++ (f .k ∷ f .m ∷ [])) ++ sized (rawsBytes (f .body))) ≡ length (F ++ (f .k ∷ f .m ∷ [])) + suc (suc (length (rawsBytes (f .body)))) = length-append (F ++ (f .k ∷ f .m ∷ [])) (sized (rawsBytes (f .body))) in
     let l₃ : length (sized (rawsBytes (f .body)) ++ functionsBytes gs) ≡ suc (suc (length (rawsBytes (f .body)))) + length (functionsBytes gs) = length-append (sized (rawsBytes (f .body))) (functionsBytes gs) in
-    let line : Line = function ∷ decimal (length fs) ∷ locations ∷ decimal (f .k) ∷ arguments ∷ decimal (f .m) ∷ [] in
-    let s₁ : takesOne (lines (sofar p)) line ≡ some (inFunction fs F (f .k) (f .m)) =
+    let line : Line = headLine (length fs) (f .k) (f .m) in
+    let s₁ : takesOne (lines (sofar p)) line ≡ some (functionBegun fs F (f .k) (f .m)) =
     closes-takes p (state S (some fs) [] F) c 0 (omega arith) 0x66 (0x75 ∷ 0x6E ∷ 0x63 ∷ 0x74 ∷ 0x69 ∷ 0x6F ∷ 0x6E ∷ []) (decimal (length fs) ∷ locations ∷ decimal (f .k) ∷ arguments ∷ decimal (f .m) ∷ [])
-    ∙ top-function S fs F line (inFunction fs F (f .k) (f .m)) (omega arith) (omega arith) (function-taken fs F (f .k) (f .m) hk hm hl) in
-    let R : Ran (inFunction fs F (f .k) (f .m)) (rawsLines 1 (f .body)) (state T (some fs′) (B ∷ []) (rawsBytes (f .body))) = run-raws T (some fs′) 7 (f .body) body B [] [] (omega arith) (omega arith) in
+    ∙ top-function S fs F line (functionBegun fs F (f .k) (f .m)) (omega arith) (omega arith) (function-taken fs F (f .k) (f .m) hk hm hl) in
+    let R : Ran (functionBegun fs F (f .k) (f .m)) (rawsLines 1 (f .body)) (state T (some fs′) (B ∷ []) (rawsBytes (f .body))) = run-raws T (some fs′) 7 (f .body) body B [] [] (omega arith) (omega arith) in
     let C : Closes (R .0) (state T (some fs′) [] F′) = closed T (some fs′) B [] (rawsBytes (f .body)) (R .2) refl refl in
     let Q : RanFunctions (R .0) (rawFunctions (length fs′) gs) (fs′ ++ heads gs) (F′ ++ functionsBytes gs) = run-functions gs fs′ rest T F′ (R .0) C (omega arith) (omega arith) in
     let i : length fs′ ≡ suc (length fs) = omega (arith, lf) in (
       Q .0,
       Q .1,
-      run-next (sofar p) line (rawsLines 1 (f .body) ++ rawFunctions (suc (length fs)) gs) (inFunction fs F (f .k) (f .m)) s₁
-          ∙ run-on (sofar (inFunction fs F (f .k) (f .m))) (sofar (R .0)) (rawsLines 1 (f .body)) (rawFunctions (suc (length fs)) gs) (R .1)
+      run-next (sofar p) line (rawsLines 1 (f .body) ++ rawFunctions (suc (length fs)) gs) (functionBegun fs F (f .k) (f .m)) s₁
+          ∙ run-on (sofar (functionBegun fs F (f .k) (f .m))) (sofar (R .0)) (rawsLines 1 (f .body)) (rawFunctions (suc (length fs)) gs) (R .1)
           ∙ ap (λ (j : ℕ). run (sofar (R .0)) (rawFunctions j gs)) (sym i) ∙ Q .2,
       subst (λ (z : List ℕ). Closes (Q .1) (state (Q .0) (some (fs ++ (headOf (f .k) (f .m) ∷ heads gs))) [] z))
           (append-assoc (F ++ (f .k ∷ f .m ∷ [])) (sized (rawsBytes (f .body))) (functionsBytes gs) ∙ append-assoc F (f .k ∷ f .m ∷ []) (sized (rawsBytes (f .body)) ++ functionsBytes gs))
@@ -329,19 +323,18 @@ runs q g =
     let F : List ℕ = functionsBytes (q .functions) in
     let lp : length (functionsBytes (q .functions) ++ sized (rawsBytes (q .main))) ≡ length (functionsBytes (q .functions)) + suc (suc (length (rawsBytes (q .main)))) = length-append (functionsBytes (q .functions)) (sized (rawsBytes (q .main))) in
     let sh : length (programBytes q) ≤ 4096 = g .short in
-    let p₀ : Sofar = state (record { places = 0; earlier = [] }) (some []) [] [] in
-    let R : RanFunctions p₀ (rawFunctions 0 (q .functions)) (heads (q .functions)) (functionsBytes (q .functions)) =
-    run-functions (q .functions) [] (g .functions) (record { places = 0; earlier = [] }) [] p₀ same (omega (arith, g .few)) (omega arith) in
+    let R : RanFunctions programBegun (rawFunctions 0 (q .functions)) (heads (q .functions)) (functionsBytes (q .functions)) =
+    run-functions (q .functions) [] (g .functions) (record { places = 0; earlier = [] }) [] programBegun same (omega (arith, g .few)) (omega arith) in
     let M : Scope = record { places = 256; earlier = heads (q .functions) } in
     let B : Opened = record { before = functionsBytes (q .functions); due = false } in
-    let s₁ : takesOne (lines (sofar (R .1))) (main ∷ []) ≡ some (inMain (heads (q .functions)) (functionsBytes (q .functions))) =
+    let s₁ : takesOne (lines (sofar (R .1))) (main ∷ []) ≡ some (mainBegun (heads (q .functions)) (functionsBytes (q .functions))) =
     closes-takes (R .1) (state (R .0) (some (heads (q .functions))) [] (functionsBytes (q .functions))) (R .3) 0 (omega arith) 0x6D (0x61 ∷ 0x69 ∷ 0x6E ∷ []) []
     ∙ top-main (R .0) (heads (q .functions)) (functionsBytes (q .functions)) in
-    let Q : Ran (inMain (heads (q .functions)) (functionsBytes (q .functions))) (rawsLines 1 (q .main)) (state M none (B ∷ []) (rawsBytes (q .main))) = run-raws M none 7 (q .main) (g .main) B [] [] (omega arith) (omega arith) in
+    let Q : Ran (mainBegun (heads (q .functions)) (functionsBytes (q .functions))) (rawsLines 1 (q .main)) (state M none (B ∷ []) (rawsBytes (q .main))) = run-raws M none 7 (q .main) (g .main) B [] [] (omega arith) (omega arith) in
     let C : Closes (Q .0) (state M none [] (functionsBytes (q .functions) ++ sized (rawsBytes (q .main)))) = closed M none B [] (rawsBytes (q .main)) (Q .2) refl refl in (
       sofar (Q .0),
-      run-on (sofar p₀) (sofar (R .1)) (rawFunctions 0 (q .functions)) ((main ∷ []) ∷ rawsLines 1 (q .main)) (R .2)
-          ∙ run-next (sofar (R .1)) (main ∷ []) (rawsLines 1 (q .main)) (inMain (heads (q .functions)) (functionsBytes (q .functions))) s₁ ∙ Q .1,
+      run-on (sofar programBegun) (sofar (R .1)) (rawFunctions 0 (q .functions)) ((main ∷ []) ∷ rawsLines 1 (q .main)) (R .2)
+          ∙ run-next (sofar (R .1)) (main ∷ []) (rawsLines 1 (q .main)) (mainBegun (heads (q .functions)) (functionsBytes (q .functions))) s₁ ∙ Q .1,
       closes-file (Q .0) (state M none [] (functionsBytes (q .functions) ++ sized (rawsBytes (q .main)))) C
-          ∙ ap (λ (n : ℕ). some (0x51 ∷ 0x4C ∷ 0x53 ∷ 0x00 ∷ 0x01 ∷ n ∷ (functionsBytes (q .functions) ++ sized (rawsBytes (q .main))))) (length-heads (q .functions)),
+          ∙ ap (λ (n : ℕ). some (header n ++ (functionsBytes (q .functions) ++ sized (rawsBytes (q .main))))) (length-heads (q .functions)),
     )

@@ -17,14 +17,14 @@ use Rattle.rules.specs.Table.{Meaning, simple, branches, loops, calls, Row, row
 use Rattle.rules.specs.Program.{Scope}
 use Rattle.rules.specs.Words.{Text, decimal, place}
 use Rattle.rules.specs.Names.{program, function, locations, arguments, main, else, at, with}
-use Rattle.rules.specs.Listing.{Line, indented, listed, operandsIn}
+use Rattle.rules.specs.Listing.{headLine, Line, indented, listed, operandsIn}
 use Rattle.rules.specs.Grammar.{Grammar, stop, ask, dead, word, takes, takesOne}
-use Rattle.rules.specs.Unlisting.{Opened, Sofar, State, fresh, sofar, sized, least, room, deeper, added, opened, operands, list, made, blocksOf, rowLine, statementLine, indent, functionLine, mainLine, topLines, linesAfter, lines, file}
+use Rattle.rules.specs.Unlisting.{Opened, Sofar, State, fresh, sofar, sized, least, room, deeper, added, opened, operands, list, made, blocksOf, rowLine, statementLine, indent, functionLine, mainLine, topLines, linesAfter, lines, file, header, functionBegun, mainBegun, programBegun}
 use Rattle.rules.proofs.Tests.{eq→T}
 use Rattle.trips.proofs.Grammars.{none-not-some, place-found, took}
 use Rattle.trips.proofs.Reading.{run, ran}
 use Rattle.trips.proofs.Offered.{elseLine}
-use Rattle.trips.proofs.Running.{state, size-xs, same, closed, closes-file, inFunction, inMain, length-heads}
+use Rattle.trips.proofs.Running.{state, size-xs, same, closed, closes-file, length-heads}
 use Rattle.trips.proofs.Rows.{name-at}
 use Rattle.trips.proofs.Raw.{Raw, plain, called, fork, loop, Raws, end, _then_, rawBytes, rawsBytes, said, rawLine, rawLines, rawsLines, Operands, ranged-length, Said, took-operands, Listed, took-list, Good, good-plain, good-called, good-fork, good-loop, Goods, good-end, good-then, RawFunction, RawProgram, headOf, heads, functionsBytes, programBytes, rawFunctions, rawProgramLines, GoodFunctions, no-functions, a-function, GoodProgram, RunsBack}
 
@@ -173,14 +173,11 @@ depthOf c = suc (length (outerOf c))
 abbrev stateOf : Ctx → Raws → Sofar
 stateOf c rs = state (scopeOf c) (afterOf c) (topOf c ∷ outerOf c) (rawsBytes rs)
 
-abbrev functionHead : ℕ → ℕ → ℕ → Line
-functionHead i k m = function ∷ decimal i ∷ locations ∷ decimal k ∷ arguments ∷ decimal m ∷ []
-
 abbrev firstLines : List RawFunction → List Line
 firstLines fs = (program ∷ decimal 1 ∷ []) ∷ rawFunctions 0 fs
 
 abbrev ctxLines : Ctx → List Line
-ctxLines (in-function fs k m) = firstLines fs ++ (functionHead (length fs) k m ∷ [])
+ctxLines (in-function fs k m) = firstLines fs ++ (headLine (length fs) k m ∷ [])
 ctxLines (in-main fs) = firstLines fs ++ ((main ∷ []) ∷ [])
 ctxLines (in-loop c rs b xs) = (ctxLines c ++ rawsLines (depthOf c) rs) ++ (indented (depthOf c) (rawLine b xs) ∷ [])
 ctxLines (in-first c rs b xs) = (ctxLines c ++ rawsLines (depthOf c) rs) ++ (indented (depthOf c) (rawLine b xs) ∷ [])
@@ -310,11 +307,11 @@ functions-bytes-snoc (g ∷ gs) f =
     ap (λ (z : List ℕ). (g .k ∷ g .m ∷ sized (rawsBytes (g .body))) ++ z) (functions-bytes-snoc gs f)
     ∙ sym (append-assoc (g .k ∷ g .m ∷ sized (rawsBytes (g .body))) (functionsBytes gs) (f .k ∷ f .m ∷ sized (rawsBytes (f .body))))
 
-functions-lines-snoc : (i : ℕ) (fs : List RawFunction) (f : RawFunction) → rawFunctions i (fs ++ (f ∷ [])) ≡ rawFunctions i fs ++ (functionHead (i + length fs) (f .k) (f .m) ∷ rawsLines 1 (f .body))
-functions-lines-snoc i [] f = ap (λ (j : ℕ). functionHead j (f .k) (f .m) ∷ (rawsLines 1 (f .body) ++ [])) (sym (add-zero i)) ∙ ap (λ (z : List Line). functionHead (i + 0) (f .k) (f .m) ∷ z) (append-nil (rawsLines 1 (f .body)))
+functions-lines-snoc : (i : ℕ) (fs : List RawFunction) (f : RawFunction) → rawFunctions i (fs ++ (f ∷ [])) ≡ rawFunctions i fs ++ (headLine (i + length fs) (f .k) (f .m) ∷ rawsLines 1 (f .body))
+functions-lines-snoc i [] f = ap (λ (j : ℕ). headLine j (f .k) (f .m) ∷ (rawsLines 1 (f .body) ++ [])) (sym (add-zero i)) ∙ ap (λ (z : List Line). headLine (i + 0) (f .k) (f .m) ∷ z) (append-nil (rawsLines 1 (f .body)))
 functions-lines-snoc i (g ∷ gs) f =
-    ap (λ (z : List Line). functionHead i (g .k) (g .m) ∷ (rawsLines 1 (g .body) ++ z)) (functions-lines-snoc (suc i) gs f ∙ ap (λ (j : ℕ). rawFunctions (suc i) gs ++ (functionHead j (f .k) (f .m) ∷ rawsLines 1 (f .body))) (suc-add i (length gs) ∙ sym (add-suc i (length gs))))
-    ∙ ap (λ (z : List Line). functionHead i (g .k) (g .m) ∷ z) (sym (append-assoc (rawsLines 1 (g .body)) (rawFunctions (suc i) gs) (functionHead (i + suc (length gs)) (f .k) (f .m) ∷ rawsLines 1 (f .body))))
+    ap (λ (z : List Line). headLine i (g .k) (g .m) ∷ (rawsLines 1 (g .body) ++ z)) (functions-lines-snoc (suc i) gs f ∙ ap (λ (j : ℕ). rawFunctions (suc i) gs ++ (headLine j (f .k) (f .m) ∷ rawsLines 1 (f .body))) (suc-add i (length gs) ∙ sym (add-suc i (length gs))))
+    ∙ ap (λ (z : List Line). headLine i (g .k) (g .m) ∷ z) (sym (append-assoc (rawsLines 1 (g .body)) (rawFunctions (suc i) gs) (headLine (i + suc (length gs)) (f .k) (f .m) ∷ rawsLines 1 (f .body))))
 
 functions-good-snoc : (hs : List Function) (fs : List RawFunction) (f : RawFunction) → GoodFunctions hs fs → f .k ≤ 16 → f .m ≤ 8 → f .m ≤ f .k → Goods (record { places = f .k; earlier = hs ++ heads fs }) 7 (f .body)
     → GoodFunctions hs (fs ++ (f ∷ []))
@@ -337,40 +334,40 @@ function-next fs g n f l p′ h =
     let hs : List Function = heads fs in
     let F : List ℕ = functionsBytes fs in
     let M : ℕ → ℕ = λ k. suc (elim (leb k 8) [ true ↦ k | false ↦ 8 ]) in
-    let g₃ : ℕ → Grammar Sofar = λ k. ask none (upTo 0 (M k) decimal) λ m. stop (some (inFunction (heads fs) (functionsBytes fs) k m)) in
+    let g₃ : ℕ → Grammar Sofar = λ k. ask none (upTo 0 (M k) decimal) λ m. stop (some (functionBegun (heads fs) (functionsBytes fs) k m)) in
     let g₂ : Grammar Sofar = ask none (upTo 0 17 decimal) λ k. word arguments (g₃ k) in
     let a : (vs : List Text) × (l ≡ function ∷ vs) × (takes (word (decimal (length (heads fs))) (word locations g₂)) vs ≡ some p′) = took-word function (word (decimal (length (heads fs))) (word locations g₂)) l p′ h in
     let b : (vs : List Text) × (a .0 ≡ decimal (length (heads fs)) ∷ vs) × (takes (word locations g₂) vs ≡ some p′) = took-word (decimal (length (heads fs))) (word locations g₂) (a .0) p′ (a .2) in
     let c : (vs : List Text) × (b .0 ≡ locations ∷ vs) × (takes g₂ vs ≡ some p′) = took-word locations g₂ (b .0) p′ (b .2) in
     let d : (k : ℕ) × (vs : List Text) × (c .0 ≡ decimal k ∷ vs) × (k < 17) × (takes (word arguments (g₃ k)) vs ≡ some p′) = took-number 17 (λ k. word arguments (g₃ k)) (c .0) p′ (c .2) in
     let e : (vs : List Text) × (d .1 ≡ arguments ∷ vs) × (takes (g₃ (d .0)) vs ≡ some p′) = took-word arguments (g₃ (d .0)) (d .1) p′ (d .4) in
-    let i : (m : ℕ) × (vs : List Text) × (e .0 ≡ decimal m ∷ vs) × (m < M (d .0)) × (takes (stop (some (inFunction (heads fs) (functionsBytes fs) (d .0) m))) vs ≡ some p′) =
-    took-number (M (d .0)) (λ m. stop (some (inFunction (heads fs) (functionsBytes fs) (d .0) m))) (e .0) p′ (e .2) in
-    let j : (i .1 ≡ []) × (inFunction (heads fs) (functionsBytes fs) (d .0) (i .0) ≡ p′) = took-stop (inFunction (heads fs) (functionsBytes fs) (d .0) (i .0)) (i .1) p′ (i .4) in
+    let i : (m : ℕ) × (vs : List Text) × (e .0 ≡ decimal m ∷ vs) × (m < M (d .0)) × (takes (stop (some (functionBegun (heads fs) (functionsBytes fs) (d .0) m))) vs ≡ some p′) =
+    took-number (M (d .0)) (λ m. stop (some (functionBegun (heads fs) (functionsBytes fs) (d .0) m))) (e .0) p′ (e .2) in
+    let j : (i .1 ≡ []) × (functionBegun (heads fs) (functionsBytes fs) (d .0) (i .0) ≡ p′) = took-stop (functionBegun (heads fs) (functionsBytes fs) (d .0) (i .0)) (i .1) p′ (i .4) in
     let m8 : (i .0 ≤ 8) × (i .0 ≤ d .0) = at-most-8 (d .0) (i .0) (i .3) in
     let k16 : d .0 ≤ 16 = omega (arith, d .3) in
-    let line : l ≡ functionHead (length fs) (d .0) (i .0) =
+    let line : l ≡ headLine (length fs) (d .0) (i .0) =
     a .1 ∙ ap (λ (z : List Text). function ∷ z) (b .1 ∙ ap (λ (z : ℕ). decimal z ∷ b .0) (length-heads fs)
     ∙ ap (λ (z : List Text). decimal (length fs) ∷ z) (c .1 ∙ ap (λ (z : List Text). locations ∷ z) (d .2 ∙ ap (λ (z : List Text). decimal (d .0) ∷ z) (e .1 ∙ ap (λ (z : List Text). arguments ∷ z) (i .2 ∙ ap (λ (z : List Text). decimal (i .0) ∷ z) (j .0)))))) in
     let lf : length (functionsBytes fs ++ (d .0 ∷ i .0 ∷ [])) ≡ length (functionsBytes fs) + 2 = length-append (functionsBytes fs) (d .0 ∷ i .0 ∷ []) in
-    let fit : least (inFunction (heads fs) (functionsBytes fs) (d .0) (i .0)) ≤ 4096 = omega arith in (
+    let fit : least (functionBegun (heads fs) (functionsBytes fs) (d .0) (i .0)) ≤ 4096 = omega arith in (
       in-function fs (d .0) (i .0),
       7,
       end,
       good-function g n k16 (m8 .0) (m8 .1),
       good-end,
       sym (j .1),
-      append-nil (firstLines fs ++ (functionHead (length fs) (d .0) (i .0) ∷ [])) ∙ ap (λ (z : Line). firstLines fs ++ (z ∷ [])) (sym line),
+      append-nil (firstLines fs ++ (headLine (length fs) (d .0) (i .0) ∷ [])) ∙ ap (λ (z : Line). firstLines fs ++ (z ∷ [])) (sym line),
       subst (λ (q : Sofar). least q ≤ 4096) (j .1) fit,
     )
 
 main-next : (fs : List RawFunction) → GoodFunctions [] fs → length fs ≤ 15 → 8 + length (functionsBytes fs) ≤ 4096 → (l : Line) (p′ : Sofar)
     → takes (mainLine (heads fs) (functionsBytes fs)) l ≡ some p′ → Next (firstLines fs ++ (l ∷ [])) p′
 main-next fs g n f l p′ h =
-    let a : (vs : List Text) × (l ≡ main ∷ vs) × (takes (stop (some (inMain (heads fs) (functionsBytes fs)))) vs ≡ some p′) = took-word main (stop (some (inMain (heads fs) (functionsBytes fs)))) l p′ h in
-    let j : (a .0 ≡ []) × (inMain (heads fs) (functionsBytes fs) ≡ p′) = took-stop (inMain (heads fs) (functionsBytes fs)) (a .0) p′ (a .2) in
+    let a : (vs : List Text) × (l ≡ main ∷ vs) × (takes (stop (some (mainBegun (heads fs) (functionsBytes fs)))) vs ≡ some p′) = took-word main (stop (some (mainBegun (heads fs) (functionsBytes fs)))) l p′ h in
+    let j : (a .0 ≡ []) × (mainBegun (heads fs) (functionsBytes fs) ≡ p′) = took-stop (mainBegun (heads fs) (functionsBytes fs)) (a .0) p′ (a .2) in
     let line : l ≡ main ∷ [] = a .1 ∙ ap (λ (z : List Text). main ∷ z) (j .0) in
-    let fit : least (inMain (heads fs) (functionsBytes fs)) ≤ 4096 = omega arith in
+    let fit : least (mainBegun (heads fs) (functionsBytes fs)) ≤ 4096 = omega arith in
     (in-main fs, 7, end, good-main g n, good-end, sym (j .1), append-nil (firstLines fs ++ ((main ∷ []) ∷ [])) ∙ ap (λ (z : Line). firstLines fs ++ (z ∷ [])) (sym line), subst (λ (q : Sofar). least q ≤ 4096) (j .1) fit)
 
 top-next : (fs : List RawFunction) → GoodFunctions [] fs → length fs ≤ 15 → 8 + length (functionsBytes fs) ≤ 4096 → (l : Line) (p′ : Sofar)
@@ -436,8 +433,8 @@ withBody fs k m rs = fs ++ (record { k = k; m = m; body = rs } ∷ [])
 
 body-lines : (fs : List RawFunction) (k m : ℕ) (rs : Raws) → firstLines (withBody fs k m rs) ≡ linesOf (in-function fs k m) rs
 body-lines fs k m rs =
-    ap (λ (z : List Line). (program ∷ decimal 1 ∷ []) ∷ z) (functions-lines-snoc 0 fs (record { k = k; m = m; body = rs }) ∙ ap (λ (i : ℕ). rawFunctions 0 fs ++ (functionHead i k m ∷ rawsLines 1 rs)) (zero-add (length fs)))
-    ∙ sym (append-assoc (firstLines fs) (functionHead (length fs) k m ∷ []) (rawsLines 1 rs))
+    ap (λ (z : List Line). (program ∷ decimal 1 ∷ []) ∷ z) (functions-lines-snoc 0 fs (record { k = k; m = m; body = rs }) ∙ ap (λ (i : ℕ). rawFunctions 0 fs ++ (headLine i k m ∷ rawsLines 1 rs)) (zero-add (length fs)))
+    ∙ sym (append-assoc (firstLines fs) (headLine (length fs) k m ∷ []) (rawsLines 1 rs))
 
 body-bytes : (fs : List RawFunction) (k m : ℕ) (rs : Raws) → (functionsBytes fs ++ (k ∷ m ∷ [])) ++ sized (rawsBytes rs) ≡ functionsBytes (withBody fs k m rs)
 body-bytes fs k m rs = append-assoc (functionsBytes fs) (k ∷ m ∷ []) (sized (rawsBytes rs)) ∙ sym (functions-bytes-snoc fs (record { k = k; m = m; body = rs }))
@@ -542,7 +539,7 @@ complete (in-function fs k m) d rs (good-function g n i j h) gs f =
 complete (in-main fs) d rs (good-main g n) gs f =
     let q : RawProgram = record { functions = fs; main = rs } in
     let lp : length (functionsBytes fs ++ sized (rawsBytes rs)) ≡ length (functionsBytes fs) + suc (suc (length (rawsBytes rs))) = length-append (functionsBytes fs) (sized (rawsBytes rs)) in
-    let Z : ℕ → List ℕ = λ n. 0x51 ∷ 0x4C ∷ 0x53 ∷ 0x00 ∷ 0x01 ∷ n ∷ (functionsBytes fs ++ sized (rawsBytes rs)) in (
+    let Z : ℕ → List ℕ = λ n. header n ++ (functionsBytes fs ++ sized (rawsBytes rs)) in (
       q,
       [],
       record { few = n; functions = g; main = gs; short = omega arith },
@@ -586,9 +583,6 @@ complete (in-second c qs b xs q) d rs (good-in-second g hs r row e o gq) gs f =
 empty-good : GoodProgram (record { functions = []; main = end })
 empty-good = record { few = omega arith; functions = no-functions; main = good-end; short = omega arith }
 
-abbrev start : Sofar
-start = state (record { places = 0; earlier = [] }) (some []) [] []
-
 abbrev Backed : List Line → State → Type 0
 Backed ls σ = (q : RawProgram) × (more : List Line) × GoodProgram q × (rawProgramLines q ≡ ls ++ more) × ((z : List ℕ) → file σ ≡ some z → (z ≡ programBytes q) × (more ≡ []))
 
@@ -597,13 +591,13 @@ backed L q σ e n =
     let c : Completed (stateOf (n .0) (n .2)) (linesOf (n .0) (n .2)) = complete (n .0) (n .1) (n .2) (n .3) (n .4) (subst (λ (p : Sofar). least p ≤ 4096) (n .5) (n .7)) in
     (c .0, c .1, c .2, c .3 ∙ ap (λ (z : List Line). z ++ c .1) (n .6), λ z u. c .4 z (ap (λ (p : Sofar). file (sofar p)) (sym (n .5)) ∙ ap file (sym e) ∙ u))
 
-from-start : (ls : List Line) (σ : State) → run (sofar start) ls ≡ some σ → Backed ((program ∷ decimal 1 ∷ []) ∷ ls) σ
+from-start : (ls : List Line) (σ : State) → run (sofar programBegun) ls ≡ some σ → Backed ((program ∷ decimal 1 ∷ []) ∷ ls) σ
 from-start [] σ h =
-    let e : some (sofar start) ≡ some σ = h in
-    let v : sofar start ≡ σ = cc in
+    let e : some (sofar programBegun) ≡ some σ = h in
+    let v : sofar programBegun ≡ σ = cc in
     (record { functions = []; main = end }, (main ∷ []) ∷ [], empty-good, refl, λ z u. none-not-some (ap file v ∙ u))
 from-start (l ∷ ls) σ h =
-    let r : (p : Sofar) × (takesOne (lines (sofar start)) l ≡ some p) × (run (sofar p) ls ≡ some σ) = ran (sofar start) σ l ls h in
+    let r : (p : Sofar) × (takesOne (lines (sofar programBegun)) l ≡ some p) × (run (sofar p) ls ≡ some σ) = ran (sofar programBegun) σ l ls h in
     let n : Next ((program ∷ decimal 1 ∷ []) ∷ l ∷ []) (r .0) = top-next [] no-functions (omega arith) (omega arith) l (r .0) (r .1) in
     let t : (q : Sofar) × (σ ≡ sofar q) × Next (linesOf (n .0) (n .2) ++ ls) q = all-next ls (n .0) (n .1) (n .2) (n .3) (n .4) (r .0) (n .5) (n .7) σ (r .2) in
     backed ((program ∷ decimal 1 ∷ []) ∷ l ∷ ls) (t .0) σ (t .1) (subst (λ (z : List Line). Next z (t .0)) (ap (λ (z : List Line). z ++ ls) (n .6)) (t .2))
@@ -615,13 +609,13 @@ runs-back [] σ h =
     (record { functions = []; main = end }, (program ∷ decimal 1 ∷ []) ∷ (main ∷ []) ∷ [], empty-good, refl, λ z u. none-not-some (ap file v ∙ u))
 runs-back (l ∷ ls) σ h =
     let r : (p : Sofar) × (takesOne (lines fresh) l ≡ some p) × (run (sofar p) ls ≡ some σ) = ran fresh σ l ls h in
-    go (r .0) (r .2) (took-one (word program (word (decimal 1) (stop (some start)))) [] l (r .0) (r .1))
+    go (r .0) (r .2) (took-one (word program (word (decimal 1) (stop (some programBegun)))) [] l (r .0) (r .1))
   where
-    go : (p : Sofar) → run (sofar p) ls ≡ some σ → (takes (word program (word (decimal 1) (stop (some start)))) l ≡ some p) ⊎ (takesOne [] l ≡ some p) → Backed (l ∷ ls) σ
+    go : (p : Sofar) → run (sofar p) ls ≡ some σ → (takes (word program (word (decimal 1) (stop (some programBegun)))) l ≡ some p) ⊎ (takesOne [] l ≡ some p) → Backed (l ∷ ls) σ
     go p k (inl t) =
-        let a : (vs : List Text) × (l ≡ program ∷ vs) × (takes (word (decimal 1) (stop (some start))) vs ≡ some p) = took-word program (word (decimal 1) (stop (some start))) l p t in
-        let b : (vs : List Text) × (a .0 ≡ decimal 1 ∷ vs) × (takes (stop (some start)) vs ≡ some p) = took-word (decimal 1) (stop (some start)) (a .0) p (a .2) in
-        let c : (b .0 ≡ []) × (start ≡ p) = took-stop start (b .0) p (b .2) in
+        let a : (vs : List Text) × (l ≡ program ∷ vs) × (takes (word (decimal 1) (stop (some programBegun))) vs ≡ some p) = took-word program (word (decimal 1) (stop (some programBegun))) l p t in
+        let b : (vs : List Text) × (a .0 ≡ decimal 1 ∷ vs) × (takes (stop (some programBegun)) vs ≡ some p) = took-word (decimal 1) (stop (some programBegun)) (a .0) p (a .2) in
+        let c : (b .0 ≡ []) × (programBegun ≡ p) = took-stop programBegun (b .0) p (b .2) in
         let e : program ∷ decimal 1 ∷ [] ≡ l = sym (a .1 ∙ ap (λ (z : List Text). program ∷ z) (b .1 ∙ ap (λ (z : List Text). decimal 1 ∷ z) (c .0))) in
         subst (λ (z : Line). Backed (z ∷ ls) σ) e (from-start ls σ (ap (λ (q : Sofar). run (sofar q) ls) (c .1) ∙ k))
     go p k (inr t) = none-not-some t

@@ -21,7 +21,7 @@ use Rattle.rules.specs.Unlisting.{sized}
 use Rattle.trips.specs.Trips.{Short}
 use Rattle.rules.proofs.Tests.{eq→T}
 use Rattle.trips.proofs.Reading.{listing-of}
-use Rattle.trips.proofs.Raw.{Raw, plain, called, fork, loop, Raws, end, _then_, rawBytes, rawsBytes, said, rawLine, rawLines, rawsLines, Operands, operands-length, Good, good-plain, good-called, good-fork, good-loop, Goods, good-then, RawFunction, RawProgram, headOf, heads, functionsBytes, programBytes, rawFunctions, rawProgramLines, GoodFunctions, a-function, GoodProgram}
+use Rattle.trips.proofs.Raw.{length-sized, sized-length, Raw, plain, called, fork, loop, Raws, end, _then_, rawBytes, rawsBytes, said, rawLine, rawLines, rawsLines, Operands, operands-length, Good, good-plain, good-called, good-fork, good-loop, Goods, good-then, RawFunction, RawProgram, headOf, heads, functionsBytes, programBytes, rawFunctions, rawProgramLines, GoodFunctions, a-function, GoodProgram}
 use Rattle.trips.proofs.Rows.{row-some, name-short}
 use Rattle.trips.proofs.Parsed.{reads}
 
@@ -130,7 +130,7 @@ mutual
       let w : (weight (rawLine b xs) ≤ 8 + 4 * length xs) × (1 ≤ length xs) = weight-row S b r row xs o in
       let i : length (written (rawsLines (suc n) q ++ t)) ≤ 16 * length (rawsBytes q) + length (written t) = raws-short S d q gq (suc n) (omega arith) t in
       let e : length (join space (indented n (rawLine b xs)) ++ (newline ∷ written (rawsLines (suc n) q ++ t))) ≡ n + n + weight (rawLine b xs) + length (written (rawsLines (suc n) q ++ t)) = length-indented n (nameOf b) (said (operandsIn (rowOf b)) xs) (written (rawsLines (suc n) q ++ t)) in
-      let l₁ : length (xs ++ sized (rawsBytes q)) ≡ length xs + suc (suc (length (rawsBytes q))) = length-append xs (sized (rawsBytes q)) in
+      let l₁ : length (xs ++ sized (rawsBytes q)) ≡ length xs + suc (suc (length (rawsBytes q))) = length-sized xs (rawsBytes q) in
       omega (arith, w .0, w .1)
   raw-short S (suc d) (fork b xs q u) (good-fork r row m o gq gu) n l t =
       let w : (weight (rawLine b xs) ≤ 8 + 4 * length xs) × (1 ≤ length xs) = weight-row S b r row xs o in
@@ -142,7 +142,7 @@ mutual
       let e : length (join space (indented n (rawLine b xs)) ++ (newline ∷ written (rawsLines (suc n) q ++ (indented n (else ∷ []) ∷ (rawsLines (suc n) u ++ t))))) ≡ n + n + weight (rawLine b xs) + length (written (rawsLines (suc n) q ++ (indented n (else ∷ []) ∷ (rawsLines (suc n) u ++ t)))) =
       length-indented n (nameOf b) (said (operandsIn (rowOf b)) xs) (written (rawsLines (suc n) q ++ (indented n (else ∷ []) ∷ (rawsLines (suc n) u ++ t)))) in
       let l₁ : length (xs ++ (sized (rawsBytes q) ++ sized (rawsBytes u))) ≡ length xs + length (sized (rawsBytes q) ++ sized (rawsBytes u)) = length-append xs (sized (rawsBytes q) ++ sized (rawsBytes u)) in
-      let l₂ : length (sized (rawsBytes q) ++ sized (rawsBytes u)) ≡ suc (suc (length (rawsBytes q))) + suc (suc (length (rawsBytes u))) = length-append (sized (rawsBytes q)) (sized (rawsBytes u)) in
+      let l₂ : length (sized (rawsBytes q) ++ sized (rawsBytes u)) ≡ suc (suc (length (rawsBytes q))) + suc (suc (length (rawsBytes u))) = length-sized (sized (rawsBytes q)) (rawsBytes u) in
       let a : rawLines n (fork b xs q u) ++ t ≡ indented n (rawLine b xs) ∷ (rawsLines (suc n) q ++ (indented n (else ∷ []) ∷ (rawsLines (suc n) u ++ t))) = ap (λ (z : List Line). indented n (rawLine b xs) ∷ z) (append-assoc (rawsLines (suc n) q) (indented n (else ∷ []) ∷ rawsLines (suc n) u) t) in
       let c : length (written (rawLines n (fork b xs q u) ++ t)) ≡ length (written (indented n (rawLine b xs) ∷ (rawsLines (suc n) q ++ (indented n (else ∷ []) ∷ (rawsLines (suc n) u ++ t))))) = ap (λ (z : List Line). length (written z)) a in
       let k : length (written (indented n (rawLine b xs) ∷ (rawsLines (suc n) q ++ (indented n (else ∷ []) ∷ (rawsLines (suc n) u ++ t))))) ≤ 16 * length (rawBytes (fork b xs q u)) + length (written t) = omega (arith, w .0, w .1) in
@@ -166,7 +166,7 @@ functions-short (f ∷ gs) hs (a-function hk hm hl body rest) i t =
     let c : length (written ((rawsLines 1 (f .body) ++ rawFunctions (suc i) gs) ++ t)) ≡ length (written (rawsLines 1 (f .body) ++ (rawFunctions (suc i) gs ++ t))) = ap (λ (z : List Line). length (written z)) (append-assoc (rawsLines 1 (f .body)) (rawFunctions (suc i) gs) t) in
     let e : length (join space (headLine i (f .k) (f .m)) ++ (newline ∷ written ((rawsLines 1 (f .body) ++ rawFunctions (suc i) gs) ++ t)))
     ≡ weight (headLine i (f .k) (f .m)) + length (written ((rawsLines 1 (f .body) ++ rawFunctions (suc i) gs) ++ t)) = length-line function (decimal i ∷ locations ∷ decimal (f .k) ∷ arguments ∷ decimal (f .m) ∷ []) (written ((rawsLines 1 (f .body) ++ rawFunctions (suc i) gs) ++ t)) in
-    let z : length (sized (rawsBytes (f .body)) ++ functionsBytes gs) ≡ suc (suc (length (rawsBytes (f .body)))) + length (functionsBytes gs) = length-append (sized (rawsBytes (f .body))) (functionsBytes gs) in
+    let z : length (sized (rawsBytes (f .body)) ++ functionsBytes gs) ≡ suc (suc (length (rawsBytes (f .body)))) + length (functionsBytes gs) = sized-length (rawsBytes (f .body)) (functionsBytes gs) in
     omega (arith, short-decimal i, short-decimal (f .k), short-decimal (f .m))
 
 program-short : (q : RawProgram) → GoodProgram q → length (written (rawProgramLines q)) ≤ 16 * length (programBytes q)
@@ -178,7 +178,7 @@ program-short q g =
     let d : length (join space (main ∷ []) ++ (newline ∷ written (rawsLines 1 (q .main)))) ≡ 5 + length (written (rawsLines 1 (q .main))) = length-line main [] (written (rawsLines 1 (q .main))) in
     let e : length (join space (program ∷ decimal 1 ∷ []) ++ (newline ∷ written (rawFunctions 0 (q .functions) ++ ((main ∷ []) ∷ rawsLines 1 (q .main))))) ≡ 10 + length (written (rawFunctions 0 (q .functions) ++ ((main ∷ []) ∷ rawsLines 1 (q .main)))) =
     length-line program (decimal 1 ∷ []) (written (rawFunctions 0 (q .functions) ++ ((main ∷ []) ∷ rawsLines 1 (q .main)))) in
-    let f : length (functionsBytes (q .functions) ++ sized (rawsBytes (q .main))) ≡ length (functionsBytes (q .functions)) + suc (suc (length (rawsBytes (q .main)))) = length-append (functionsBytes (q .functions)) (sized (rawsBytes (q .main))) in
+    let f : length (functionsBytes (q .functions) ++ sized (rawsBytes (q .main))) ≡ length (functionsBytes (q .functions)) + suc (suc (length (rawsBytes (q .main)))) = length-sized (functionsBytes (q .functions)) (rawsBytes (q .main)) in
     omega arith
 
 pub short : Short

@@ -26,7 +26,7 @@ use Rattle.rules.specs.Listing.{headLine, Line, indented, listed, statementLine
 use Rattle.rules.specs.Unlisting.{sized}
 use Rattle.trips.specs.Trips.{Bytes}
 use Rattle.trips.proofs.Grammars.{both}
-use Rattle.trips.proofs.Raw.{Raw, plain, called, fork, loop, Raws, end, _then_, rawBytes, rawsBytes, rawLine, rawLines, rawsLines, Within, Ranged, Operands, Good, good-plain, good-called, good-fork, good-loop, Goods, good-end, good-then, RawFunction, RawProgram, headOf, heads, functionsBytes, programBytes, rawFunctions, rawProgramLines, GoodFunctions, no-functions, a-function, GoodProgram, Reads}
+use Rattle.trips.proofs.Raw.{length-sized, sized-length, Raw, plain, called, fork, loop, Raws, end, _then_, rawBytes, rawsBytes, rawLine, rawLines, rawsLines, Within, Ranged, Operands, Good, good-plain, good-called, good-fork, good-loop, Goods, good-end, good-then, RawFunction, RawProgram, headOf, heads, functionsBytes, programBytes, rawFunctions, rawProgramLines, GoodFunctions, no-functions, a-function, GoodProgram, Reads}
 use Rattle.trips.proofs.Rows.{headSpoken, isOperand, row-head, row-operands, row-calls}
 use Rattle.trips.proofs.Placed.{At, at-end, at-append, at-upTo, at-all, stub, stubbed, map-snoc, withins, ranged-operands}
 use Rattle.trips.proofs.Readback.{moved, fixed-line, map-places}
@@ -147,7 +147,7 @@ module _ (s : List ℕ) (bytes : Bytes s) where
           let ab : At s (i + size r) (sized (rawsBytes (u .1)) ++ sized (rawsBytes (v .1))) = at-append s (sized (rawsBytes (u .1))) (sized (rawsBytes (v .1))) (i + size r) (u .4) (moved s (b .next) (i + size r + length (sized (rawsBytes (u .1)))) (sized (rawsBytes (v .1))) pj (v .4)) in
           let a : At s i (byte s i ∷ (part (i + 1) (length (r .operands)) ++ (sized (rawsBytes (u .1)) ++ sized (rawsBytes (v .1))))) = fixed-at i r row l′ o (sized (rawsBytes (u .1)) ++ sized (rawsBytes (v .1))) ab in
           let z : i + size r + length (sized (rawsBytes (u .1)) ++ sized (rawsBytes (v .1))) ≡ i + length (byte s i ∷ (part (i + 1) (length (r .operands)) ++ (sized (rawsBytes (u .1)) ++ sized (rawsBytes (v .1))))) = fixed-size i r row l′ o (sized (rawsBytes (u .1)) ++ sized (rawsBytes (v .1))) in
-          let lz : length (sized (rawsBytes (u .1)) ++ sized (rawsBytes (v .1))) ≡ suc (suc (length (rawsBytes (u .1)))) + suc (suc (length (rawsBytes (v .1)))) = length-append (sized (rawsBytes (u .1))) (sized (rawsBytes (v .1))) in
+          let lz : length (sized (rawsBytes (u .1)) ++ sized (rawsBytes (v .1))) ≡ suc (suc (length (rawsBytes (u .1)))) + suc (suc (length (rawsBytes (v .1)))) = length-sized (sized (rawsBytes (u .1))) (rawsBytes (v .1)) in
           let nx : c .next ≡ i + length (byte s i ∷ (part (i + 1) (length (r .operands)) ++ (sized (rawsBytes (u .1)) ++ sized (rawsBytes (v .1))))) = omega (arith, u .5, v .5) in
           by (
             fork (byte s i) (part (i + 1) (length (r .operands))) (u .1) (v .1),
@@ -291,7 +291,7 @@ module _ (s : List ℕ) (bytes : Bytes s) where
           let le : i + 2 + length (sized (rawsBytes (v .1))) ≤ length s = at-end s (sized (rawsBytes (v .1))) (i + 2) (v .4) in
           let a : At s i (functionsBytes (record { k = H .locations; m = H .arguments; body = v .1 } ∷ w .0)) =
           (sym (c .0), omega arith, (ap (byte s) (sym e₁) ∙ sym (c .1), omega arith, moved s (i + 2) (suc (suc i)) (sized (rawsBytes (v .1)) ++ functionsBytes (w .0)) e₂ a₂)) in
-          let lz : length (sized (rawsBytes (v .1)) ++ functionsBytes (w .0)) ≡ suc (suc (length (rawsBytes (v .1)))) + length (functionsBytes (w .0)) = length-append (sized (rawsBytes (v .1))) (functionsBytes (w .0)) in
+          let lz : length (sized (rawsBytes (v .1)) ++ functionsBytes (w .0)) ≡ suc (suc (length (rawsBytes (v .1)))) + length (functionsBytes (w .0)) = sized-length (rawsBytes (v .1)) (functionsBytes (w .0)) in
           let nx : r .next ≡ i + length (functionsBytes (record { k = H .locations; m = H .arguments; body = v .1 } ∷ w .0)) = omega (arith, w .7, v .5) in (
             record { k = H .locations; m = H .arguments; body = v .1 } ∷ w .0,
             record { k = H .locations; m = H .arguments; body = b .it } ∷ w .1,
@@ -328,7 +328,7 @@ module _ (s : List ℕ) (bytes : Bytes s) where
       let F : List ℕ = functionsBytes (w .0) in
       let ab : At s 6 (functionsBytes (w .0) ++ sized (rawsBytes (v .1))) = at-append s (functionsBytes (w .0)) (sized (rawsBytes (v .1))) 6 (w .6) (moved s (fs .next) (6 + length (functionsBytes (w .0))) (sized (rawsBytes (v .1))) (w .7) (v .4)) in
       let a : At s 0 (programBytes (record { functions = w .0; main = v .1 })) = (c₀, omega arith, (c₁, omega arith, (c₂, omega arith, (c₃, omega arith, (c₄, omega arith, (c₅, omega arith, ab)))))) in
-      let lp : length (functionsBytes (w .0) ++ sized (rawsBytes (v .1))) ≡ length (functionsBytes (w .0)) + suc (suc (length (rawsBytes (v .1)))) = length-append (functionsBytes (w .0)) (sized (rawsBytes (v .1))) in
+      let lp : length (functionsBytes (w .0) ++ sized (rawsBytes (v .1))) ≡ length (functionsBytes (w .0)) + suc (suc (length (rawsBytes (v .1)))) = length-sized (functionsBytes (w .0)) (rawsBytes (v .1)) in
       let lq : length (programBytes (record { functions = w .0; main = v .1 })) ≡ length s = omega (arith, w .7, v .5, last) in
       let hs : map stub (fs .it) ≡ heads (w .0) = ap (map stub) (w .2) ∙ w .5 in
       let gm : Goods (record { places = 256; earlier = heads (w .0) }) 7 (v .1) = subst (λ (z : List Function). Goods (record { places = 256; earlier = z }) 7 (v .1)) hs (subst (λ (k : ℕ). Goods (record { places = 256; earlier = map stub (fs .it) }) k (v .1)) d7 (v .3)) in (

@@ -5,8 +5,8 @@ use mathlib.Core.List.{List, [], _∷_, _++_, map}
 use mathlib.Core.Option.{none, some}
 use mathlib.Core.Path.{_≡_, refl, sym, ap, subst, _∙_}
 use native.Mathlib.Omega.{arith}
-use Prim.Native.Nat.{ℕ, zero, suc, _<_, _≤_}
-use lib.ListN.{getD, length, replicate}
+use Prim.Native.Nat.{ℕ, zero, suc, _+_, _<_, _≤_}
+use lib.ListN.{getD, length, length-append, replicate}
 use Rattle.rules.specs.Basics.{chosen}
 use Rattle.rules.proofs.Basics.{length-upTo, getD-upTo-zero}
 use Rattle.rules.specs.declared.statements.Operand.{Operand}
@@ -48,6 +48,13 @@ abbrev mutual
   pub rawsBytes : Raws → List ℕ
   rawsBytes end = []
   rawsBytes (r then rs) = rawBytes r ++ rawsBytes rs
+
+-- lengths where a block stands behind bytes, or in front of them
+pub length-sized : (xs bs : List ℕ) → length (xs ++ sized bs) ≡ length xs + suc (suc (length bs))
+length-sized xs bs = length-append xs (sized bs)
+
+pub sized-length : (bs ys : List ℕ) → length (sized bs ++ ys) ≡ suc (suc (length bs)) + length ys
+sized-length bs ys = length-append (sized bs) ys
 
 -- operand bytes as words
 abbrev pub said : List Operand → List ℕ → Line

@@ -23,7 +23,7 @@ use Rattle.rules.specs.Names.{at, with, else}
 use Rattle.rules.specs.Listing.{headLine, Line, indented, listed, operandsIn, words, fixedLine, statementLines, statementsLines, blockLines, functionsLines}
 use Rattle.rules.specs.Unlisting.{sized}
 use Rattle.rules.proofs.Tests.{T→eq, eq→T}
-use Rattle.trips.proofs.Raw.{Raw, plain, called, fork, loop, Raws, end, _then_, rawBytes, rawsBytes, said, rawLine, rawLines, rawsLines, Within, Ranged, Operands, ranged-length, operands-length, Good, good-plain, good-called, good-fork, good-loop, Goods, good-then, RawFunction, headOf, heads, functionsBytes, programBytes, rawFunctions, GoodFunctions, a-function, ReadsBack}
+use Rattle.trips.proofs.Raw.{length-sized, sized-length, Raw, plain, called, fork, loop, Raws, end, _then_, rawBytes, rawsBytes, said, rawLine, rawLines, rawsLines, Within, Ranged, Operands, ranged-length, operands-length, Good, good-plain, good-called, good-fork, good-loop, Goods, good-then, RawFunction, headOf, heads, functionsBytes, programBytes, rawFunctions, GoodFunctions, a-function, ReadsBack}
 use Rattle.trips.specs.Trips.{Bytes}
 use Rattle.trips.proofs.Running.{size-xs, length-heads}
 use Rattle.trips.proofs.Rows.{byte-of-row, row-head, row-calls}
@@ -218,7 +218,7 @@ module _ (s : List ℕ) where
           let z : size r ≡ suc (length xs) = size-xs (stubbed S) r xs o in
           let rest : List ℕ = sized (rawsBytes q) ++ sized (rawsBytes t) in
           let lx : length (xs ++ (sized (rawsBytes q) ++ sized (rawsBytes t))) ≡ length xs + length (sized (rawsBytes q) ++ sized (rawsBytes t)) = length-append xs (sized (rawsBytes q) ++ sized (rawsBytes t)) in
-          let ly : length (sized (rawsBytes q) ++ sized (rawsBytes t)) ≡ suc (suc (length (rawsBytes q))) + suc (suc (length (rawsBytes t))) = length-append (sized (rawsBytes q)) (sized (rawsBytes t)) in
+          let ly : length (sized (rawsBytes q) ++ sized (rawsBytes t)) ≡ suc (suc (length (rawsBytes q))) + suc (suc (length (rawsBytes t))) = length-sized (sized (rawsBytes q)) (rawsBytes t) in
           let A : At s (i + size r + 2) (rawsBytes q) × At s (i + size r) (sized (rawsBytes q)) × At s (i + size r + 2 + length (rawsBytes q)) (sized (rawsBytes t)) =
           inner-at (i + size r) (rawsBytes q) (sized (rawsBytes t)) (fixed-rest b r row xs o i (sized (rawsBytes q) ++ sized (rawsBytes t)) a) in
           let j : ℕ = i + size r + 2 + length (rawsBytes q) in
@@ -239,7 +239,7 @@ module _ (s : List ℕ) where
           )
       read-raw (suc d) (loop b xs q) (good-loop r row m o gq) i e a l =
           let z : size r ≡ suc (length xs) = size-xs (stubbed S) r xs o in
-          let lx : length (xs ++ sized (rawsBytes q)) ≡ length xs + suc (suc (length (rawsBytes q))) = length-append xs (sized (rawsBytes q)) in
+          let lx : length (xs ++ sized (rawsBytes q)) ≡ length xs + suc (suc (length (rawsBytes q))) = length-sized xs (rawsBytes q) in
           let A : At s (i + size r) (sized (rawsBytes q)) = fixed-rest b r row xs o i (sized (rawsBytes q)) a in
           let R : ReadBlock d (i + size r) e q = block-is d q (i + size r) e A (omega arith) (read-raws d q gq (length (rawsBytes q)) (i + size r + 2) (i + size r + 2 + length (rawsBytes q)) (omega arith) refl (inner-here (i + size r) (rawsBytes q) A)) in
           let p : i + size r + 2 + length (rawsBytes q) ≡ i + length (rawBytes (loop b xs q)) = omega arith in (
@@ -290,7 +290,7 @@ module _ (s : List ℕ) where
       let asz : At s (i + 2) (sized (rawsBytes (f .body))) = at-left s (sized (rawsBytes (f .body))) (functionsBytes gs) (i + 2) ab in
       let ar : At s (i + 2 + suc (suc (length (rawsBytes (f .body))))) (functionsBytes gs) = at-right s (sized (rawsBytes (f .body))) (functionsBytes gs) (i + 2) ab in
       let l₁ : i + 2 + suc (suc (length (rawsBytes (f .body)))) ≤ length s = at-end s (sized (rawsBytes (f .body))) (i + 2) asz in
-      let l₂ : length (sized (rawsBytes (f .body)) ++ functionsBytes gs) ≡ suc (suc (length (rawsBytes (f .body)))) + length (functionsBytes gs) = length-append (sized (rawsBytes (f .body))) (functionsBytes gs) in
+      let l₂ : length (sized (rawsBytes (f .body)) ++ functionsBytes gs) ≡ suc (suc (length (rawsBytes (f .body)))) + length (functionsBytes gs) = sized-length (rawsBytes (f .body)) (functionsBytes gs) in
       let gb : Goods (stubbed (record { places = f .k; earlier = fs })) 7 (f .body) = subst (λ (z : List Function). Goods (record { places = f .k; earlier = z }) 7 (f .body)) (sym e) body in
       let R : ReadBlock parameter (record { places = f .k; earlier = fs }) 7 (i + 2) (length s) (f .body) = read-block parameter (record { places = f .k; earlier = fs }) 7 (f .body) gb (i + 2) (length s) asz (omega arith) in
       let g : Function = record { k = f .k; m = f .m; body = R .0 } in
@@ -381,13 +381,13 @@ module _ (S : Scope) (sm : Small S) where
     )
     raw-bytes (suc d) (fork b xs q t) (good-fork r row m o gq gt) l =
         let lx : length (xs ++ (sized (rawsBytes q) ++ sized (rawsBytes t))) ≡ length xs + length (sized (rawsBytes q) ++ sized (rawsBytes t)) = length-append xs (sized (rawsBytes q) ++ sized (rawsBytes t)) in
-        let ly : length (sized (rawsBytes q) ++ sized (rawsBytes t)) ≡ suc (suc (length (rawsBytes q))) + suc (suc (length (rawsBytes t))) = length-append (sized (rawsBytes q)) (sized (rawsBytes t)) in (
+        let ly : length (sized (rawsBytes q) ++ sized (rawsBytes t)) ≡ suc (suc (length (rawsBytes q))) + suc (suc (length (rawsBytes t))) = length-sized (sized (rawsBytes q)) (rawsBytes t) in (
           row-byte b r row,
           bytes-append xs (sized (rawsBytes q) ++ sized (rawsBytes t)) (operands-bytes S sm (r .operands) xs o)
               (bytes-append (sized (rawsBytes q)) (sized (rawsBytes t)) (bytes-sized (rawsBytes q) (omega arith) (raws-bytes d q gq (omega arith))) (bytes-sized (rawsBytes t) (omega arith) (raws-bytes d t gt (omega arith)))),
         )
     raw-bytes (suc d) (loop b xs q) (good-loop r row m o gq) l =
-        let lx : length (xs ++ sized (rawsBytes q)) ≡ length xs + suc (suc (length (rawsBytes q))) = length-append xs (sized (rawsBytes q)) in
+        let lx : length (xs ++ sized (rawsBytes q)) ≡ length xs + suc (suc (length (rawsBytes q))) = length-sized xs (rawsBytes q) in
         (row-byte b r row, bytes-append xs (sized (rawsBytes q)) (operands-bytes S sm (r .operands) xs o) (bytes-sized (rawsBytes q) (omega arith) (raws-bytes d q gq (omega arith))))
 
     raws-bytes : (d : ℕ) (rs : Raws) → Goods S d rs → length (rawsBytes rs) < 65536 → Bytes (rawsBytes rs)
@@ -399,7 +399,7 @@ module _ (S : Scope) (sm : Small S) where
 functions-bytes : (gs : List RawFunction) (hs : List Function) → GoodFunctions hs gs → SmallHeads hs → length hs + length gs ≤ 256 → length (functionsBytes gs) < 65536 → Bytes (functionsBytes gs) × SmallHeads (hs ++ heads gs)
 functions-bytes [] hs g s n l = (tt, subst (λ (z : List Function). SmallHeads z) (sym (append-nil hs)) s)
 functions-bytes (f ∷ gs) hs (a-function hk hm hl body rest) s n l =
-    let lx : length (sized (rawsBytes (f .body)) ++ functionsBytes gs) ≡ suc (suc (length (rawsBytes (f .body)))) + length (functionsBytes gs) = length-append (sized (rawsBytes (f .body))) (functionsBytes gs) in
+    let lx : length (sized (rawsBytes (f .body)) ++ functionsBytes gs) ≡ suc (suc (length (rawsBytes (f .body)))) + length (functionsBytes gs) = sized-length (rawsBytes (f .body)) (functionsBytes gs) in
     let lh : length (hs ++ (headOf (f .k) (f .m) ∷ [])) ≡ length hs + 1 = length-append hs (headOf (f .k) (f .m) ∷ []) in
     let k : f .k < 256 = omega arith in
     let m : f .m < 256 = omega arith in
@@ -437,7 +437,7 @@ reads-back q g =
     let mb : List ℕ = rawsBytes (q .main) in
     let w : At (programBytes q) 0 (programBytes q) = at-whole (programBytes q) [] in
     let a : At (programBytes q) 6 (functionsBytes (q .functions) ++ sized (rawsBytes (q .main))) = w .2 .2 .2 .2 .2 .2 in
-    let lp : length (functionsBytes (q .functions) ++ sized (rawsBytes (q .main))) ≡ length (functionsBytes (q .functions)) + suc (suc (length (rawsBytes (q .main)))) = length-append (functionsBytes (q .functions)) (sized (rawsBytes (q .main))) in
+    let lp : length (functionsBytes (q .functions) ++ sized (rawsBytes (q .main))) ≡ length (functionsBytes (q .functions)) + suc (suc (length (rawsBytes (q .main)))) = length-sized (functionsBytes (q .functions)) (rawsBytes (q .main)) in
     let sh : length (programBytes q) ≤ 4096 = g .short in
     let few : length (q .functions) ≤ 15 = g .few in
     let R : ReadFunctions (programBytes q) (q .functions) [] 6 = read-functions (programBytes q) (q .functions) [] (g .functions) [] refl 6 (at-left (programBytes q) (functionsBytes (q .functions)) (sized (rawsBytes (q .main))) 6 a) in

@@ -23,7 +23,7 @@ use Rattle.trips.proofs.Grammars.{none-not-some, word-same, takes-next}
 use Rattle.trips.proofs.Reading.{run, run-next, run-on}
 use Rattle.trips.proofs.Offered.{place-numbered, apart-decimal, elseLine}
 use Rattle.trips.proofs.Rows.{byte-of-row, name-filled, name-at, place-name}
-use Rattle.trips.proofs.Raw.{Raw, plain, called, fork, loop, Raws, end, _then_, rawBytes, rawsBytes, said, rawLine, rawLines, rawsLines, Operands, ranged-length, operands-length, takes-operands, takes-list, Good, good-plain, good-called, good-fork, good-loop, Goods, good-then, RawFunction, headOf, heads, functionsBytes, programBytes, rawFunctions, GoodFunctions, a-function, Runs}
+use Rattle.trips.proofs.Raw.{length-sized, sized-length, Raw, plain, called, fork, loop, Raws, end, _then_, rawBytes, rawsBytes, said, rawLine, rawLines, rawsLines, Operands, ranged-length, operands-length, takes-operands, takes-list, Good, good-plain, good-called, good-fork, good-loop, Goods, good-then, RawFunction, headOf, heads, functionsBytes, programBytes, rawFunctions, GoodFunctions, a-function, Runs}
 
 abbrev pub state : Scope → Option (List Function) → List Opened → List ℕ → Sofar
 state S a bs bytes = record { scope = S; after = a; open-blocks = bs; bytes = bytes }
@@ -187,9 +187,9 @@ mutual
       let p₁ : Sofar = state S a (B₁ ∷ (b ∷ bs)) [] in
       let p₂ : Sofar = state S a (B₂ ∷ (b ∷ bs)) [] in
       let lb : length (bytes ++ (c ∷ xs)) ≡ length bytes + suc (length xs) = length-append bytes (c ∷ xs) in
-      let lc : length ((bytes ++ (c ∷ xs)) ++ sized (rawsBytes q)) ≡ length (bytes ++ (c ∷ xs)) + suc (suc (length (rawsBytes q))) = length-append (bytes ++ (c ∷ xs)) (sized (rawsBytes q)) in
+      let lc : length ((bytes ++ (c ∷ xs)) ++ sized (rawsBytes q)) ≡ length (bytes ++ (c ∷ xs)) + suc (suc (length (rawsBytes q))) = length-sized (bytes ++ (c ∷ xs)) (rawsBytes q) in
       let lx : length (xs ++ (sized (rawsBytes q) ++ sized (rawsBytes t))) ≡ length xs + length (sized (rawsBytes q) ++ sized (rawsBytes t)) = length-append xs (sized (rawsBytes q) ++ sized (rawsBytes t)) in
-      let ly : length (sized (rawsBytes q) ++ sized (rawsBytes t)) ≡ suc (suc (length (rawsBytes q))) + suc (suc (length (rawsBytes t))) = length-append (sized (rawsBytes q)) (sized (rawsBytes t)) in
+      let ly : length (sized (rawsBytes q) ++ sized (rawsBytes t)) ≡ suc (suc (length (rawsBytes q))) + suc (suc (length (rawsBytes t))) = length-sized (sized (rawsBytes q)) (rawsBytes t) in
       let line : takes (indent (suc (length bs)) (statementLine p)) (indented (suc (length bs)) (rawLine c xs)) ≡ some p₁ =
       ap (λ (w : Line). takes (indent (suc (length bs)) (statementLine p)) (indented (suc (length bs)) w)) (sym (append-nil (rawLine c xs)))
       ∙ line-taken p c r branches row e (omega arith) (λ g. not-deepest p 4 g (omega arith)) xs h (suc (length bs)) [] in
@@ -214,7 +214,7 @@ mutual
       let B : Opened = record { before = bytes ++ (c ∷ xs); due = false } in
       let p₁ : Sofar = state S a (B ∷ (b ∷ bs)) [] in
       let lb : length (bytes ++ (c ∷ xs)) ≡ length bytes + suc (length xs) = length-append bytes (c ∷ xs) in
-      let lx : length (xs ++ sized (rawsBytes q)) ≡ length xs + suc (suc (length (rawsBytes q))) = length-append xs (sized (rawsBytes q)) in
+      let lx : length (xs ++ sized (rawsBytes q)) ≡ length xs + suc (suc (length (rawsBytes q))) = length-sized xs (rawsBytes q) in
       let t : takes (indent (suc (length bs)) (statementLine p)) (indented (suc (length bs)) (rawLine c xs)) ≡ some p₁ =
       ap (λ (w : Line). takes (indent (suc (length bs)) (statementLine p)) (indented (suc (length bs)) w)) (sym (append-nil (rawLine c xs)))
       ∙ line-taken p c r loops row e (omega arith) (λ g. not-deepest p 2 g (omega arith)) xs h (suc (length bs)) [] in
@@ -292,8 +292,8 @@ run-functions (f ∷ gs) fs (a-function hk hm hl body rest) S F p c n l =
     let T : Scope = record { places = f .k; earlier = fs } in
     let lf : length (fs ++ (headOf (f .k) (f .m) ∷ [])) ≡ length fs + 1 = length-append fs (headOf (f .k) (f .m) ∷ []) in
     let l₁ : length (F ++ (f .k ∷ f .m ∷ [])) ≡ length F + 2 = length-append F (f .k ∷ f .m ∷ []) in
-    let l₂ : length ((F ++ (f .k ∷ f .m ∷ [])) ++ sized (rawsBytes (f .body))) ≡ length (F ++ (f .k ∷ f .m ∷ [])) + suc (suc (length (rawsBytes (f .body)))) = length-append (F ++ (f .k ∷ f .m ∷ [])) (sized (rawsBytes (f .body))) in
-    let l₃ : length (sized (rawsBytes (f .body)) ++ functionsBytes gs) ≡ suc (suc (length (rawsBytes (f .body)))) + length (functionsBytes gs) = length-append (sized (rawsBytes (f .body))) (functionsBytes gs) in
+    let l₂ : length ((F ++ (f .k ∷ f .m ∷ [])) ++ sized (rawsBytes (f .body))) ≡ length (F ++ (f .k ∷ f .m ∷ [])) + suc (suc (length (rawsBytes (f .body)))) = length-sized (F ++ (f .k ∷ f .m ∷ [])) (rawsBytes (f .body)) in
+    let l₃ : length (sized (rawsBytes (f .body)) ++ functionsBytes gs) ≡ suc (suc (length (rawsBytes (f .body)))) + length (functionsBytes gs) = sized-length (rawsBytes (f .body)) (functionsBytes gs) in
     let line : Line = headLine (length fs) (f .k) (f .m) in
     let s₁ : takesOne (lines (sofar p)) line ≡ some (functionBegun fs F (f .k) (f .m)) =
     closes-takes p (state S (some fs) [] F) c 0 (omega arith) 0x66 (0x75 ∷ 0x6E ∷ 0x63 ∷ 0x74 ∷ 0x69 ∷ 0x6F ∷ 0x6E ∷ []) (decimal (length fs) ∷ locations ∷ decimal (f .k) ∷ arguments ∷ decimal (f .m) ∷ [])
@@ -321,7 +321,7 @@ runs q g =
     let gs : List RawFunction = q .functions in
     let mb : List ℕ = rawsBytes (q .main) in
     let F : List ℕ = functionsBytes (q .functions) in
-    let lp : length (functionsBytes (q .functions) ++ sized (rawsBytes (q .main))) ≡ length (functionsBytes (q .functions)) + suc (suc (length (rawsBytes (q .main)))) = length-append (functionsBytes (q .functions)) (sized (rawsBytes (q .main))) in
+    let lp : length (functionsBytes (q .functions) ++ sized (rawsBytes (q .main))) ≡ length (functionsBytes (q .functions)) + suc (suc (length (rawsBytes (q .main)))) = length-sized (functionsBytes (q .functions)) (rawsBytes (q .main)) in
     let sh : length (programBytes q) ≤ 4096 = g .short in
     let R : RanFunctions programBegun (rawFunctions 0 (q .functions)) (heads (q .functions)) (functionsBytes (q .functions)) =
     run-functions (q .functions) [] (g .functions) (record { places = 0; earlier = [] }) [] programBegun same (omega (arith, g .few)) (omega arith) in

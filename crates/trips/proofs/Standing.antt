@@ -26,7 +26,7 @@ use Rattle.trips.proofs.Reading.{run, ran}
 use Rattle.trips.proofs.Offered.{elseLine}
 use Rattle.trips.proofs.Running.{state, size-xs, same, closed, closes-file, length-heads}
 use Rattle.trips.proofs.Rows.{name-at}
-use Rattle.trips.proofs.Raw.{Raw, plain, called, fork, loop, Raws, end, _then_, rawBytes, rawsBytes, said, rawLine, rawLines, rawsLines, Operands, ranged-length, Said, took-operands, Listed, took-list, Good, good-plain, good-called, good-fork, good-loop, Goods, good-end, good-then, RawFunction, RawProgram, headOf, heads, functionsBytes, programBytes, rawFunctions, rawProgramLines, GoodFunctions, no-functions, a-function, GoodProgram, RunsBack}
+use Rattle.trips.proofs.Raw.{length-sized, Raw, plain, called, fork, loop, Raws, end, _then_, rawBytes, rawsBytes, said, rawLine, rawLines, rawsLines, Operands, ranged-length, Said, took-operands, Listed, took-list, Good, good-plain, good-called, good-fork, good-loop, Goods, good-end, good-then, RawFunction, RawProgram, headOf, heads, functionsBytes, programBytes, rawFunctions, rawProgramLines, GoodFunctions, no-functions, a-function, GoodProgram, RunsBack}
 
 -- What a line that was taken is.
 module _ {A : Type 0} where
@@ -446,7 +446,7 @@ any-next (in-function fs k m) d rs (good-function g n i j h) gs f l p′ t = go 
         → Next (linesOf (in-function fs k m) rs ++ (l ∷ [])) p′
     go (inl u) = statement-next (in-function fs k m) 7 rs (good-function g n i j h) gs l p′ u
     go (inr u) =
-        let lb : length ((functionsBytes fs ++ (k ∷ m ∷ [])) ++ sized (rawsBytes rs)) ≡ length (functionsBytes fs ++ (k ∷ m ∷ [])) + suc (suc (length (rawsBytes rs))) = length-append (functionsBytes fs ++ (k ∷ m ∷ [])) (sized (rawsBytes rs)) in
+        let lb : length ((functionsBytes fs ++ (k ∷ m ∷ [])) ++ sized (rawsBytes rs)) ≡ length (functionsBytes fs ++ (k ∷ m ∷ [])) + suc (suc (length (rawsBytes rs))) = length-sized (functionsBytes fs ++ (k ∷ m ∷ [])) (rawsBytes rs) in
         let lw : length (withBody fs k m rs) ≡ length fs + 1 = length-append fs (record { k = k; m = m; body = rs } ∷ []) in
         let lf : length (functionsBytes (withBody fs k m rs)) ≡ length ((functionsBytes fs ++ (k ∷ m ∷ [])) ++ sized (rawsBytes rs)) = ap length (sym (body-bytes fs k m rs)) in
         subst (λ (z : List Line). Next (z ++ (l ∷ [])) p′) (body-lines fs k m rs)
@@ -467,7 +467,7 @@ any-next (in-loop c qs b xs) d rs (good-in-loop g hs r row e o) gs f l p′ t =
         → Next (linesOf (in-loop c qs b xs) rs ++ (l ∷ [])) p′
     go (inl u) rec = statement-next (in-loop c qs b xs) d rs (good-in-loop g hs r row e o) gs l p′ u
     go (inr u) rec =
-        let lb : length ((rawsBytes qs ++ (b ∷ xs)) ++ sized (rawsBytes rs)) ≡ length (rawsBytes qs ++ (b ∷ xs)) + suc (suc (length (rawsBytes rs))) = length-append (rawsBytes qs ++ (b ∷ xs)) (sized (rawsBytes rs)) in
+        let lb : length ((rawsBytes qs ++ (b ∷ xs)) ++ sized (rawsBytes rs)) ≡ length (rawsBytes qs ++ (b ∷ xs)) + suc (suc (length (rawsBytes rs))) = length-sized (rawsBytes qs ++ (b ∷ xs)) (rawsBytes rs) in
         let lf : length ((rawsBytes qs ++ (b ∷ xs)) ++ sized (rawsBytes rs)) ≡ length (rawsBytes (snoc qs (loop b xs rs))) = ap length (loop-bytes qs b xs rs) in
         subst (λ (z : List Line). Next (z ++ (l ∷ [])) p′) (loop-lines c qs b xs rs)
         (rec (omega arith) (ap (λ (z : List ℕ). takesOne (linesAfter (scopeOf c) (afterOf c) (topOf c ∷ outerOf c) z) l) (sym (loop-bytes qs b xs rs)) ∙ u))
@@ -482,7 +482,7 @@ any-next (in-first c qs b xs) d rs (good-in-first g hs r row e o) gs f l p′ t 
         let w : (vs : List Text) × (a .0 ≡ else ∷ vs) × (takes (stop (some (stateOf (in-second c qs b xs rs) end))) vs ≡ some p′) = took-word else (stop (some (stateOf (in-second c qs b xs rs) end))) (a .0) p′ (a .2) in
         let j : (w .0 ≡ []) × (stateOf (in-second c qs b xs rs) end ≡ p′) = took-stop (stateOf (in-second c qs b xs rs) end) (w .0) p′ (w .2) in
         let line : l ≡ indented (depthOf c) (else ∷ []) = a .1 ∙ ap (indented (depthOf c)) (w .1 ∙ ap (λ (z : List Text). else ∷ z) (j .0)) in
-        let lb : length ((rawsBytes qs ++ (b ∷ xs)) ++ sized (rawsBytes rs)) ≡ length (rawsBytes qs ++ (b ∷ xs)) + suc (suc (length (rawsBytes rs))) = length-append (rawsBytes qs ++ (b ∷ xs)) (sized (rawsBytes rs)) in
+        let lb : length ((rawsBytes qs ++ (b ∷ xs)) ++ sized (rawsBytes rs)) ≡ length (rawsBytes qs ++ (b ∷ xs)) + suc (suc (length (rawsBytes rs))) = length-sized (rawsBytes qs ++ (b ∷ xs)) (rawsBytes rs) in
         let fit : least (stateOf (in-second c qs b xs rs) end) ≤ 4096 = omega arith in
         (in-second c qs b xs rs, d, end, good-in-second g hs r row e o gs, good-end, sym (j .1), first-lines c qs b xs rs ∙ ap (λ (z : Line). linesOf (in-first c qs b xs) rs ++ (z ∷ [])) (sym line), subst (λ (q : Sofar). least q ≤ 4096) (j .1) fit)
 
@@ -504,7 +504,7 @@ any-next (in-second c qs b xs q) d rs (good-in-second g hs r row e o gq) gs f l 
         → Next (linesOf (in-second c qs b xs q) rs ++ (l ∷ [])) p′
     go (inl u) rec = statement-next (in-second c qs b xs q) d rs (good-in-second g hs r row e o gq) gs l p′ u
     go (inr u) rec =
-        let lb : length (((rawsBytes qs ++ (b ∷ xs)) ++ sized (rawsBytes q)) ++ sized (rawsBytes rs)) ≡ length ((rawsBytes qs ++ (b ∷ xs)) ++ sized (rawsBytes q)) + suc (suc (length (rawsBytes rs))) = length-append ((rawsBytes qs ++ (b ∷ xs)) ++ sized (rawsBytes q)) (sized (rawsBytes rs)) in
+        let lb : length (((rawsBytes qs ++ (b ∷ xs)) ++ sized (rawsBytes q)) ++ sized (rawsBytes rs)) ≡ length ((rawsBytes qs ++ (b ∷ xs)) ++ sized (rawsBytes q)) + suc (suc (length (rawsBytes rs))) = length-sized ((rawsBytes qs ++ (b ∷ xs)) ++ sized (rawsBytes q)) (rawsBytes rs) in
         let lf : length (((rawsBytes qs ++ (b ∷ xs)) ++ sized (rawsBytes q)) ++ sized (rawsBytes rs)) ≡ length (rawsBytes (snoc qs (fork b xs q rs))) = ap length (fork-bytes qs b xs q rs) in
         subst (λ (z : List Line). Next (z ++ (l ∷ [])) p′) (fork-lines c qs b xs q rs)
         (rec (omega arith) (ap (λ (z : List ℕ). takesOne (linesAfter (scopeOf c) (afterOf c) (topOf c ∷ outerOf c) z) l) (sym (fork-bytes qs b xs q rs)) ∙ u))
@@ -526,9 +526,9 @@ Completed p L = (q : RawProgram) × (more : List Line) × GoodProgram q × (rawP
 complete : (c : Ctx) (d : ℕ) (rs : Raws) → GoodCtx d c → Goods (scopeOf c) d rs → least (stateOf c rs) ≤ 4096 → Completed (stateOf c rs) (linesOf c rs)
 complete (in-function fs k m) d rs (good-function g n i j h) gs f =
     let q : RawProgram = record { functions = withBody fs k m rs; main = end } in
-    let lb : length ((functionsBytes fs ++ (k ∷ m ∷ [])) ++ sized (rawsBytes rs)) ≡ length (functionsBytes fs ++ (k ∷ m ∷ [])) + suc (suc (length (rawsBytes rs))) = length-append (functionsBytes fs ++ (k ∷ m ∷ [])) (sized (rawsBytes rs)) in
+    let lb : length ((functionsBytes fs ++ (k ∷ m ∷ [])) ++ sized (rawsBytes rs)) ≡ length (functionsBytes fs ++ (k ∷ m ∷ [])) + suc (suc (length (rawsBytes rs))) = length-sized (functionsBytes fs ++ (k ∷ m ∷ [])) (rawsBytes rs) in
     let lf : length (functionsBytes (withBody fs k m rs)) ≡ length ((functionsBytes fs ++ (k ∷ m ∷ [])) ++ sized (rawsBytes rs)) = ap length (sym (body-bytes fs k m rs)) in
-    let lp : length (functionsBytes (withBody fs k m rs) ++ sized []) ≡ length (functionsBytes (withBody fs k m rs)) + 2 = length-append (functionsBytes (withBody fs k m rs)) (sized []) in
+    let lp : length (functionsBytes (withBody fs k m rs) ++ sized []) ≡ length (functionsBytes (withBody fs k m rs)) + 2 = length-sized (functionsBytes (withBody fs k m rs)) [] in
     let lw : length (withBody fs k m rs) ≡ length fs + 1 = length-append fs (record { k = k; m = m; body = rs } ∷ []) in (
       q,
       (main ∷ []) ∷ [],
@@ -538,7 +538,7 @@ complete (in-function fs k m) d rs (good-function g n i j h) gs f =
     )
 complete (in-main fs) d rs (good-main g n) gs f =
     let q : RawProgram = record { functions = fs; main = rs } in
-    let lp : length (functionsBytes fs ++ sized (rawsBytes rs)) ≡ length (functionsBytes fs) + suc (suc (length (rawsBytes rs))) = length-append (functionsBytes fs) (sized (rawsBytes rs)) in
+    let lp : length (functionsBytes fs ++ sized (rawsBytes rs)) ≡ length (functionsBytes fs) + suc (suc (length (rawsBytes rs))) = length-sized (functionsBytes fs) (rawsBytes rs) in
     let Z : ℕ → List ℕ = λ n. header n ++ (functionsBytes fs ++ sized (rawsBytes rs)) in (
       q,
       [],
@@ -547,7 +547,7 @@ complete (in-main fs) d rs (good-main g n) gs f =
       λ z e. (sym (let u : some (Z (length (heads fs))) ≡ some z = e in let v : Z (length (heads fs)) ≡ z = cc in v) ∙ ap Z (length-heads fs), refl),
     )
 complete (in-loop c qs b xs) d rs (good-in-loop g hs r row e o) gs f =
-    let lb : length ((rawsBytes qs ++ (b ∷ xs)) ++ sized (rawsBytes rs)) ≡ length (rawsBytes qs ++ (b ∷ xs)) + suc (suc (length (rawsBytes rs))) = length-append (rawsBytes qs ++ (b ∷ xs)) (sized (rawsBytes rs)) in
+    let lb : length ((rawsBytes qs ++ (b ∷ xs)) ++ sized (rawsBytes rs)) ≡ length (rawsBytes qs ++ (b ∷ xs)) + suc (suc (length (rawsBytes rs))) = length-sized (rawsBytes qs ++ (b ∷ xs)) (rawsBytes rs) in
     let lf : length ((rawsBytes qs ++ (b ∷ xs)) ++ sized (rawsBytes rs)) ≡ length (rawsBytes (snoc qs (loop b xs rs))) = ap length (loop-bytes qs b xs rs) in
     let R : Completed (stateOf c (snoc qs (loop b xs rs))) (linesOf c (snoc qs (loop b xs rs))) = complete c (suc d) (snoc qs (loop b xs rs)) g (snoc-good (scopeOf c) (suc d) qs (loop b xs rs) hs (good-loop r row e o gs)) (omega arith) in
     let F : file (sofar (stateOf (in-loop c qs b xs) rs)) ≡ file (sofar (stateOf c (snoc qs (loop b xs rs)))) =
@@ -555,8 +555,8 @@ complete (in-loop c qs b xs) d rs (good-in-loop g hs r row e o) gs f =
     (closed (scopeOf c) (afterOf c) (topOf (in-loop c qs b xs)) (topOf c ∷ outerOf c) (rawsBytes rs) same refl (ap (state (scopeOf c) (afterOf c) (topOf c ∷ outerOf c)) (sym (loop-bytes qs b xs rs)))) in
     (R .0, R .1, R .2, R .3 ∙ ap (λ (z : List Line). z ++ R .1) (loop-lines c qs b xs rs), λ z u. R .4 z (sym F ∙ u))
 complete (in-first c qs b xs) d rs (good-in-first g hs r row e o) gs f =
-    let lb : length (((rawsBytes qs ++ (b ∷ xs)) ++ sized (rawsBytes rs)) ++ sized []) ≡ length ((rawsBytes qs ++ (b ∷ xs)) ++ sized (rawsBytes rs)) + 2 = length-append ((rawsBytes qs ++ (b ∷ xs)) ++ sized (rawsBytes rs)) (sized []) in
-    let lc : length ((rawsBytes qs ++ (b ∷ xs)) ++ sized (rawsBytes rs)) ≡ length (rawsBytes qs ++ (b ∷ xs)) + suc (suc (length (rawsBytes rs))) = length-append (rawsBytes qs ++ (b ∷ xs)) (sized (rawsBytes rs)) in
+    let lb : length (((rawsBytes qs ++ (b ∷ xs)) ++ sized (rawsBytes rs)) ++ sized []) ≡ length ((rawsBytes qs ++ (b ∷ xs)) ++ sized (rawsBytes rs)) + 2 = length-sized ((rawsBytes qs ++ (b ∷ xs)) ++ sized (rawsBytes rs)) [] in
+    let lc : length ((rawsBytes qs ++ (b ∷ xs)) ++ sized (rawsBytes rs)) ≡ length (rawsBytes qs ++ (b ∷ xs)) + suc (suc (length (rawsBytes rs))) = length-sized (rawsBytes qs ++ (b ∷ xs)) (rawsBytes rs) in
     let lf : length (((rawsBytes qs ++ (b ∷ xs)) ++ sized (rawsBytes rs)) ++ sized []) ≡ length (rawsBytes (snoc qs (fork b xs rs end))) = ap length (fork-bytes qs b xs rs end) in
     let R : Completed (stateOf c (snoc qs (fork b xs rs end))) (linesOf c (snoc qs (fork b xs rs end))) = complete c (suc d) (snoc qs (fork b xs rs end)) g (snoc-good (scopeOf c) (suc d) qs (fork b xs rs end) hs (good-fork r row e o gs good-end)) (omega arith) in
     let m : Line = indented (depthOf c) (else ∷ []) in (
@@ -571,7 +571,7 @@ complete (in-first c qs b xs) d rs (good-in-first g hs r row e o) gs f =
     no-file none z u = none-not-some u
     no-file (some fs) z u = none-not-some u
 complete (in-second c qs b xs q) d rs (good-in-second g hs r row e o gq) gs f =
-    let lb : length (((rawsBytes qs ++ (b ∷ xs)) ++ sized (rawsBytes q)) ++ sized (rawsBytes rs)) ≡ length ((rawsBytes qs ++ (b ∷ xs)) ++ sized (rawsBytes q)) + suc (suc (length (rawsBytes rs))) = length-append ((rawsBytes qs ++ (b ∷ xs)) ++ sized (rawsBytes q)) (sized (rawsBytes rs)) in
+    let lb : length (((rawsBytes qs ++ (b ∷ xs)) ++ sized (rawsBytes q)) ++ sized (rawsBytes rs)) ≡ length ((rawsBytes qs ++ (b ∷ xs)) ++ sized (rawsBytes q)) + suc (suc (length (rawsBytes rs))) = length-sized ((rawsBytes qs ++ (b ∷ xs)) ++ sized (rawsBytes q)) (rawsBytes rs) in
     let lf : length (((rawsBytes qs ++ (b ∷ xs)) ++ sized (rawsBytes q)) ++ sized (rawsBytes rs)) ≡ length (rawsBytes (snoc qs (fork b xs q rs))) = ap length (fork-bytes qs b xs q rs) in
     let R : Completed (stateOf c (snoc qs (fork b xs q rs))) (linesOf c (snoc qs (fork b xs q rs))) = complete c (suc d) (snoc qs (fork b xs q rs)) g (snoc-good (scopeOf c) (suc d) qs (fork b xs q rs) hs (good-fork r row e o gq gs)) (omega arith) in
     let F : file (sofar (stateOf (in-second c qs b xs q) rs)) ≡ file (sofar (stateOf c (snoc qs (fork b xs q rs)))) =

@@ -159,7 +159,7 @@ module _ {A : Type 0} where
   takes-live (ask e vs k) [] a h = ap (λ (b : Bool). elim b [ true ↦ true | false ↦ someBelow (length vs) λ i. live (k i) ]) (ap isSome h)
   takes-live (ask e vs k) (w ∷ ws) a h =
       let r : (i : ℕ) × (place w vs ≡ some i) × (takes (k i) ws ≡ some a) = took e vs k w ws a h in
-      let s : someBelow (length vs) (λ i. live (k i)) ≡ true = some-below (length vs) (λ i. live (k i)) (r .0) (place-found w vs (r .0) (r .1) .1) (takes-live (k (r .0)) ws a (r .2)) in
+      let s = some-below (length vs) (λ i. live (k i)) (r .0) (place-found w vs (r .0) (r .1) .1) (takes-live (k (r .0)) ws a (r .2)) in
       go (isSome e) s
     where
       go : (b : Bool) → someBelow (length vs) (λ i. live (k i)) ≡ true → elim b [ true ↦ true | false ↦ someBelow (length vs) λ i. live (k i) ] ≡ true
@@ -174,7 +174,7 @@ module _ {A : Type 0} where
   starts-begun (stop e) p us h = absurd (false≢true h)
   starts-begun (ask e vs k) p [] h = absurd (false≢true h)
   starts-begun (ask e vs k) p (u ∷ []) h =
-      let q : (i : ℕ) × (i < length vs) × ((opens u (getD vs i []) && live (k i)) ≡ true) = below-some (length vs) (λ i. opens u (getD vs i []) && live (k i)) h in
+      let q = below-some (length vs) (λ i. opens u (getD vs i []) && live (k i)) h in
       let i : ℕ = q .0 in
       let b : (opens u (getD vs i []) ≡ true) × (live (k i) ≡ true) = both (opens u (getD vs i [])) (live (k i)) (q .2) in
       let z : (z : Text) × (getD vs i [] ≡ u ++ z) = opens-more u (getD vs i []) (b .0) in

@@ -48,7 +48,7 @@ weight-indented (suc n) l = let r : weight (indented n l) ≡ n + n + weight l =
 -- an indented line that has a word
 length-indented : (n : ℕ) (w : Text) (ws : List Text) (t : Text) → length (join space (indented n (w ∷ ws)) ++ (newline ∷ t)) ≡ n + n + weight (w ∷ ws) + length t
 length-indented zero w ws t = length-line w ws t ∙ (let z : weight (w ∷ ws) + length t ≡ 0 + 0 + weight (w ∷ ws) + length t = omega arith in z)
-length-indented (suc n) w ws t = let r : weight (indented n (w ∷ ws)) ≡ n + n + weight (w ∷ ws) = weight-indented n (w ∷ ws) in length-line [] ([] ∷ indented n (w ∷ ws)) t ∙ omega arith
+length-indented (suc n) w ws t = let r = weight-indented n (w ∷ ws) in length-line [] ([] ∷ indented n (w ∷ ws)) t ∙ omega arith
 
 short-decimal : (n : ℕ) → length (decimal n) ≤ 3
 short-decimal n = go (ltb n 10) (ltb n 100)
@@ -94,11 +94,11 @@ weight-said (o ∷ os) (x ∷ xs) = go (silent o) (weight-said os xs) (short-spo
 
 weight-decimals : (xs : List ℕ) → weight (map decimal xs) ≤ 4 * length xs
 weight-decimals [] = omega arith
-weight-decimals (x ∷ xs) = let h : weight (map decimal xs) ≤ 4 * length xs = weight-decimals xs in let k : length (decimal x) ≤ 3 = short-decimal x in omega arith
+weight-decimals (x ∷ xs) = let h = weight-decimals xs in let k = short-decimal x in omega arith
 
 weight-listed : (w : Text) → length w ≤ 4 → (xs : List ℕ) → weight (listed w xs) ≤ 9 * length xs
 weight-listed w l [] = omega arith
-weight-listed w l (x ∷ xs) = let h : weight (map decimal xs) ≤ 4 * length xs = weight-decimals xs in let k : length (decimal x) ≤ 3 = short-decimal x in omega arith
+weight-listed w l (x ∷ xs) = let h = weight-decimals xs in let k = short-decimal x in omega arith
 
 weight-row : (S : Scope) (b : ℕ) (r : Row) → rowOf b ≡ some r → (xs : List ℕ) → Operands S (r .operands) xs → (weight (rawLine b xs) ≤ 8 + 4 * length xs) × (1 ≤ length xs)
 weight-row S b r e xs o =
@@ -112,14 +112,13 @@ mutual
   raw-short : (S : Scope) (d : ℕ) (r : Raw) → Good S d r → (n : ℕ) → n + d ≤ 8 → (t : List Line) → length (written (rawLines n r ++ t)) ≤ 16 * length (rawBytes r) + length (written t)
   raw-short S d (plain b xs) (good-plain r f row m o) n l t =
       let w : (weight (rawLine b xs) ≤ 8 + 4 * length xs) × (1 ≤ length xs) = weight-row S b r row xs o in
-      let e : length (join space (indented n (rawLine b xs)) ++ (newline ∷ written t)) ≡ n + n + weight (rawLine b xs) + length (written t) = length-indented n (nameOf b) (said (operandsIn (rowOf b)) xs) (written t) in
+      let e = length-indented n (nameOf b) (said (operandsIn (rowOf b)) xs) (written t) in
       omega (arith, w .0, w .1)
   raw-short S d (called b xs ls ms) (good-called r row m o hl hm) n l t =
       let w : (weight (rawLine b xs) ≤ 8 + 4 * length xs) × (1 ≤ length xs) = weight-row S b r row xs o in
       let L : Line = rawLine b xs ++ (listed at ls ++ listed with ms) in
-      let e : length (join space (indented n (rawLine b xs ++ (listed at ls ++ listed with ms))) ++ (newline ∷ written t)) ≡ n + n + weight (rawLine b xs ++ (listed at ls ++ listed with ms)) + length (written t) =
-      length-indented n (nameOf b) (said (operandsIn (rowOf b)) xs ++ (listed at ls ++ listed with ms)) (written t) in
-      let w₁ : weight (rawLine b xs ++ (listed at ls ++ listed with ms)) ≡ weight (rawLine b xs) + weight (listed at ls ++ listed with ms) = weight-append (rawLine b xs) (listed at ls ++ listed with ms) in
+      let e = length-indented n (nameOf b) (said (operandsIn (rowOf b)) xs ++ (listed at ls ++ listed with ms)) (written t) in
+      let w₁ = weight-append (rawLine b xs) (listed at ls ++ listed with ms) in
       let w₂ : weight (listed at ls ++ listed with ms) ≡ weight (listed at ls) + weight (listed with ms) = weight-append (listed at ls) (listed with ms) in
       let w₃ : weight (listed at ls) ≤ 9 * length ls = weight-listed at (omega arith) ls in
       let w₄ : weight (listed with ms) ≤ 9 * length ms = weight-listed with (omega arith) ms in
@@ -129,31 +128,29 @@ mutual
   raw-short S (suc d) (loop b xs q) (good-loop r row m o gq) n l t =
       let w : (weight (rawLine b xs) ≤ 8 + 4 * length xs) × (1 ≤ length xs) = weight-row S b r row xs o in
       let i : length (written (rawsLines (suc n) q ++ t)) ≤ 16 * length (rawsBytes q) + length (written t) = raws-short S d q gq (suc n) (omega arith) t in
-      let e : length (join space (indented n (rawLine b xs)) ++ (newline ∷ written (rawsLines (suc n) q ++ t))) ≡ n + n + weight (rawLine b xs) + length (written (rawsLines (suc n) q ++ t)) = length-indented n (nameOf b) (said (operandsIn (rowOf b)) xs) (written (rawsLines (suc n) q ++ t)) in
+      let e = length-indented n (nameOf b) (said (operandsIn (rowOf b)) xs) (written (rawsLines (suc n) q ++ t)) in
       let l₁ : length (xs ++ sized (rawsBytes q)) ≡ length xs + suc (suc (length (rawsBytes q))) = length-sized xs (rawsBytes q) in
       omega (arith, w .0, w .1)
   raw-short S (suc d) (fork b xs q u) (good-fork r row m o gq gu) n l t =
       let w : (weight (rawLine b xs) ≤ 8 + 4 * length xs) × (1 ≤ length xs) = weight-row S b r row xs o in
       let j : length (written (rawsLines (suc n) u ++ t)) ≤ 16 * length (rawsBytes u) + length (written t) = raws-short S d u gu (suc n) (omega arith) t in
       let E : List Line = indented n (else ∷ []) ∷ (rawsLines (suc n) u ++ t) in
-      let i : length (written (rawsLines (suc n) q ++ (indented n (else ∷ []) ∷ (rawsLines (suc n) u ++ t)))) ≤ 16 * length (rawsBytes q) + length (written (indented n (else ∷ []) ∷ (rawsLines (suc n) u ++ t))) =
-      raws-short S d q gq (suc n) (omega arith) (indented n (else ∷ []) ∷ (rawsLines (suc n) u ++ t)) in
-      let f : length (join space (indented n (else ∷ [])) ++ (newline ∷ written (rawsLines (suc n) u ++ t))) ≡ n + n + 5 + length (written (rawsLines (suc n) u ++ t)) = length-indented n else [] (written (rawsLines (suc n) u ++ t)) in
-      let e : length (join space (indented n (rawLine b xs)) ++ (newline ∷ written (rawsLines (suc n) q ++ (indented n (else ∷ []) ∷ (rawsLines (suc n) u ++ t))))) ≡ n + n + weight (rawLine b xs) + length (written (rawsLines (suc n) q ++ (indented n (else ∷ []) ∷ (rawsLines (suc n) u ++ t)))) =
-      length-indented n (nameOf b) (said (operandsIn (rowOf b)) xs) (written (rawsLines (suc n) q ++ (indented n (else ∷ []) ∷ (rawsLines (suc n) u ++ t)))) in
-      let l₁ : length (xs ++ (sized (rawsBytes q) ++ sized (rawsBytes u))) ≡ length xs + length (sized (rawsBytes q) ++ sized (rawsBytes u)) = length-append xs (sized (rawsBytes q) ++ sized (rawsBytes u)) in
-      let l₂ : length (sized (rawsBytes q) ++ sized (rawsBytes u)) ≡ suc (suc (length (rawsBytes q))) + suc (suc (length (rawsBytes u))) = length-sized (sized (rawsBytes q)) (rawsBytes u) in
-      let a : rawLines n (fork b xs q u) ++ t ≡ indented n (rawLine b xs) ∷ (rawsLines (suc n) q ++ (indented n (else ∷ []) ∷ (rawsLines (suc n) u ++ t))) = ap (λ (z : List Line). indented n (rawLine b xs) ∷ z) (append-assoc (rawsLines (suc n) q) (indented n (else ∷ []) ∷ rawsLines (suc n) u) t) in
-      let c : length (written (rawLines n (fork b xs q u) ++ t)) ≡ length (written (indented n (rawLine b xs) ∷ (rawsLines (suc n) q ++ (indented n (else ∷ []) ∷ (rawsLines (suc n) u ++ t))))) = ap (λ (z : List Line). length (written z)) a in
+      let i = raws-short S d q gq (suc n) (omega arith) (indented n (else ∷ []) ∷ (rawsLines (suc n) u ++ t)) in
+      let f = length-indented n else [] (written (rawsLines (suc n) u ++ t)) in
+      let e = length-indented n (nameOf b) (said (operandsIn (rowOf b)) xs) (written (rawsLines (suc n) q ++ (indented n (else ∷ []) ∷ (rawsLines (suc n) u ++ t)))) in
+      let l₁ = length-append xs (sized (rawsBytes q) ++ sized (rawsBytes u)) in
+      let l₂ = length-sized (sized (rawsBytes q)) (rawsBytes u) in
+      let a = ap (λ (z : List Line). indented n (rawLine b xs) ∷ z) (append-assoc (rawsLines (suc n) q) (indented n (else ∷ []) ∷ rawsLines (suc n) u) t) in
+      let c = ap (λ (z : List Line). length (written z)) a in
       let k : length (written (indented n (rawLine b xs) ∷ (rawsLines (suc n) q ++ (indented n (else ∷ []) ∷ (rawsLines (suc n) u ++ t))))) ≤ 16 * length (rawBytes (fork b xs q u)) + length (written t) = omega (arith, w .0, w .1) in
       subst (λ (z : ℕ). z ≤ 16 * length (rawBytes (fork b xs q u)) + length (written t)) (sym c) k
 
   raws-short : (S : Scope) (d : ℕ) (rs : Raws) → Goods S d rs → (n : ℕ) → n + d ≤ 8 → (t : List Line) → length (written (rawsLines n rs ++ t)) ≤ 16 * length (rawsBytes rs) + length (written t)
   raws-short S d end g n l t = omega arith
   raws-short S d (r then rs) (good-then g gs) n l t =
-      let i : length (written (rawLines n r ++ (rawsLines n rs ++ t))) ≤ 16 * length (rawBytes r) + length (written (rawsLines n rs ++ t)) = raw-short S d r g n l (rawsLines n rs ++ t) in
+      let i = raw-short S d r g n l (rawsLines n rs ++ t) in
       let j : length (written (rawsLines n rs ++ t)) ≤ 16 * length (rawsBytes rs) + length (written t) = raws-short S d rs gs n l t in
-      let c : length (written ((rawLines n r ++ rawsLines n rs) ++ t)) ≡ length (written (rawLines n r ++ (rawsLines n rs ++ t))) = ap (λ (z : List Line). length (written z)) (append-assoc (rawLines n r) (rawsLines n rs) t) in
+      let c = ap (λ (z : List Line). length (written z)) (append-assoc (rawLines n r) (rawsLines n rs) t) in
       let e : length (rawBytes r ++ rawsBytes rs) ≡ length (rawBytes r) + length (rawsBytes rs) = length-append (rawBytes r) (rawsBytes rs) in
       omega arith
 
@@ -161,24 +158,22 @@ functions-short : (gs : List RawFunction) (hs : List Function) → GoodFunctions
 functions-short [] hs g i t = omega arith
 functions-short (f ∷ gs) hs (a-function hk hm hl body rest) i t =
     let L : Line = headLine i (f .k) (f .m) in
-    let a : length (written (rawFunctions (suc i) gs ++ t)) ≤ 16 * length (functionsBytes gs) + length (written t) = functions-short gs (hs ++ (headOf (f .k) (f .m) ∷ [])) rest (suc i) t in
-    let b : length (written (rawsLines 1 (f .body) ++ (rawFunctions (suc i) gs ++ t))) ≤ 16 * length (rawsBytes (f .body)) + length (written (rawFunctions (suc i) gs ++ t)) = raws-short (record { places = f .k; earlier = hs }) 7 (f .body) body 1 (omega arith) (rawFunctions (suc i) gs ++ t) in
-    let c : length (written ((rawsLines 1 (f .body) ++ rawFunctions (suc i) gs) ++ t)) ≡ length (written (rawsLines 1 (f .body) ++ (rawFunctions (suc i) gs ++ t))) = ap (λ (z : List Line). length (written z)) (append-assoc (rawsLines 1 (f .body)) (rawFunctions (suc i) gs) t) in
-    let e : length (join space (headLine i (f .k) (f .m)) ++ (newline ∷ written ((rawsLines 1 (f .body) ++ rawFunctions (suc i) gs) ++ t)))
-    ≡ weight (headLine i (f .k) (f .m)) + length (written ((rawsLines 1 (f .body) ++ rawFunctions (suc i) gs) ++ t)) = length-line function (decimal i ∷ locations ∷ decimal (f .k) ∷ arguments ∷ decimal (f .m) ∷ []) (written ((rawsLines 1 (f .body) ++ rawFunctions (suc i) gs) ++ t)) in
-    let z : length (sized (rawsBytes (f .body)) ++ functionsBytes gs) ≡ suc (suc (length (rawsBytes (f .body)))) + length (functionsBytes gs) = sized-length (rawsBytes (f .body)) (functionsBytes gs) in
+    let a = functions-short gs (hs ++ (headOf (f .k) (f .m) ∷ [])) rest (suc i) t in
+    let b = raws-short (record { places = f .k; earlier = hs }) 7 (f .body) body 1 (omega arith) (rawFunctions (suc i) gs ++ t) in
+    let c = ap (λ (z : List Line). length (written z)) (append-assoc (rawsLines 1 (f .body)) (rawFunctions (suc i) gs) t) in
+    let e = length-line function (decimal i ∷ locations ∷ decimal (f .k) ∷ arguments ∷ decimal (f .m) ∷ []) (written ((rawsLines 1 (f .body) ++ rawFunctions (suc i) gs) ++ t)) in
+    let z = sized-length (rawsBytes (f .body)) (functionsBytes gs) in
     omega (arith, short-decimal i, short-decimal (f .k), short-decimal (f .m))
 
 program-short : (q : RawProgram) → GoodProgram q → length (written (rawProgramLines q)) ≤ 16 * length (programBytes q)
 program-short q g =
     let M : List Line = (main ∷ []) ∷ rawsLines 1 (q .main) in
-    let a : length (written (rawFunctions 0 (q .functions) ++ ((main ∷ []) ∷ rawsLines 1 (q .main)))) ≤ 16 * length (functionsBytes (q .functions)) + length (written ((main ∷ []) ∷ rawsLines 1 (q .main))) = functions-short (q .functions) [] (g .functions) 0 ((main ∷ []) ∷ rawsLines 1 (q .main)) in
-    let b : length (written (rawsLines 1 (q .main) ++ [])) ≤ 16 * length (rawsBytes (q .main)) + 0 = raws-short (record { places = 256; earlier = heads (q .functions) }) 7 (q .main) (g .main) 1 (omega arith) [] in
-    let c : length (written (rawsLines 1 (q .main) ++ [])) ≡ length (written (rawsLines 1 (q .main))) = ap (λ (z : List Line). length (written z)) (append-nil (rawsLines 1 (q .main))) in
-    let d : length (join space (main ∷ []) ++ (newline ∷ written (rawsLines 1 (q .main)))) ≡ 5 + length (written (rawsLines 1 (q .main))) = length-line main [] (written (rawsLines 1 (q .main))) in
-    let e : length (join space (program ∷ decimal 1 ∷ []) ++ (newline ∷ written (rawFunctions 0 (q .functions) ++ ((main ∷ []) ∷ rawsLines 1 (q .main))))) ≡ 10 + length (written (rawFunctions 0 (q .functions) ++ ((main ∷ []) ∷ rawsLines 1 (q .main)))) =
-    length-line program (decimal 1 ∷ []) (written (rawFunctions 0 (q .functions) ++ ((main ∷ []) ∷ rawsLines 1 (q .main)))) in
-    let f : length (functionsBytes (q .functions) ++ sized (rawsBytes (q .main))) ≡ length (functionsBytes (q .functions)) + suc (suc (length (rawsBytes (q .main)))) = length-sized (functionsBytes (q .functions)) (rawsBytes (q .main)) in
+    let a = functions-short (q .functions) [] (g .functions) 0 ((main ∷ []) ∷ rawsLines 1 (q .main)) in
+    let b = raws-short (record { places = 256; earlier = heads (q .functions) }) 7 (q .main) (g .main) 1 (omega arith) [] in
+    let c = ap (λ (z : List Line). length (written z)) (append-nil (rawsLines 1 (q .main))) in
+    let d = length-line main [] (written (rawsLines 1 (q .main))) in
+    let e = length-line program (decimal 1 ∷ []) (written (rawFunctions 0 (q .functions) ++ ((main ∷ []) ∷ rawsLines 1 (q .main)))) in
+    let f = length-sized (functionsBytes (q .functions)) (rawsBytes (q .main)) in
     omega arith
 
 pub short : Short

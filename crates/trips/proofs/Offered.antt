@@ -102,7 +102,7 @@ place-upTo N f h (suc n) j zero l k =
     ∙ ap (λ (b : Bool). elim b [ true ↦ some 0 | false ↦ elim (place (f j) (upTo (suc j) n f)) [ none ↦ none | some m ↦ some (suc m) ] ]) (word-same (f j))
 place-upTo N f h (suc n) j (suc i) l k =
     let e : j + suc i ≡ suc j + i = omega arith in
-    let q : sameList eqb (f (suc j + i)) (f j) ≡ false = same-no (f (suc j + i)) (f j) (λ z. (let y : suc j + i ≡ j = h (suc j + i) j (omega arith) (omega arith) z in omega arith)) in
+    let q = same-no (f (suc j + i)) (f j) (λ z. (let y = h (suc j + i) j (omega arith) (omega arith) z in omega arith)) in
     let r : place (f (suc j + i)) (upTo (suc j) n f) ≡ some i = place-upTo N f h n (suc j) i (omega arith) (le-of-suc-le-suc k) in
     ap (λ (m : ℕ). place (f m) (upTo j (suc n) f)) e
     ∙ ap (λ (b : Bool). elim b [ true ↦ some 0 | false ↦ elim (place (f (suc j + i)) (upTo (suc j) n f)) [ none ↦ none | some m ↦ some (suc m) ] ]) q

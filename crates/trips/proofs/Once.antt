@@ -35,7 +35,7 @@ broken (x ∷ p) z h = broken p z (h .1)
 last-newline : (b : Text) (x : ℕ) (z v : Text) → b ++ (x ∷ z) ≡ v ++ (newline ∷ []) → (u : Text) × (x ∷ z ≡ u ++ (newline ∷ []))
 last-newline [] x z v e = (v, e)
 last-newline (y ∷ b) x z [] e = none-mid b x z (let h : y ∷ (b ++ (x ∷ z)) ≡ newline ∷ [] = e in let t : [] ≡ b ++ (x ∷ z) = cc in t)
-last-newline (y ∷ b) x z (w ∷ v) e = last-newline b x z v (let h : y ∷ (b ++ (x ∷ z)) ≡ w ∷ (v ++ (newline ∷ [])) = e in let t : b ++ (x ∷ z) ≡ v ++ (newline ∷ []) = cc in t)
+last-newline (y ∷ b) x z (w ∷ v) e = last-newline b x z v (let h = e in let t : b ++ (x ∷ z) ≡ v ++ (newline ∷ []) = cc in t)
 
 -- whole lines that reach into a line have all of it
 covers : (l a : Text) → OneLine l a → (u rest : Text) → l ++ a ≡ (u ++ (newline ∷ [])) ++ rest → (z : Text) × (u ++ (newline ∷ []) ≡ l ++ z)
@@ -47,8 +47,8 @@ covers l a (inl o) u rest e = go (longer (o .0) (newline ∷ a) u (newline ∷ r
     same-front : (z : Text) → o .0 ≡ u ++ z → (z : Text) × (u ++ (newline ∷ []) ≡ l ++ z)
     same-front [] q = ([], ap (λ (t : Text). t ++ (newline ∷ [])) (sym (append-nil u) ∙ sym q) ∙ sym (o .2) ∙ sym (append-nil l))
     same-front (c ∷ z) q =
-        let k : o .0 ++ (newline ∷ a) ≡ u ++ (newline ∷ rest) = sym (append-assoc (o .0) (newline ∷ []) a) ∙ ap (λ (t : Text). t ++ a) (sym (o .2)) ∙ e ∙ append-assoc u (newline ∷ []) rest in
-        let m : (c ∷ z) ++ (newline ∷ a) ≡ newline ∷ rest = cancel u ((c ∷ z) ++ (newline ∷ a)) (newline ∷ rest) (sym (append-assoc u (c ∷ z) (newline ∷ a)) ∙ ap (λ (t : Text). t ++ (newline ∷ a)) (sym q) ∙ k) in
+        let k = sym (append-assoc (o .0) (newline ∷ []) a) ∙ ap (λ (t : Text). t ++ a) (sym (o .2)) ∙ e ∙ append-assoc u (newline ∷ []) rest in
+        let m = cancel u ((c ∷ z) ++ (newline ∷ a)) (newline ∷ rest) (sym (append-assoc u (c ∷ z) (newline ∷ a)) ∙ ap (λ (t : Text). t ++ (newline ∷ a)) (sym q) ∙ k) in
         let n : c ≡ newline = cc in
         broken u z (subst (λ (t : Text). Unbroken t) (q ∙ ap (λ (y : ℕ). u ++ (y ∷ z)) n) (o .1))
 
@@ -78,7 +78,7 @@ one-stop t x y (at-line b l a e w o h k) (at-line b′ l′ a′ e′ w′ o′ 
     front : (z : Text) → b ≡ b′ ++ z → length b ≡ length b′
     front [] q = ap length (q ∙ append-nil b′)
     front (c ∷ z) q =
-        let m : l′ ++ a′ ≡ (c ∷ z) ++ (l ++ a) = sym (cancel b′ ((c ∷ z) ++ (l ++ a)) (l′ ++ a′) (sym (append-assoc b′ (c ∷ z) (l ++ a)) ∙ ap (λ (s : Text). s ++ (l ++ a)) (sym q) ∙ sym e ∙ e′)) in
+        let m = sym (cancel b′ ((c ∷ z) ++ (l ++ a)) (l′ ++ a′) (sym (append-assoc b′ (c ∷ z) (l ++ a)) ∙ ap (λ (s : Text). s ++ (l ++ a)) (sym q) ∙ sym e ∙ e′)) in
         later b′ l′ a′ b o′ k′ w h c z (l ++ a) q m
 
     go : ((z : Text) × (b ≡ b′ ++ z)) ⊎ ((c : ℕ) × (z : Text) × (b′ ≡ b ++ (c ∷ z)) × (l ++ a ≡ c ∷ (z ++ (l′ ++ a′)))) → length b ≡ length b′

@@ -118,15 +118,15 @@ module _ (s : List ℕ) (bytes : Bytes s) where
           let l′ : i + size r ≤ length s = omega arith in
           let xs : List ℕ = part (i + 1) (length (r .operands)) in
           let a : At s i (byte s i ∷ (part (i + 1) (length (r .operands)) ++ [])) = fixed-at i r row l′ o [] (omega arith) in
-          let a′ : At s i (byte s i ∷ part (i + 1) (length (r .operands))) = subst (λ (z : List ℕ). At s i (byte s i ∷ z)) (append-nil (part (i + 1) (length (r .operands)))) a in
+          let a′ = subst (λ (z : List ℕ). At s i (byte s i ∷ z)) (append-nil (part (i + 1) (length (r .operands)))) a in
           let lx : length (part (i + 1) (length (r .operands))) ≡ length (r .operands) = xs-length i r row l′ o in
           let nx : i + size r ≡ i + suc (length (part (i + 1) (length (r .operands)))) = omega arith in
           by (plain (byte s i) (part (i + 1) (length (r .operands))), good-plain r f row m o, a′, nx, l, λ n. ap (λ (z : Line). indented n z ∷ []) (fixed-line s sd S (byte s i) r row (part (i + 1) (length (r .operands))) o i [] a))
       meant-raw i e r row w l o loops m =
           holds-bind (inner (i + size r) e w) λ b u.
           let l′ : i + size r ≤ length s = omega arith in
-          let a : At s i (byte s i ∷ (part (i + 1) (length (r .operands)) ++ sized (rawsBytes (u .1)))) = fixed-at i r row l′ o (sized (rawsBytes (u .1))) (u .4) in
-          let z : i + size r + suc (suc (length (rawsBytes (u .1)))) ≡ i + length (byte s i ∷ (part (i + 1) (length (r .operands)) ++ sized (rawsBytes (u .1)))) = fixed-size i r row l′ o (sized (rawsBytes (u .1))) in
+          let a = fixed-at i r row l′ o (sized (rawsBytes (u .1))) (u .4) in
+          let z = fixed-size i r row l′ o (sized (rawsBytes (u .1))) in
           let nx : b .next ≡ i + length (byte s i ∷ (part (i + 1) (length (r .operands)) ++ sized (rawsBytes (u .1)))) = omega (arith, u .5) in
           by (
             loop (byte s i) (part (i + 1) (length (r .operands))) (u .1),
@@ -144,10 +144,10 @@ module _ (s : List ℕ) (bytes : Bytes s) where
           let bs : List ℕ = sized (rawsBytes (u .1)) ++ sized (rawsBytes (v .1)) in
           let de : u .0 ≡ v .0 = (let p : d ≡ suc (u .0) = u .2 in let q : d ≡ suc (v .0) = v .2 in omega arith) in
           let pj : b .next ≡ i + size r + length (sized (rawsBytes (u .1))) = omega (arith, u .5) in
-          let ab : At s (i + size r) (sized (rawsBytes (u .1)) ++ sized (rawsBytes (v .1))) = at-append s (sized (rawsBytes (u .1))) (sized (rawsBytes (v .1))) (i + size r) (u .4) (moved s (b .next) (i + size r + length (sized (rawsBytes (u .1)))) (sized (rawsBytes (v .1))) pj (v .4)) in
-          let a : At s i (byte s i ∷ (part (i + 1) (length (r .operands)) ++ (sized (rawsBytes (u .1)) ++ sized (rawsBytes (v .1))))) = fixed-at i r row l′ o (sized (rawsBytes (u .1)) ++ sized (rawsBytes (v .1))) ab in
-          let z : i + size r + length (sized (rawsBytes (u .1)) ++ sized (rawsBytes (v .1))) ≡ i + length (byte s i ∷ (part (i + 1) (length (r .operands)) ++ (sized (rawsBytes (u .1)) ++ sized (rawsBytes (v .1))))) = fixed-size i r row l′ o (sized (rawsBytes (u .1)) ++ sized (rawsBytes (v .1))) in
-          let lz : length (sized (rawsBytes (u .1)) ++ sized (rawsBytes (v .1))) ≡ suc (suc (length (rawsBytes (u .1)))) + suc (suc (length (rawsBytes (v .1)))) = length-sized (sized (rawsBytes (u .1))) (rawsBytes (v .1)) in
+          let ab = at-append s (sized (rawsBytes (u .1))) (sized (rawsBytes (v .1))) (i + size r) (u .4) (moved s (b .next) (i + size r + length (sized (rawsBytes (u .1)))) (sized (rawsBytes (v .1))) pj (v .4)) in
+          let a = fixed-at i r row l′ o (sized (rawsBytes (u .1)) ++ sized (rawsBytes (v .1))) ab in
+          let z = fixed-size i r row l′ o (sized (rawsBytes (u .1)) ++ sized (rawsBytes (v .1))) in
+          let lz = length-sized (sized (rawsBytes (u .1))) (rawsBytes (v .1)) in
           let nx : c .next ≡ i + length (byte s i ∷ (part (i + 1) (length (r .operands)) ++ (sized (rawsBytes (u .1)) ++ sized (rawsBytes (v .1))))) = omega (arith, u .5, v .5) in
           by (
             fork (byte s i) (part (i + 1) (length (r .operands))) (u .1) (v .1),
@@ -179,33 +179,28 @@ module _ (s : List ℕ) (bytes : Bytes s) where
               let i₄ : i + 4 ≡ i + size r = omega arith in
               let i₂ : i + 1 + 1 ≡ i + 2 = omega arith in
               let i₃ : i + 1 + 2 ≡ i + 3 = omega arith in
-              let K : getD (part (i + 1) (length (r .operands))) 1 0 ≡ byte s (i + 2) = getD-upTo (i + 1) (length (r .operands)) 1 (byte s) 0 (omega arith) ∙ ap (byte s) i₂ in
-              let J : getD (part (i + 1) (length (r .operands))) 2 0 ≡ byte s (i + 3) = getD-upTo (i + 1) (length (r .operands)) 2 (byte s) 0 (omega arith) ∙ ap (byte s) i₃ in
-              let R : Ranged (stubbed S) (byte s (i + 1)) (replicate (byte s (i + 2)) Location) (part (i + 4) (length (replicate (byte s (i + 2)) Location))) × Ranged (stubbed S) (byte s (i + 1)) (replicate (byte s (i + 3)) Slot) (part (i + 4 + length (replicate (byte s (i + 2)) Location)) (length (replicate (byte s (i + 3)) Slot))) =
-              ranged-split (stubbed S) (byte s (i + 1)) (replicate (byte s (i + 2)) Location) (replicate (byte s (i + 3)) Slot) (i + 4) t in
+              let K = getD-upTo (i + 1) (length (r .operands)) 1 (byte s) 0 (omega arith) ∙ ap (byte s) i₂ in
+              let J = getD-upTo (i + 1) (length (r .operands)) 2 (byte s) 0 (omega arith) ∙ ap (byte s) i₃ in
+              let R = ranged-split (stubbed S) (byte s (i + 1)) (replicate (byte s (i + 2)) Location) (replicate (byte s (i + 3)) Slot) (i + 4) t in
               let ls : List ℕ = part (i + size r) (byte s (i + 2)) in
               let ms : List ℕ = part (i + size r + byte s (i + 2)) (byte s (i + 3)) in
               let lr : length (replicate (byte s (i + 2)) Location) ≡ byte s (i + 2) = length-replicate (byte s (i + 2)) Location in
               let mr : length (replicate (byte s (i + 3)) Slot) ≡ byte s (i + 3) = length-replicate (byte s (i + 3)) Slot in
-              let le : part (i + 4) (length (replicate (byte s (i + 2)) Location)) ≡ part (i + size r) (byte s (i + 2)) = ap (λ (n : ℕ). part (i + 4) n) lr ∙ ap (λ (n : ℕ). part n (byte s (i + 2))) i₄ in
+              let le = ap (λ (n : ℕ). part (i + 4) n) lr ∙ ap (λ (n : ℕ). part n (byte s (i + 2))) i₄ in
               let pe : i + 4 + length (replicate (byte s (i + 2)) Location) ≡ i + size r + byte s (i + 2) = omega arith in
-              let me : part (i + 4 + length (replicate (byte s (i + 2)) Location)) (length (replicate (byte s (i + 3)) Slot)) ≡ part (i + size r + byte s (i + 2)) (byte s (i + 3)) = ap (λ (n : ℕ). part (i + 4 + length (replicate (byte s (i + 2)) Location)) n) mr ∙ ap (λ (n : ℕ). part n (byte s (i + 3))) pe in
-              let hl : Ranged (stubbed S) 0 (replicate (byte s (i + 2)) Location) (part (i + size r) (byte s (i + 2))) =
-              to-zero (stubbed S) Location (λ f x h. h) (byte s (i + 2)) (part (i + size r) (byte s (i + 2))) (byte s (i + 1)) (subst (λ (z : List ℕ). Ranged (stubbed S) (byte s (i + 1)) (replicate (byte s (i + 2)) Location) z) le (R .0)) in
-              let hm : Ranged (stubbed S) 0 (replicate (byte s (i + 3)) Slot) (part (i + size r + byte s (i + 2)) (byte s (i + 3))) =
-              to-zero (stubbed S) Slot (λ f x h. h) (byte s (i + 3)) (part (i + size r + byte s (i + 2)) (byte s (i + 3))) (byte s (i + 1)) (subst (λ (z : List ℕ). Ranged (stubbed S) (byte s (i + 1)) (replicate (byte s (i + 3)) Slot) z) me (R .1)) in
-              let hl′ : Ranged (stubbed S) 0 (replicate (getD (part (i + 1) (length (r .operands))) 1 0) Location) (part (i + size r) (byte s (i + 2))) = subst (λ (n : ℕ). Ranged (stubbed S) 0 (replicate n Location) (part (i + size r) (byte s (i + 2)))) (sym K) hl in
-              let hm′ : Ranged (stubbed S) 0 (replicate (getD (part (i + 1) (length (r .operands))) 2 0) Slot) (part (i + size r + byte s (i + 2)) (byte s (i + 3))) = subst (λ (n : ℕ). Ranged (stubbed S) 0 (replicate n Slot) (part (i + size r + byte s (i + 2)) (byte s (i + 3)))) (sym J) hm in
+              let me = ap (λ (n : ℕ). part (i + 4 + length (replicate (byte s (i + 2)) Location)) n) mr ∙ ap (λ (n : ℕ). part n (byte s (i + 3))) pe in
+              let hl = to-zero (stubbed S) Location (λ f x h. h) (byte s (i + 2)) (part (i + size r) (byte s (i + 2))) (byte s (i + 1)) (subst (λ (z : List ℕ). Ranged (stubbed S) (byte s (i + 1)) (replicate (byte s (i + 2)) Location) z) le (R .0)) in
+              let hm = to-zero (stubbed S) Slot (λ f x h. h) (byte s (i + 3)) (part (i + size r + byte s (i + 2)) (byte s (i + 3))) (byte s (i + 1)) (subst (λ (z : List ℕ). Ranged (stubbed S) (byte s (i + 1)) (replicate (byte s (i + 3)) Slot) z) me (R .1)) in
+              let hl′ = subst (λ (n : ℕ). Ranged (stubbed S) 0 (replicate n Location) (part (i + size r) (byte s (i + 2)))) (sym K) hl in
+              let hm′ = subst (λ (n : ℕ). Ranged (stubbed S) 0 (replicate n Slot) (part (i + size r + byte s (i + 2)) (byte s (i + 3)))) (sym J) hm in
               let ll : length (part (i + size r) (byte s (i + 2))) ≡ byte s (i + 2) = length-upTo (i + size r) (byte s (i + 2)) (byte s) in
-              let lm : length (part (i + size r + byte s (i + 2)) (byte s (i + 3))) ≡ byte s (i + 3) = length-upTo (i + size r + byte s (i + 2)) (byte s (i + 3)) (byte s) in
-              let ab : At s (i + size r) (part (i + size r) (byte s (i + 2)) ++ part (i + size r + byte s (i + 2)) (byte s (i + 3))) =
-              at-append s (part (i + size r) (byte s (i + 2))) (part (i + size r + byte s (i + 2)) (byte s (i + 3))) (i + size r) (at-upTo s (byte s (i + 2)) (i + size r) (omega arith))
+              let lm = length-upTo (i + size r + byte s (i + 2)) (byte s (i + 3)) (byte s) in
+              let ab = at-append s (part (i + size r) (byte s (i + 2))) (part (i + size r + byte s (i + 2)) (byte s (i + 3))) (i + size r) (at-upTo s (byte s (i + 2)) (i + size r) (omega arith))
               (moved s (i + size r + byte s (i + 2)) (i + size r + length (part (i + size r) (byte s (i + 2)))) (part (i + size r + byte s (i + 2)) (byte s (i + 3))) (ap (λ (n : ℕ). i + size r + n) (sym ll)) (at-upTo s (byte s (i + 3)) (i + size r + byte s (i + 2)) (omega arith))) in
               let rest : List ℕ = part (i + size r) (byte s (i + 2)) ++ part (i + size r + byte s (i + 2)) (byte s (i + 3)) in
-              let a : At s i (byte s i ∷ (part (i + 1) (length (r .operands)) ++ (part (i + size r) (byte s (i + 2)) ++ part (i + size r + byte s (i + 2)) (byte s (i + 3))))) = fixed-at i r row l′ o (part (i + size r) (byte s (i + 2)) ++ part (i + size r + byte s (i + 2)) (byte s (i + 3))) ab in
-              let z : i + size r + length (part (i + size r) (byte s (i + 2)) ++ part (i + size r + byte s (i + 2)) (byte s (i + 3))) ≡ i + length (byte s i ∷ (part (i + 1) (length (r .operands)) ++ (part (i + size r) (byte s (i + 2)) ++ part (i + size r + byte s (i + 2)) (byte s (i + 3))))) =
-              fixed-size i r row l′ o (part (i + size r) (byte s (i + 2)) ++ part (i + size r + byte s (i + 2)) (byte s (i + 3))) in
-              let lz : length (part (i + size r) (byte s (i + 2)) ++ part (i + size r + byte s (i + 2)) (byte s (i + 3))) ≡ length (part (i + size r) (byte s (i + 2))) + length (part (i + size r + byte s (i + 2)) (byte s (i + 3))) = length-append (part (i + size r) (byte s (i + 2))) (part (i + size r + byte s (i + 2)) (byte s (i + 3))) in
+              let a = fixed-at i r row l′ o (part (i + size r) (byte s (i + 2)) ++ part (i + size r + byte s (i + 2)) (byte s (i + 3))) ab in
+              let z = fixed-size i r row l′ o (part (i + size r) (byte s (i + 2)) ++ part (i + size r + byte s (i + 2)) (byte s (i + 3))) in
+              let lz = length-append (part (i + size r) (byte s (i + 2))) (part (i + size r + byte s (i + 2)) (byte s (i + 3))) in
               let nx : i + size r + byte s (i + 2) + byte s (i + 3) ≡ i + length (byte s i ∷ (part (i + 1) (length (r .operands)) ++ (part (i + size r) (byte s (i + 2)) ++ part (i + size r + byte s (i + 2)) (byte s (i + 3))))) = omega arith in (
                 called (byte s i) (part (i + 1) (length (r .operands))) (part (i + size r) (byte s (i + 2))) (part (i + size r + byte s (i + 2)) (byte s (i + 3))),
                 good-called r row m o hl′ hm′,
@@ -237,7 +232,7 @@ module _ (s : List ℕ) (bytes : Bytes s) where
           holds-bind (statement-raw i e w) λ t u.
           let p : 1 ≤ length (rawBytes (u .0)) = some-more (u .0) in
           holds-bind (statements-raw more (t .next) e w (u .4) (omega (arith, u .3))) λ ts v.
-          let a : At s i (rawBytes (u .0) ++ rawsBytes (v .0)) = at-append s (rawBytes (u .0)) (rawsBytes (v .0)) i (u .2) (moved s (t .next) (i + length (rawBytes (u .0))) (rawsBytes (v .0)) (u .3) (v .2)) in
+          let a = at-append s (rawBytes (u .0)) (rawsBytes (v .0)) i (u .2) (moved s (t .next) (i + length (rawBytes (u .0))) (rawsBytes (v .0)) (u .3) (v .2)) in
           let z : i + length (rawBytes (u .0) ++ rawsBytes (v .0)) ≡ e = omega (arith, length-append (rawBytes (u .0)) (rawsBytes (v .0)), u .3, v .3) in
           by (u .0 then v .0, good-then (u .1) (v .1), a, z, λ n. ap (λ (z : List Line). z ++ statementsLines s n ts) (u .5 n) ∙ ap (λ (z : List Line). rawLines n (u .0) ++ z) (v .4 n))
 
@@ -281,17 +276,17 @@ module _ (s : List ℕ) (bytes : Bytes s) where
           let hk : H .locations ≤ 16 = omega (arith, c .0, c .2) in
           let hm : H .arguments ≤ 8 = omega (arith, c .1, c .3) in
           let hl : H .arguments ≤ H .locations = omega (arith, c .0, c .1, c .4) in
-          let body : Goods (record { places = H .locations; earlier = map stub fs }) 7 (v .1) = subst (λ (k : ℕ). Goods (record { places = H .locations; earlier = map stub fs }) k (v .1)) d7 (v .3) in
-          let rest : GoodFunctions (map stub fs ++ (headOf (H .locations) (H .arguments) ∷ [])) (w .0) = subst (λ (z : List Function). GoodFunctions z (w .0)) (map-snoc fs (record { k = H .locations; m = H .arguments; body = b .it })) (w .4) in
+          let body = subst (λ (k : ℕ). Goods (record { places = H .locations; earlier = map stub fs }) k (v .1)) d7 (v .3) in
+          let rest = subst (λ (z : List Function). GoodFunctions z (w .0)) (map-snoc fs (record { k = H .locations; m = H .arguments; body = b .it })) (w .4) in
           let sz : List ℕ = sized (rawsBytes (v .1)) in
           let pe : b .next ≡ i + 2 + length (sized (rawsBytes (v .1))) = omega (arith, v .5) in
-          let a₂ : At s (i + 2) (sized (rawsBytes (v .1)) ++ functionsBytes (w .0)) = at-append s (sized (rawsBytes (v .1))) (functionsBytes (w .0)) (i + 2) (v .4) (moved s (b .next) (i + 2 + length (sized (rawsBytes (v .1)))) (functionsBytes (w .0)) pe (w .6)) in
+          let a₂ = at-append s (sized (rawsBytes (v .1))) (functionsBytes (w .0)) (i + 2) (v .4) (moved s (b .next) (i + 2 + length (sized (rawsBytes (v .1)))) (functionsBytes (w .0)) pe (w .6)) in
           let e₂ : i + 2 ≡ suc (suc i) = omega arith in
           let e₁ : i + 1 ≡ suc i = omega arith in
           let le : i + 2 + length (sized (rawsBytes (v .1))) ≤ length s = at-end s (sized (rawsBytes (v .1))) (i + 2) (v .4) in
           let a : At s i (functionsBytes (record { k = H .locations; m = H .arguments; body = v .1 } ∷ w .0)) =
           (sym (c .0), omega arith, (ap (byte s) (sym e₁) ∙ sym (c .1), omega arith, moved s (i + 2) (suc (suc i)) (sized (rawsBytes (v .1)) ++ functionsBytes (w .0)) e₂ a₂)) in
-          let lz : length (sized (rawsBytes (v .1)) ++ functionsBytes (w .0)) ≡ suc (suc (length (rawsBytes (v .1)))) + length (functionsBytes (w .0)) = sized-length (rawsBytes (v .1)) (functionsBytes (w .0)) in
+          let lz = sized-length (rawsBytes (v .1)) (functionsBytes (w .0)) in
           let nx : r .next ≡ i + length (functionsBytes (record { k = H .locations; m = H .arguments; body = v .1 } ∷ w .0)) = omega (arith, w .7, v .5) in (
             record { k = H .locations; m = H .arguments; body = v .1 } ∷ w .0,
             record { k = H .locations; m = H .arguments; body = b .it } ∷ w .1,
@@ -326,12 +321,12 @@ module _ (s : List ℕ) (bytes : Bytes s) where
       let c₄ : byte s 4 ≡ 1 = omega arith in
       let c₅ : byte s 5 ≡ length (w .0) = sym en ∙ sym (w .3) in
       let F : List ℕ = functionsBytes (w .0) in
-      let ab : At s 6 (functionsBytes (w .0) ++ sized (rawsBytes (v .1))) = at-append s (functionsBytes (w .0)) (sized (rawsBytes (v .1))) 6 (w .6) (moved s (fs .next) (6 + length (functionsBytes (w .0))) (sized (rawsBytes (v .1))) (w .7) (v .4)) in
+      let ab = at-append s (functionsBytes (w .0)) (sized (rawsBytes (v .1))) 6 (w .6) (moved s (fs .next) (6 + length (functionsBytes (w .0))) (sized (rawsBytes (v .1))) (w .7) (v .4)) in
       let a : At s 0 (programBytes (record { functions = w .0; main = v .1 })) = (c₀, omega arith, (c₁, omega arith, (c₂, omega arith, (c₃, omega arith, (c₄, omega arith, (c₅, omega arith, ab)))))) in
-      let lp : length (functionsBytes (w .0) ++ sized (rawsBytes (v .1))) ≡ length (functionsBytes (w .0)) + suc (suc (length (rawsBytes (v .1)))) = length-sized (functionsBytes (w .0)) (rawsBytes (v .1)) in
+      let lp = length-sized (functionsBytes (w .0)) (rawsBytes (v .1)) in
       let lq : length (programBytes (record { functions = w .0; main = v .1 })) ≡ length s = omega (arith, w .7, v .5, last) in
       let hs : map stub (fs .it) ≡ heads (w .0) = ap (map stub) (w .2) ∙ w .5 in
-      let gm : Goods (record { places = 256; earlier = heads (w .0) }) 7 (v .1) = subst (λ (z : List Function). Goods (record { places = 256; earlier = z }) 7 (v .1)) hs (subst (λ (k : ℕ). Goods (record { places = 256; earlier = map stub (fs .it) }) k (v .1)) d7 (v .3)) in (
+      let gm = subst (λ (z : List Function). Goods (record { places = 256; earlier = z }) 7 (v .1)) hs (subst (λ (k : ℕ). Goods (record { places = 256; earlier = map stub (fs .it) }) k (v .1)) d7 (v .3)) in (
         record { functions = w .0; main = v .1 },
         record { few = omega (arith, w .3); functions = w .4; main = gm; short = omega arith },
         at-all s (programBytes (record { functions = w .0; main = v .1 })) a lq,

@@ -218,7 +218,7 @@ module _ {A : Type 0} (S : Scope) (w : Text) (o : Operand) (e : silent o ≡ fal
   took-list zero k ws a h = ([], ws, refl, tt, h)
   took-list (suc n) k [] a h = none-not-some h
   took-list (suc n) k (v ∷ ws) a h =
-      let r : (i : ℕ) × (place v (w ∷ []) ≡ some i) × (takes (others S 0 (replicate (suc n) o) k) ws ≡ some a) = took none (w ∷ []) (λ i. others S 0 (replicate (suc n) o) k) v ws a h in
+      let r = took none (w ∷ []) (λ i. others S 0 (replicate (suc n) o) k) v ws a h in
       let f : (getD (w ∷ []) (r .0) [] ≡ v) × (r .0 < 1) = place-found v (w ∷ []) (r .0) (r .1) in
       let z : 0 ≡ r .0 = omega (arith, f .1) in
       let q : HeardAll S 0 (replicate (suc n) o) k ws a = took-others S 0 (replicate (suc n) o) k ws a (r .2) in
@@ -307,6 +307,6 @@ forth reads runs s p y h =
 
 pub back : ReadsBack → RunsBack → Back
 back reads runs ls σ h =
-    let b : (q : RawProgram) × (more : List Line) × GoodProgram q × (rawProgramLines q ≡ ls ++ more) × ((z : List ℕ) → file σ ≡ some z → (z ≡ programBytes q) × (more ≡ [])) = runs ls σ h in
-    let r : (p : Program) × (readProgram (programBytes (b .0)) ≡ ok p) × (programLines (programBytes (b .0)) p ≡ rawProgramLines (b .0)) × Bytes (programBytes (b .0)) = reads (b .0) (b .2) in
+    let b = runs ls σ h in
+    let r = reads (b .0) (b .2) in
     (programBytes (b .0), r .0, b .1, r .1, r .2 ∙ b .3, b .4, r .3)

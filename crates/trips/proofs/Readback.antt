@@ -52,7 +52,7 @@ module _ (s : List ℕ) where
   operands-ok S [] (x ∷ xs) i n f e h a = absurd h
   operands-ok S (o ∷ os) [] i n f e h a = absurd h
   operands-ok S (o ∷ os) (x ∷ xs) i n f e h a =
-      let r : inRange S (byte s (i + 1)) o (byte s (i + n)) ≡ true = ap (λ (y : ℕ). inRange S y o (byte s (i + n))) e ∙ ap (λ (y : ℕ). inRange S f o y) (a .0) ∙ ranges S f o x (h .0) in
+      let r = ap (λ (y : ℕ). inRange S y o (byte s (i + n))) e ∙ ap (λ (y : ℕ). inRange S f o y) (a .0) ∙ ranges S f o x (h .0) in
       ap (λ (b : Bool). need b 10 (i + n) >> operands s S i (suc n) os) r ∙ operands-ok S os xs i (suc n) f e (h .1) (moved (suc (i + n)) (i + suc n) xs (sym (add-suc i n)) (a .2))
 
   ranged-append : (S : Scope) (f : ℕ) (os ps : List Operand) (xs ys : List ℕ) → Ranged S f os xs → Ranged S f ps ys → Ranged S f (os ++ ps) (xs ++ ys)
@@ -166,7 +166,7 @@ module _ (s : List ℕ) where
           let z₃ : length (r .operands) ≡ 3 = row-calls b r row m in
           let zx : length xs ≡ 3 = operands-length (stubbed S) (r .operands) xs o ∙ z₃ in
           let p : ℕ = i + size r in
-          let lk : length ls ≡ getD xs 1 0 = ranged-length (stubbed S) 0 (replicate (getD xs 1 0) Location) ls hl ∙ length-replicate (getD xs 1 0) Location in
+          let lk = ranged-length (stubbed S) 0 (replicate (getD xs 1 0) Location) ls hl ∙ length-replicate (getD xs 1 0) Location in
           let lm : length ms ≡ getD xs 2 0 = ranged-length (stubbed S) 0 (replicate (getD xs 2 0) Slot) ms hm ∙ length-replicate (getD xs 2 0) Slot in
           let lx : length (xs ++ (ls ++ ms)) ≡ length xs + length (ls ++ ms) = length-append xs (ls ++ ms) in
           let ly : length (ls ++ ms) ≡ length ls + length ms = length-append ls ms in
@@ -178,17 +178,15 @@ module _ (s : List ℕ) where
           let ar : At s (i + size r) (ls ++ ms) = fixed-rest b r row xs o i (ls ++ ms) a in
           let i₄ : i + size r ≡ i + 4 = omega arith in
           let al : At s (i + size r) ls = at-left s ls ms (i + size r) ar in
-          let am : At s (i + size r + getD xs 1 0) ms = moved (i + size r + length ls) (i + size r + getD xs 1 0) ms (ap (λ (n : ℕ). i + size r + n) lk) (at-right s ls ms (i + size r) ar) in
-          let ops : operands s S i 4 (replicate (getD xs 1 0) Location ++ replicate (getD xs 2 0) Slot) ≡ ok tt =
-          operands-ok S (replicate (getD xs 1 0) Location ++ replicate (getD xs 2 0) Slot) (ls ++ ms) i 4 (byte s (i + 1)) refl
+          let am = moved (i + size r + length ls) (i + size r + getD xs 1 0) ms (ap (λ (n : ℕ). i + size r + n) lk) (at-right s ls ms (i + size r) ar) in
+          let ops = operands-ok S (replicate (getD xs 1 0) Location ++ replicate (getD xs 2 0) Slot) (ls ++ ms) i 4 (byte s (i + 1)) refl
           (ranged-append (stubbed S) (byte s (i + 1)) (replicate (getD xs 1 0) Location) (replicate (getD xs 2 0) Slot) ls ms (ranged-f Location (λ f x h. h) (getD xs 1 0) ls (byte s (i + 1)) hl) (ranged-f Slot (λ f x h. h) (getD xs 2 0) ms (byte s (i + 1)) hm))
           (moved (i + size r) (i + 4) (ls ++ ms) i₄ ar) in
           let C : ℕ → ℕ → Check (Read (Statement sd)) = λ K M. need (leb (i + size r + K + M) e) 8 i >> (operands s S i 4 (replicate K Location ++ replicate M Slot) >> ok (record { it = Called K M; next = i + size r + K + M })) in
           let fit : i + size r + getD xs 1 0 + getD xs 2 0 ≤ e = omega arith in
           let nx : i + size r + getD xs 1 0 + getD xs 2 0 ≡ i + suc (length (xs ++ (ls ++ ms))) = omega arith in
-          let ul : map (λ (l : Place sd). l .no) (upTo (i + size r) (getD xs 1 0) λ n. record { no = byte s n }) ≡ ls =
-          map-places (i + size r) (getD xs 1 0) ∙ ap (λ (n : ℕ). upTo (i + size r) n (byte s)) (sym lk) ∙ upTo-at s ls (i + size r) al in
-          let um : upTo (i + size r + getD xs 1 0) (getD xs 2 0) (byte s) ≡ ms = ap (λ (n : ℕ). upTo (i + size r + getD xs 1 0) n (byte s)) (sym lm) ∙ upTo-at s ms (i + size r + getD xs 1 0) am in (
+          let ul = map-places (i + size r) (getD xs 1 0) ∙ ap (λ (n : ℕ). upTo (i + size r) n (byte s)) (sym lk) ∙ upTo-at s ls (i + size r) al in
+          let um = ap (λ (n : ℕ). upTo (i + size r + getD xs 1 0) n (byte s)) (sym lm) ∙ upTo-at s ms (i + size r + getD xs 1 0) am in (
             statement-is inner i e r (fixed-row b r row xs o i (ls ++ ms) a) (omega arith) (fixed-ops b r row xs o i (ls ++ ms) a)
                 ∙ ap (λ (m : Meaning). meant s sd S inner m i (i + size r) e) m
                 ∙ ap (λ (k : ℕ). C k (byte s (i + 3))) ek ∙ ap (λ (k : ℕ). C (getD xs 1 0) k) em
@@ -217,14 +215,12 @@ module _ (s : List ℕ) where
       read-raw (suc d) (fork b xs q t) (good-fork r row m o gq gt) i e a l =
           let z : size r ≡ suc (length xs) = size-xs (stubbed S) r xs o in
           let rest : List ℕ = sized (rawsBytes q) ++ sized (rawsBytes t) in
-          let lx : length (xs ++ (sized (rawsBytes q) ++ sized (rawsBytes t))) ≡ length xs + length (sized (rawsBytes q) ++ sized (rawsBytes t)) = length-append xs (sized (rawsBytes q) ++ sized (rawsBytes t)) in
-          let ly : length (sized (rawsBytes q) ++ sized (rawsBytes t)) ≡ suc (suc (length (rawsBytes q))) + suc (suc (length (rawsBytes t))) = length-sized (sized (rawsBytes q)) (rawsBytes t) in
-          let A : At s (i + size r + 2) (rawsBytes q) × At s (i + size r) (sized (rawsBytes q)) × At s (i + size r + 2 + length (rawsBytes q)) (sized (rawsBytes t)) =
-          inner-at (i + size r) (rawsBytes q) (sized (rawsBytes t)) (fixed-rest b r row xs o i (sized (rawsBytes q) ++ sized (rawsBytes t)) a) in
+          let lx = length-append xs (sized (rawsBytes q) ++ sized (rawsBytes t)) in
+          let ly = length-sized (sized (rawsBytes q)) (rawsBytes t) in
+          let A = inner-at (i + size r) (rawsBytes q) (sized (rawsBytes t)) (fixed-rest b r row xs o i (sized (rawsBytes q) ++ sized (rawsBytes t)) a) in
           let j : ℕ = i + size r + 2 + length (rawsBytes q) in
-          let R : ReadBlock d (i + size r) e q = block-is d q (i + size r) e (A .1) (omega arith) (read-raws d q gq (length (rawsBytes q)) (i + size r + 2) (i + size r + 2 + length (rawsBytes q)) (omega arith) refl (A .0)) in
-          let Q : ReadBlock d (i + size r + 2 + length (rawsBytes q)) e t =
-          block-is d t (i + size r + 2 + length (rawsBytes q)) e (A .2) (omega arith)
+          let R = block-is d q (i + size r) e (A .1) (omega arith) (read-raws d q gq (length (rawsBytes q)) (i + size r + 2) (i + size r + 2 + length (rawsBytes q)) (omega arith) refl (A .0)) in
+          let Q = block-is d t (i + size r + 2 + length (rawsBytes q)) e (A .2) (omega arith)
           (read-raws d t gt (length (rawsBytes t)) (i + size r + 2 + length (rawsBytes q) + 2) (i + size r + 2 + length (rawsBytes q) + 2 + length (rawsBytes t)) (omega arith) refl (inner-here (i + size r + 2 + length (rawsBytes q)) (rawsBytes t) (A .2))) in
           let p : i + size r + 2 + length (rawsBytes q) + 2 + length (rawsBytes t) ≡ i + length (rawBytes (fork b xs q t)) = omega arith in (
             if i (byte s (i + 1)) (R .0) (Q .0),
@@ -241,7 +237,7 @@ module _ (s : List ℕ) where
           let z : size r ≡ suc (length xs) = size-xs (stubbed S) r xs o in
           let lx : length (xs ++ sized (rawsBytes q)) ≡ length xs + suc (suc (length (rawsBytes q))) = length-sized xs (rawsBytes q) in
           let A : At s (i + size r) (sized (rawsBytes q)) = fixed-rest b r row xs o i (sized (rawsBytes q)) a in
-          let R : ReadBlock d (i + size r) e q = block-is d q (i + size r) e A (omega arith) (read-raws d q gq (length (rawsBytes q)) (i + size r + 2) (i + size r + 2 + length (rawsBytes q)) (omega arith) refl (inner-here (i + size r) (rawsBytes q) A)) in
+          let R = block-is d q (i + size r) e A (omega arith) (read-raws d q gq (length (rawsBytes q)) (i + size r + 2) (i + size r + 2 + length (rawsBytes q)) (omega arith) refl (inner-here (i + size r) (rawsBytes q) A)) in
           let p : i + size r + 2 + length (rawsBytes q) ≡ i + length (rawBytes (loop b xs q)) = omega arith in (
             while i (byte s (i + 1)) (R .0),
             statement-is (readBlock s sd S (suc d)) i e r (fixed-row b r row xs o i (sized (rawsBytes q)) a) (omega arith) (fixed-ops b r row xs o i (sized (rawsBytes q)) a)
@@ -254,12 +250,12 @@ module _ (s : List ℕ) where
       read-raws : (d : ℕ) (rs : Raws) → Goods (stubbed S) d rs → (more i e : ℕ) → length (rawsBytes rs) ≤ more → e ≡ i + length (rawsBytes rs) → At s i (rawsBytes rs) → ReadMany d more i e rs
       read-raws d end g zero i e l q a = (done, refl, λ n. refl)
       read-raws d end g (suc more) i e l q a = (done, ap (λ (b : Bool). elim b as (λ x. Check (Statements sd)) [ false ↦ ok done | true ↦ statement s sd S (readBlock s sd S d) i e >>= λ t. statements s sd S (readBlock s sd S d) more (t .next) e >>= λ rest. ok (t .it ⨾ rest) ]) (ltb-no i e (omega arith)), λ n. refl)
-      read-raws d (r then rs) g zero i e l q a = let b : 1 ≤ length (rawBytes r) = some-bytes r in let c : length (rawBytes r ++ rawsBytes rs) ≡ length (rawBytes r) + length (rawsBytes rs) = length-append (rawBytes r) (rawsBytes rs) in absurd (omega arith)
+      read-raws d (r then rs) g zero i e l q a = let b = some-bytes r in let c = length-append (rawBytes r) (rawsBytes rs) in absurd (omega arith)
       read-raws d (r then rs) (good-then g gs) (suc more) i e l q a =
           let b : 1 ≤ length (rawBytes r) = some-bytes r in
           let c : length (rawBytes r ++ rawsBytes rs) ≡ length (rawBytes r) + length (rawsBytes rs) = length-append (rawBytes r) (rawsBytes rs) in
           let R : ReadOne d i e r = read-raw d r g i e (at-left s (rawBytes r) (rawsBytes rs) i a) (omega arith) in
-          let Q : ReadMany d more (i + length (rawBytes r)) e rs = read-raws d rs gs more (i + length (rawBytes r)) e (omega arith) (omega arith) (at-right s (rawBytes r) (rawsBytes rs) i a) in (
+          let Q = read-raws d rs gs more (i + length (rawBytes r)) e (omega arith) (omega arith) (at-right s (rawBytes r) (rawsBytes rs) i a) in (
             R .0 ⨾ Q .0,
             ap (λ (b : Bool). elim b as (λ x. Check (Statements sd)) [ false ↦ ok done | true ↦ statement s sd S (readBlock s sd S d) i e >>= λ t. statements s sd S (readBlock s sd S d) more (t .next) e >>= λ rest. ok (t .it ⨾ rest) ]) (ltb-yes i e (omega arith))
                 ∙ ap (λ (m : Check (Read (Statement sd))). m >>= λ t. statements s sd S (readBlock s sd S d) more (t .next) e >>= λ rest. ok (t .it ⨾ rest)) (R .1)
@@ -286,18 +282,17 @@ module _ (s : List ℕ) where
       let i₂ : suc (suc i) ≡ i + 2 = omega arith in
       let ek : byte s i ≡ f .k = a .0 in
       let em : byte s (i + 1) ≡ f .m = ap (byte s) i₁ ∙ a .2 .0 in
-      let ab : At s (i + 2) (sized (rawsBytes (f .body)) ++ functionsBytes gs) = moved (suc (suc i)) (i + 2) (sized (rawsBytes (f .body)) ++ functionsBytes gs) i₂ (a .2 .2) in
+      let ab = moved (suc (suc i)) (i + 2) (sized (rawsBytes (f .body)) ++ functionsBytes gs) i₂ (a .2 .2) in
       let asz : At s (i + 2) (sized (rawsBytes (f .body))) = at-left s (sized (rawsBytes (f .body))) (functionsBytes gs) (i + 2) ab in
-      let ar : At s (i + 2 + suc (suc (length (rawsBytes (f .body))))) (functionsBytes gs) = at-right s (sized (rawsBytes (f .body))) (functionsBytes gs) (i + 2) ab in
+      let ar = at-right s (sized (rawsBytes (f .body))) (functionsBytes gs) (i + 2) ab in
       let l₁ : i + 2 + suc (suc (length (rawsBytes (f .body)))) ≤ length s = at-end s (sized (rawsBytes (f .body))) (i + 2) asz in
-      let l₂ : length (sized (rawsBytes (f .body)) ++ functionsBytes gs) ≡ suc (suc (length (rawsBytes (f .body)))) + length (functionsBytes gs) = sized-length (rawsBytes (f .body)) (functionsBytes gs) in
-      let gb : Goods (stubbed (record { places = f .k; earlier = fs })) 7 (f .body) = subst (λ (z : List Function). Goods (record { places = f .k; earlier = z }) 7 (f .body)) (sym e) body in
-      let R : ReadBlock parameter (record { places = f .k; earlier = fs }) 7 (i + 2) (length s) (f .body) = read-block parameter (record { places = f .k; earlier = fs }) 7 (f .body) gb (i + 2) (length s) asz (omega arith) in
+      let l₂ = sized-length (rawsBytes (f .body)) (functionsBytes gs) in
+      let gb = subst (λ (z : List Function). Goods (record { places = f .k; earlier = z }) 7 (f .body)) (sym e) body in
+      let R = read-block parameter (record { places = f .k; earlier = fs }) 7 (f .body) gb (i + 2) (length s) asz (omega arith) in
       let g : Function = record { k = f .k; m = f .m; body = R .0 } in
       let p : ℕ = i + 2 + 2 + length (rawsBytes (f .body)) in
       let pe : i + 2 + suc (suc (length (rawsBytes (f .body)))) ≡ i + 2 + 2 + length (rawsBytes (f .body)) = omega arith in
-      let Q : ReadFunctions gs (fs ++ (record { k = f .k; m = f .m; body = R .0 } ∷ [])) (i + 2 + 2 + length (rawsBytes (f .body))) =
-      read-functions gs (hs ++ (headOf (f .k) (f .m) ∷ [])) rest (fs ++ (record { k = f .k; m = f .m; body = R .0 } ∷ [])) (map-snoc fs (record { k = f .k; m = f .m; body = R .0 }) ∙ ap (λ (z : List Function). z ++ (headOf (f .k) (f .m) ∷ [])) e)
+      let Q = read-functions gs (hs ++ (headOf (f .k) (f .m) ∷ [])) rest (fs ++ (record { k = f .k; m = f .m; body = R .0 } ∷ [])) (map-snoc fs (record { k = f .k; m = f .m; body = R .0 }) ∙ ap (λ (z : List Function). z ++ (headOf (f .k) (f .m) ∷ [])) e)
       (i + 2 + 2 + length (rawsBytes (f .body))) (moved (i + 2 + suc (suc (length (rawsBytes (f .body))))) (i + 2 + 2 + length (rawsBytes (f .body))) (functionsBytes gs) pe ar) in
       let n : ℕ = length gs in
       let body-read : ℕ → ℕ → Check (Read (List Function)) = λ k m. readBlock s parameter (record { places = k; earlier = fs }) 8 (i + 2) (length s) >>= λ b. functionsAt s (length gs) (b .next) (fs ++ (record { k = k; m = m; body = b .it } ∷ [])) in
@@ -380,8 +375,8 @@ module _ (S : Scope) (sm : Small S) where
           (bytes-append ls ms (ranged-bytes S sm 0 (replicate (getD xs 1 0) Location) ls hl) (ranged-bytes S sm 0 (replicate (getD xs 2 0) Slot) ms hm)),
     )
     raw-bytes (suc d) (fork b xs q t) (good-fork r row m o gq gt) l =
-        let lx : length (xs ++ (sized (rawsBytes q) ++ sized (rawsBytes t))) ≡ length xs + length (sized (rawsBytes q) ++ sized (rawsBytes t)) = length-append xs (sized (rawsBytes q) ++ sized (rawsBytes t)) in
-        let ly : length (sized (rawsBytes q) ++ sized (rawsBytes t)) ≡ suc (suc (length (rawsBytes q))) + suc (suc (length (rawsBytes t))) = length-sized (sized (rawsBytes q)) (rawsBytes t) in (
+        let lx = length-append xs (sized (rawsBytes q) ++ sized (rawsBytes t)) in
+        let ly = length-sized (sized (rawsBytes q)) (rawsBytes t) in (
           row-byte b r row,
           bytes-append xs (sized (rawsBytes q) ++ sized (rawsBytes t)) (operands-bytes S sm (r .operands) xs o)
               (bytes-append (sized (rawsBytes q)) (sized (rawsBytes t)) (bytes-sized (rawsBytes q) (omega arith) (raws-bytes d q gq (omega arith))) (bytes-sized (rawsBytes t) (omega arith) (raws-bytes d t gt (omega arith)))),
@@ -399,11 +394,11 @@ module _ (S : Scope) (sm : Small S) where
 functions-bytes : (gs : List RawFunction) (hs : List Function) → GoodFunctions hs gs → SmallHeads hs → length hs + length gs ≤ 256 → length (functionsBytes gs) < 65536 → Bytes (functionsBytes gs) × SmallHeads (hs ++ heads gs)
 functions-bytes [] hs g s n l = (tt, subst (λ (z : List Function). SmallHeads z) (sym (append-nil hs)) s)
 functions-bytes (f ∷ gs) hs (a-function hk hm hl body rest) s n l =
-    let lx : length (sized (rawsBytes (f .body)) ++ functionsBytes gs) ≡ suc (suc (length (rawsBytes (f .body)))) + length (functionsBytes gs) = sized-length (rawsBytes (f .body)) (functionsBytes gs) in
+    let lx = sized-length (rawsBytes (f .body)) (functionsBytes gs) in
     let lh : length (hs ++ (headOf (f .k) (f .m) ∷ [])) ≡ length hs + 1 = length-append hs (headOf (f .k) (f .m) ∷ []) in
     let k : f .k < 256 = omega arith in
     let m : f .m < 256 = omega arith in
-    let R : Bytes (functionsBytes gs) × SmallHeads ((hs ++ (headOf (f .k) (f .m) ∷ [])) ++ heads gs) = functions-bytes gs (hs ++ (headOf (f .k) (f .m) ∷ [])) rest (small-snoc hs (f .k) (f .m) s k m) (omega arith) (omega arith) in
+    let R = functions-bytes gs (hs ++ (headOf (f .k) (f .m) ∷ [])) rest (small-snoc hs (f .k) (f .m) s k m) (omega arith) (omega arith) in
     let b : Bytes (rawsBytes (f .body)) = raws-bytes (record { places = f .k; earlier = hs }) (omega arith, omega arith, s) 7 (f .body) body (omega arith) in (
       (k, (m, bytes-append (sized (rawsBytes (f .body))) (functionsBytes gs) (bytes-sized (rawsBytes (f .body)) (omega arith) b) (R .0))),
       subst (λ (z : List Function). SmallHeads z) (append-assoc hs (headOf (f .k) (f .m) ∷ []) (heads gs)) (R .1),
@@ -437,19 +432,18 @@ reads-back q g =
     let mb : List ℕ = rawsBytes (q .main) in
     let w : At (programBytes q) 0 (programBytes q) = at-whole (programBytes q) [] in
     let a : At (programBytes q) 6 (functionsBytes (q .functions) ++ sized (rawsBytes (q .main))) = w .2 .2 .2 .2 .2 .2 in
-    let lp : length (functionsBytes (q .functions) ++ sized (rawsBytes (q .main))) ≡ length (functionsBytes (q .functions)) + suc (suc (length (rawsBytes (q .main)))) = length-sized (functionsBytes (q .functions)) (rawsBytes (q .main)) in
+    let lp = length-sized (functionsBytes (q .functions)) (rawsBytes (q .main)) in
     let sh : length (programBytes q) ≤ 4096 = g .short in
     let few : length (q .functions) ≤ 15 = g .few in
-    let R : ReadFunctions (programBytes q) (q .functions) [] 6 = read-functions (programBytes q) (q .functions) [] (g .functions) [] refl 6 (at-left (programBytes q) (functionsBytes (q .functions)) (sized (rawsBytes (q .main))) 6 a) in
+    let R = read-functions (programBytes q) (q .functions) [] (g .functions) [] refl 6 (at-left (programBytes q) (functionsBytes (q .functions)) (sized (rawsBytes (q .main))) 6 a) in
     let M : Scope = record { places = 256; earlier = R .0 } in
-    let am : At (programBytes q) (6 + length (functionsBytes (q .functions))) (sized (rawsBytes (q .main))) = at-right (programBytes q) (functionsBytes (q .functions)) (sized (rawsBytes (q .main))) 6 a in
-    let gm : Goods (stubbed (record { places = 256; earlier = R .0 })) 7 (q .main) = subst (λ (z : List Function). Goods (record { places = 256; earlier = z }) 7 (q .main)) (sym (R .2)) (g .main) in
-    let Q : ReadBlock (programBytes q) device (record { places = 256; earlier = R .0 }) 7 (6 + length (functionsBytes (q .functions))) (length (programBytes q)) (q .main) =
-    read-block (programBytes q) device (record { places = 256; earlier = R .0 }) 7 (q .main) gm (6 + length (functionsBytes (q .functions))) (length (programBytes q)) am (omega arith) in
+    let am = at-right (programBytes q) (functionsBytes (q .functions)) (sized (rawsBytes (q .main))) 6 a in
+    let gm = subst (λ (z : List Function). Goods (record { places = 256; earlier = z }) 7 (q .main)) (sym (R .2)) (g .main) in
+    let Q = read-block (programBytes q) device (record { places = 256; earlier = R .0 }) 7 (q .main) gm (6 + length (functionsBytes (q .functions))) (length (programBytes q)) am (omega arith) in
     let ne : 6 + length (functionsBytes (q .functions)) + 2 + length (rawsBytes (q .main)) ≡ length (programBytes q) = omega arith in
-    let HB : Bytes (functionsBytes (q .functions)) × SmallHeads (heads (q .functions)) = functions-bytes (q .functions) [] (g .functions) small-none (omega arith) (omega arith) in
+    let HB = functions-bytes (q .functions) [] (g .functions) small-none (omega arith) (omega arith) in
     let lh : length (heads (q .functions)) ≡ length (q .functions) = length-heads (q .functions) in
-    let MB : Bytes (rawsBytes (q .main)) = raws-bytes (record { places = 256; earlier = heads (q .functions) }) (omega arith, omega arith, HB .1) 7 (q .main) (g .main) (omega arith) in (
+    let MB = raws-bytes (record { places = 256; earlier = heads (q .functions) }) (omega arith, omega arith, HB .1) 7 (q .main) (g .main) (omega arith) in (
       record { functions = R .0; main = Q .0 },
       program-is (programBytes q) (length (q .functions)) (record { it = R .0; next = 6 + length (functionsBytes (q .functions)) }) (record { it = Q .0; next = 6 + length (functionsBytes (q .functions)) + 2 + length (rawsBytes (q .main)) })
           (omega arith) sh refl refl refl few (R .1) (Q .1) ne,

@@ -99,7 +99,7 @@ pub written-front : (ls L : List Line) → CleanLines ls → CleanLines L → (t
 written-front [] L h k t e = (L, refl, e)
 written-front (l ∷ ls) [] h k t e = nil-not-mid (join space l) newline (written ls ++ t) (e ∙ append-assoc (join space l) (newline ∷ written ls) t)
 written-front (l ∷ ls) (a ∷ L) h k t e =
-    let r : (a ≡ l) × (written L ≡ written ls ++ t) = same-line a l L k (h .0) (h .1) (h .2) (h .3) (written ls ++ t) (e ∙ append-assoc (join space l) (newline ∷ written ls) t) in
+    let r = same-line a l L k (h .0) (h .1) (h .2) (h .3) (written ls ++ t) (e ∙ append-assoc (join space l) (newline ∷ written ls) t) in
     let q : (more : List Line) × (L ≡ ls ++ more) × (written more ≡ t) = written-front ls L (h .4) (k .4) t (r .1) in
     (q .0, ap (λ (b : Line). b ∷ L) (r .0) ∙ ap (λ (m : List Line). l ∷ m) (q .1), q .2)
 
@@ -183,7 +183,7 @@ one-begun (g ∷ gs) h us e = go (starts g us) refl e (λ k. one-begun gs (h .2)
 
     go : (b : Bool) → starts g us ≡ b → elim b [ true ↦ true | false ↦ startsOne gs us ] ≡ true → (startsOne gs us ≡ true → OneBegun gs us) → OneBegun (g ∷ gs) us
     go true f k rec =
-        let r : (w : Text) × (ws : List Text) × (a : Sofar) × (y : Text) × (takes g (w ∷ ws) ≡ some a) × (join space (w ∷ ws) ≡ join space us ++ y) = starts-begun g (h .0) us f in
+        let r = starts-begun g (h .0) us f in
         (r .0, r .1, r .2, r .3, ap (λ (o : Option Sofar). elim o [ none ↦ takesOne gs (r .0 ∷ r .1) | some a ↦ some a ]) (r .4), r .5)
     go false f k rec =
         let r : OneBegun gs us = rec k in
@@ -224,7 +224,7 @@ module _ (proper : ProperLines) (forth : Forth) (back : Back) where
       let sl : split space (join space l) ≡ l = ap (λ (k : Line). split space (join space k)) (h .2) ∙ split-line (h .0) (h .1) (h .3) ∙ sym (h .2) in
       let fl : Free newline (join space l) = subst (λ (k : Line). Free newline (join space k)) (sym (h .2)) (line-free (h .0 ∷ h .1) (h .3)) in
       let sh : (p : Text) × (ps : List Text) × (split newline (written ls) ≡ p ∷ ps) = split-shape newline (written ls) in
-      let i : (x : ℕ) × (follow (o + length (join space l) + 1) (sofar (r .0)) (split newline (written ls)) ≡ ending x τ []) = follow-written ls (sofar (r .0)) τ (h .4) (r .2) (o + length (join space l) + 1) in (
+      let i = follow-written ls (sofar (r .0)) τ (h .4) (r .2) (o + length (join space l) + 1) in (
         i .0,
         ap (follow o σ) (split-seam newline (join space l) fl (written ls))
             ∙ follow-next o σ (join space l) (split newline (written ls)) (sh .0) (sh .1) (sh .2) (r .0) (ap (takesOne (lines σ)) sl ∙ r .1) ∙ i .1,
@@ -234,7 +234,7 @@ module _ (proper : ProperLines) (forth : Forth) (back : Back) where
   round-trip s t y h =
       let l : (p : Program) × (readProgram s ≡ ok p) × (t ≡ written (programLines s p)) = listing-of s t h in
       let f : (σ : State) × (run fresh (programLines s (l .0)) ≡ some σ) × (file σ ≡ some s) = forth s (l .0) y (l .1) in
-      let r : (x : ℕ) × (follow 0 fresh (split newline (written (programLines s (l .0)))) ≡ ending x (f .0) []) = follow-written (programLines s (l .0)) fresh (f .0) (run-clean (programLines s (l .0)) fresh (f .0) (f .1)) (f .1) 0 in
+      let r = follow-written (programLines s (l .0)) fresh (f .0) (run-clean (programLines s (l .0)) fresh (f .0) (f .1)) (f .1) 0 in
       ap unlisted (l .2) ∙ r .1 ∙ ap (λ (o : Option (List ℕ)). elim o [ none ↦ refused (refusal 27 (r .0)) | some z ↦ ok z ]) (f .2)
 
   pub one-program : OneProgram
@@ -274,15 +274,15 @@ module _ (proper : ProperLines) (forth : Forth) (back : Back) where
   pub only-listings : OnlyListings
   only-listings t s h =
       let f : Followed fresh (join newline (split newline t)) s = followed (split newline t) 0 fresh s h in
-      let b : (s : List ℕ) × (p : Program) × (more : List Line) × (readProgram s ≡ ok p) × (programLines s p ≡ f .0 ++ more) × ((z : List ℕ) → file (f .1) ≡ some z → (z ≡ s) × (more ≡ [])) × Bytes s = back (f .0) (f .1) (f .2) in
+      let b = back (f .0) (f .1) (f .2) in
       let e : (s ≡ b .0) × (b .2 ≡ []) = b .5 s (f .3) in
-      let w : written (programLines (b .0) (b .1)) ≡ t = ap written (b .4 ∙ ap (λ (m : List Line). f .0 ++ m) (e .1) ∙ append-nil (f .0)) ∙ sym (f .4) ∙ join-split newline t in
+      let w = ap written (b .4 ∙ ap (λ (m : List Line). f .0 ++ m) (e .1) ∙ append-nil (f .0)) ∙ sym (f .4) ∙ join-split newline t in
       (subst (λ (x : List ℕ). Bytes x) (sym (e .0)) (b .6), ap listing (e .0) ∙ is-listing (b .0) (b .1) (b .3) ∙ ap ok w)
 
   -- Refusals.
   begins-run : (ls : List Line) (σ : State) → run fresh ls ≡ some σ → (t z : Text) → written ls ≡ t ++ z → Begins t
   begins-run ls σ h t z e =
-      let b : (s : List ℕ) × (p : Program) × (more : List Line) × (readProgram s ≡ ok p) × (programLines s p ≡ ls ++ more) × ((z : List ℕ) → file σ ≡ some z → (z ≡ s) × (more ≡ [])) × Bytes s = back ls σ h in (
+      let b = back ls σ h in (
         b .0,
         z ++ written (b .2),
         b .6,
@@ -296,15 +296,14 @@ module _ (proper : ProperLines) (forth : Forth) (back : Back) where
   goes-on ls σ h s t y k =
       let l : (p : Program) × (readProgram s ≡ ok p) × (written ls ++ t ≡ written (programLines s p)) = listing-of s (written ls ++ t) k in
       let f : (τ : State) × (run fresh (programLines s (l .0)) ≡ some τ) × (file τ ≡ some s) = forth s (l .0) y (l .1) in
-      let w : (more : List Line) × (programLines s (l .0) ≡ ls ++ more) × (written more ≡ t) = written-front ls (programLines s (l .0)) (run-clean ls fresh σ h) (run-clean (programLines s (l .0)) fresh (f .0) (f .1)) t (sym (l .2)) in
+      let w = written-front ls (programLines s (l .0)) (run-clean ls fresh σ h) (run-clean (programLines s (l .0)) fresh (f .0) (f .1)) t (sym (l .2)) in
       let r : run σ (w .0) ≡ some (f .0) = sym (run-on fresh σ ls (w .0) h) ∙ ap (run fresh) (sym (w .1)) ∙ f .1 in
       (w .0, f .0, r, f .2, w .2, run-clean (w .0) σ (f .0) r)
 
   -- no listing goes on with a line that may not follow, nor with an unfinished one that begins none
   no-line : (ls : List Line) (σ : State) → run fresh ls ≡ some σ → (l : Text) → Free newline l → takesOne (lines σ) (split space l) ≡ none → Begins (written ls ++ (l ++ (newline ∷ []))) → ⊥
   no-line ls σ h l free e b =
-      let g : (more : List Line) × (τ : State) × (run σ more ≡ some τ) × (file τ ≡ some (b .0)) × (written more ≡ l ++ (newline ∷ b .1)) × CleanLines more =
-      goes-on ls σ h (b .0) (l ++ (newline ∷ b .1)) (b .2) (b .3 ∙ ap ok (append-assoc (written ls) (l ++ (newline ∷ [])) (b .1) ∙ ap (λ (u : Text). written ls ++ u) (append-assoc l (newline ∷ []) (b .1)))) in
+      let g = goes-on ls σ h (b .0) (l ++ (newline ∷ b .1)) (b .2) (b .3 ∙ ap ok (append-assoc (written ls) (l ++ (newline ∷ [])) (b .1) ∙ ap (λ (u : Text). written ls ++ u) (append-assoc l (newline ∷ []) (b .1)))) in
       go (g .0) (g .1) (g .2) (g .4) (g .5)
     where
       go : (more : List Line) (τ : State) → run σ more ≡ some τ → written more ≡ l ++ (newline ∷ b .1) → CleanLines more → ⊥
@@ -313,7 +312,7 @@ module _ (proper : ProperLines) (forth : Forth) (back : Back) where
           let fa : Free newline (join space a) = subst (λ (k : Line). Free newline (join space k)) (sym (c .2)) (line-free (c .0 ∷ c .1) (c .3)) in
           let q : (join space a ≡ l) × (written more ≡ b .1) = peel newline (join space a) l fa free (written more) (b .1) w in
           let n : (p : Sofar) × (takesOne (lines σ) a ≡ some p) × (run (sofar p) more ≡ some τ) = ran σ τ a more r in
-          let sa : split space (join space a) ≡ a = ap (λ (k : Line). split space (join space k)) (c .2) ∙ split-line (c .0) (c .1) (c .3) ∙ sym (c .2) in
+          let sa = ap (λ (k : Line). split space (join space k)) (c .2) ∙ split-line (c .0) (c .1) (c .3) ∙ sym (c .2) in
           none-not-some (sym e ∙ ap (λ (t : Text). takesOne (lines σ) (split space t)) (sym (q .0)) ∙ ap (takesOne (lines σ)) sa ∙ n .1)
 
   mid-free : {X : Type 0} (p : Text) (z : Text) → Free newline (p ++ (newline ∷ z)) → X
@@ -322,8 +321,7 @@ module _ (proper : ProperLines) (forth : Forth) (back : Back) where
 
   no-start : (ls : List Line) (σ : State) → run fresh ls ≡ some σ → (x : ℕ) (u : Text) → Free newline (x ∷ u) → startsOne (lines σ) (split space (x ∷ u)) ≡ false → Begins (written ls ++ (x ∷ u)) → ⊥
   no-start ls σ h x u free e b =
-      let g : (more : List Line) × (τ : State) × (run σ more ≡ some τ) × (file τ ≡ some (b .0)) × (written more ≡ (x ∷ u) ++ b .1) × CleanLines more =
-      goes-on ls σ h (b .0) ((x ∷ u) ++ b .1) (b .2) (b .3 ∙ ap ok (append-assoc (written ls) (x ∷ u) (b .1))) in
+      let g = goes-on ls σ h (b .0) ((x ∷ u) ++ b .1) (b .2) (b .3 ∙ ap ok (append-assoc (written ls) (x ∷ u) (b .1))) in
       go (g .0) (g .1) (g .2) (g .4) (g .5)
     where
       here : (w : Text) (ws : List Text) → CleanLine (w ∷ ws) → (p : Sofar) → takesOne (lines σ) (w ∷ ws) ≡ some p → (more : List Line)
@@ -342,7 +340,7 @@ module _ (proper : ProperLines) (forth : Forth) (back : Back) where
 
   -- a listing ends in a newline
   no-last : (L : List Line) → CleanLines L → (ls : List Line) → CleanLines ls → (x : ℕ) (u : Text) → Free newline (x ∷ u) → written L ≡ written ls ++ (x ∷ u) → ⊥
-  no-last L cL ls cl x u free e = let w : (more : List Line) × (L ≡ ls ++ more) × (written more ≡ x ∷ u) = written-front ls L cl cL (x ∷ u) e in go (w .0) (w .2)
+  no-last L cL ls cl x u free e = let w = written-front ls L cl cL (x ∷ u) e in go (w .0) (w .2)
     where
       go : (more : List Line) → written more ≡ x ∷ u → ⊥
       go [] k = nil-not-mid [] x u k
@@ -370,14 +368,13 @@ module _ (proper : ProperLines) (forth : Forth) (back : Back) where
       let w : Line = g .0 ∷ g .1 in
       let rw₁ : run fresh (ls ++ (w ∷ [])) ≡ some (sofar (g .2)) = run-on fresh σ ls (w ∷ []) h ∙ run-next σ w [] (g .2) (g .4) in
       let j : join space w ≡ (x ∷ u) ++ g .3 = g .5 ∙ ap (λ (t : Text). t ++ g .3) (join-split space (x ∷ u)) in
-      let t : written (ls ++ (w ∷ [])) ≡ (written ls ++ ((x ∷ u) ++ [])) ++ (g .3 ++ (newline ∷ [])) =
-      written-append ls (w ∷ []) ∙ ap (λ (v : Text). written ls ++ (v ++ (newline ∷ []))) j ∙ ap (λ (v : Text). written ls ++ v) (append-assoc (x ∷ u) (g .3) (newline ∷ []))
+      let t = written-append ls (w ∷ []) ∙ ap (λ (v : Text). written ls ++ (v ++ (newline ∷ []))) j ∙ ap (λ (v : Text). written ls ++ v) (append-assoc (x ∷ u) (g .3) (newline ∷ []))
       ∙ sym (append-assoc (written ls) (x ∷ u) (g .3 ++ (newline ∷ []))) ∙ ap (λ (v : Text). (written ls ++ v) ++ (g .3 ++ (newline ∷ []))) (sym (append-nil (x ∷ u))) in
       let n : o + suc (length u) ≡ length (written ls ++ ((x ∷ u) ++ [])) = omega (arith, length-append (written ls) ((x ∷ u) ++ []), length-append u []) in (
         length (written ls ++ ((x ∷ u) ++ [])),
         refused-is (refusal 27 (o + suc (length u))) r k ∙ ap (refusal 27) n,
         at-end (begins-run (ls ++ (w ∷ [])) (sofar (g .2)) rw₁ (written ls ++ ((x ∷ u) ++ [])) (g .3 ++ (newline ∷ [])) t) λ s y q.
-            let li : (p : Program) × (readProgram s ≡ ok p) × (written ls ++ ((x ∷ u) ++ []) ≡ written (programLines s p)) = listing-of s (written ls ++ ((x ∷ u) ++ [])) q in
+            let li = listing-of s (written ls ++ ((x ∷ u) ++ [])) q in
             let f : (τ : State) × (run fresh (programLines s (li .0)) ≡ some τ) × (file τ ≡ some s) = forth s (li .0) y (li .1) in
             no-last (programLines s (li .0)) (run-clean (programLines s (li .0)) fresh (f .0) (f .1)) ls (run-clean ls fresh σ h) x u free (sym (li .2) ∙ ap (λ (v : Text). written ls ++ v) (append-nil (x ∷ u))),
       )
@@ -389,7 +386,7 @@ module _ (proper : ProperLines) (forth : Forth) (back : Back) where
     where
       none-lists : file σ ≡ none → (s : List ℕ) → Bytes s → listing s ≡ ok (written ls ++ []) → ⊥
       none-lists f s y k =
-          let g : (more : List Line) × (τ : State) × (run σ more ≡ some τ) × (file τ ≡ some s) × (written more ≡ []) × CleanLines more = goes-on ls σ h s [] y k in
+          let g = goes-on ls σ h s [] y k in
           end (g .0) (g .1) (g .2) (g .3) (g .4)
         where
           end : (more : List Line) (τ : State) → run σ more ≡ some τ → file τ ≡ some s → written more ≡ [] → ⊥
@@ -417,8 +414,8 @@ module _ (proper : ProperLines) (forth : Forth) (back : Back) where
             (inl (l, unbroken l (fr .0), refl)) (begins-run ls σ h (written ls) [] (sym (append-nil (written ls)))) (no-line ls σ h l (fr .0) f),
       )
       go (some p) f k rec =
-          let n : run fresh (ls ++ (split space l ∷ [])) ≡ some (sofar p) = run-on fresh σ ls (split space l ∷ []) h ∙ run-next σ (split space l) [] p f in
-          let w : written (ls ++ (split space l ∷ [])) ≡ written ls ++ (l ++ (newline ∷ [])) = sym (append-nil (written (ls ++ (split space l ∷ [])))) ∙ written-line ls l [] in
+          let n = run-on fresh σ ls (split space l ∷ []) h ∙ run-next σ (split space l) [] p f in
+          let w = sym (append-nil (written (ls ++ (split space l ∷ [])))) ∙ written-line ls l [] in
           let q : o + length l + 1 ≡ length (written (ls ++ (split space l ∷ []))) = omega (arith, ap length w, length-append (written ls) (l ++ (newline ∷ [])), length-append l (newline ∷ [])) in
           stopped-at (written ls ++ join newline (l ∷ (m ∷ ps))) (written (ls ++ (split space l ∷ [])) ++ join newline (m ∷ ps)) r (written-line ls l (join newline (m ∷ ps))) (rec p k n q)
 

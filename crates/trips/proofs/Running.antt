@@ -136,8 +136,7 @@ on-from : (S : Scope) (d : ℕ) (rs : Raws) → Goods S d rs → (q p : Sofar) �
 on-from S d end g q p c n h p′ e r = (q, refl, subst (λ (x : Sofar). Closes q x) (sym (e refl)) c)
 on-from S d (t then rs) (good-then g gs) q p c n h p′ e r =
     let s : (x : ℕ) × (w : Text) × (ws : List Text) × (ls : List Line) × (rawLines n t ≡ indented n ((x ∷ w) ∷ ws) ∷ ls) = starts-at n S d t g in
-    let z : run (sofar q) (rawLines n t ++ rawsLines n rs) ≡ run (sofar p) (rawLines n t ++ rawsLines n rs) =
-    ap (λ (l : List Line). run (sofar q) (l ++ rawsLines n rs)) (s .4) ∙ closes-run q p c n h (s .0) (s .1) (s .2) (s .3 ++ rawsLines n rs) ∙ ap (λ (l : List Line). run (sofar p) (l ++ rawsLines n rs)) (sym (s .4)) in
+    let z = ap (λ (l : List Line). run (sofar q) (l ++ rawsLines n rs)) (s .4) ∙ closes-run q p c n h (s .0) (s .1) (s .2) (s .3 ++ rawsLines n rs) ∙ ap (λ (l : List Line). run (sofar p) (l ++ rawsLines n rs)) (sym (s .4)) in
     (r .0, z ∙ r .1, r .2)
 
 pub size-xs : (S : Scope) (r : Row) (xs : List ℕ) → Operands S (r .operands) xs → size r ≡ suc (length xs)
@@ -152,8 +151,7 @@ mutual
   run-raw S a d (plain c xs) (good-plain r f row e h) b bs bytes n l =
       let p : Sofar = state S a (b ∷ bs) bytes in
       let z : size r ≡ suc (length xs) = size-xs S r xs h in
-      let t : takes (indent (suc (length bs)) (statementLine p)) (indented (suc (length bs)) (rawLine c xs)) ≡ some (added p (c ∷ xs)) =
-      ap (λ (w : Line). takes (indent (suc (length bs)) (statementLine p)) (indented (suc (length bs)) w)) (sym (append-nil (rawLine c xs)))
+      let t = ap (λ (w : Line). takes (indent (suc (length bs)) (statementLine p)) (indented (suc (length bs)) w)) (sym (append-nil (rawLine c xs)))
       ∙ line-taken p c r (simple f) row e (omega arith) (λ g. refl) xs h (suc (length bs)) [] in
       (added p (c ∷ xs), one-step p (added p (c ∷ xs)) (indented (suc (length bs)) (rawLine c xs)) (first-line S a b bs bytes (indented (suc (length bs)) (rawLine c xs)) (added p (c ∷ xs)) t), same)
   run-raw S a d (called c xs ls ms) (good-called r row e h i j) b bs bytes n l =
@@ -169,8 +167,7 @@ mutual
       let p′ : Sofar = state S a (b ∷ bs) (bytes ++ (c ∷ (xs ++ (ls ++ ms)))) in
       let g₂ : List ℕ → List ℕ → Grammar Sofar = λ ls ms. stop (some (added p ((c ∷ xs) ++ (ls ++ ms)))) in
       let g₁ : List ℕ → Grammar Sofar = λ ls. list S with Slot (getD xs 2 0) (g₂ ls) in
-      let t : takes (indent (suc (length bs)) (statementLine p)) (indented (suc (length bs)) (rawLine c xs ++ w)) ≡ some p′ =
-      line-taken p c r calls row e (omega arith) (λ g. refl) xs h (suc (length bs)) w
+      let t = line-taken p c r calls row e (omega arith) (λ g. refl) xs h (suc (length bs)) w
       ∙ ap (λ (g : Grammar Sofar). takes g w) (roomy p (suc (length xs) + getD xs 1 0 + getD xs 2 0) (list S at Location (getD xs 1 0) g₁) (omega arith))
       ∙ takes-list S at Location refl (λ x. refl) (getD xs 1 0) g₁ ls i (listed with ms)
       ∙ ap (takes (g₁ ls)) (sym (append-nil (listed with ms)))
@@ -187,20 +184,17 @@ mutual
       let p₁ : Sofar = state S a (B₁ ∷ (b ∷ bs)) [] in
       let p₂ : Sofar = state S a (B₂ ∷ (b ∷ bs)) [] in
       let lb : length (bytes ++ (c ∷ xs)) ≡ length bytes + suc (length xs) = length-append bytes (c ∷ xs) in
-      let lc : length ((bytes ++ (c ∷ xs)) ++ sized (rawsBytes q)) ≡ length (bytes ++ (c ∷ xs)) + suc (suc (length (rawsBytes q))) = length-sized (bytes ++ (c ∷ xs)) (rawsBytes q) in
-      let lx : length (xs ++ (sized (rawsBytes q) ++ sized (rawsBytes t))) ≡ length xs + length (sized (rawsBytes q) ++ sized (rawsBytes t)) = length-append xs (sized (rawsBytes q) ++ sized (rawsBytes t)) in
-      let ly : length (sized (rawsBytes q) ++ sized (rawsBytes t)) ≡ suc (suc (length (rawsBytes q))) + suc (suc (length (rawsBytes t))) = length-sized (sized (rawsBytes q)) (rawsBytes t) in
-      let line : takes (indent (suc (length bs)) (statementLine p)) (indented (suc (length bs)) (rawLine c xs)) ≡ some p₁ =
-      ap (λ (w : Line). takes (indent (suc (length bs)) (statementLine p)) (indented (suc (length bs)) w)) (sym (append-nil (rawLine c xs)))
+      let lc = length-sized (bytes ++ (c ∷ xs)) (rawsBytes q) in
+      let lx = length-append xs (sized (rawsBytes q) ++ sized (rawsBytes t)) in
+      let ly = length-sized (sized (rawsBytes q)) (rawsBytes t) in
+      let line = ap (λ (w : Line). takes (indent (suc (length bs)) (statementLine p)) (indented (suc (length bs)) w)) (sym (append-nil (rawLine c xs)))
       ∙ line-taken p c r branches row e (omega arith) (λ g. not-deepest p 4 g (omega arith)) xs h (suc (length bs)) [] in
-      let R : Ran p₁ (rawsLines (suc (suc (length bs))) q) (state S a (B₁ ∷ (b ∷ bs)) (rawsBytes q)) = run-raws S a d q i B₁ (b ∷ bs) [] (omega arith) (omega arith) in
-      let els : takesOne (lines (sofar (R .0))) (indented (suc (length bs)) (else ∷ [])) ≡ some p₂ =
-      closes-takes (R .0) (state S a (B₁ ∷ (b ∷ bs)) (rawsBytes q)) (R .2) (suc (length bs)) (omega arith) 0x65 (0x6C ∷ 0x73 ∷ 0x65 ∷ []) []
+      let R = run-raws S a d q i B₁ (b ∷ bs) [] (omega arith) (omega arith) in
+      let els = closes-takes (R .0) (state S a (B₁ ∷ (b ∷ bs)) (rawsBytes q)) (R .2) (suc (length bs)) (omega arith) 0x65 (0x6C ∷ 0x73 ∷ 0x65 ∷ []) []
       ∙ later-line S a B₁ (b ∷ bs) (rawsBytes q) (suc (length bs)) (omega arith) 0x65 (0x6C ∷ 0x73 ∷ 0x65 ∷ []) []
       ∙ ap (λ (o : Option Sofar). elim o [ none ↦ none | some x ↦ some x ]) (takes-indent (suc (length bs)) (elseLine S a B₁ (b ∷ bs) (rawsBytes q)) (else ∷ [])) in
-      let Q : Ran p₂ (rawsLines (suc (suc (length bs))) t) (state S a (B₂ ∷ (b ∷ bs)) (rawsBytes t)) = run-raws S a d t j B₂ (b ∷ bs) [] (omega arith) (omega arith) in
-      let s : run (sofar p) (indented (suc (length bs)) (rawLine c xs) ∷ (rawsLines (suc (suc (length bs))) q ++ (indented (suc (length bs)) (else ∷ []) ∷ rawsLines (suc (suc (length bs))) t))) ≡ some (sofar (Q .0)) =
-      run-next (sofar p) (indented (suc (length bs)) (rawLine c xs)) (rawsLines (suc (suc (length bs))) q ++ (indented (suc (length bs)) (else ∷ []) ∷ rawsLines (suc (suc (length bs))) t)) p₁ (first-line S a b bs bytes (indented (suc (length bs)) (rawLine c xs)) p₁ line)
+      let Q = run-raws S a d t j B₂ (b ∷ bs) [] (omega arith) (omega arith) in
+      let s = run-next (sofar p) (indented (suc (length bs)) (rawLine c xs)) (rawsLines (suc (suc (length bs))) q ++ (indented (suc (length bs)) (else ∷ []) ∷ rawsLines (suc (suc (length bs))) t)) p₁ (first-line S a b bs bytes (indented (suc (length bs)) (rawLine c xs)) p₁ line)
       ∙ run-on (sofar p₁) (sofar (R .0)) (rawsLines (suc (suc (length bs))) q) (indented (suc (length bs)) (else ∷ []) ∷ rawsLines (suc (suc (length bs))) t) (R .1)
       ∙ run-next (sofar (R .0)) (indented (suc (length bs)) (else ∷ [])) (rawsLines (suc (suc (length bs))) t) p₂ els ∙ Q .1 in (
         Q .0,
@@ -215,12 +209,10 @@ mutual
       let p₁ : Sofar = state S a (B ∷ (b ∷ bs)) [] in
       let lb : length (bytes ++ (c ∷ xs)) ≡ length bytes + suc (length xs) = length-append bytes (c ∷ xs) in
       let lx : length (xs ++ sized (rawsBytes q)) ≡ length xs + suc (suc (length (rawsBytes q))) = length-sized xs (rawsBytes q) in
-      let t : takes (indent (suc (length bs)) (statementLine p)) (indented (suc (length bs)) (rawLine c xs)) ≡ some p₁ =
-      ap (λ (w : Line). takes (indent (suc (length bs)) (statementLine p)) (indented (suc (length bs)) w)) (sym (append-nil (rawLine c xs)))
+      let t = ap (λ (w : Line). takes (indent (suc (length bs)) (statementLine p)) (indented (suc (length bs)) w)) (sym (append-nil (rawLine c xs)))
       ∙ line-taken p c r loops row e (omega arith) (λ g. not-deepest p 2 g (omega arith)) xs h (suc (length bs)) [] in
-      let R : Ran p₁ (rawsLines (suc (suc (length bs))) q) (state S a (B ∷ (b ∷ bs)) (rawsBytes q)) = run-raws S a d q i B (b ∷ bs) [] (omega arith) (omega arith) in
-      let s : run (sofar p) (indented (suc (length bs)) (rawLine c xs) ∷ rawsLines (suc (suc (length bs))) q) ≡ some (sofar (R .0)) =
-      run-next (sofar p) (indented (suc (length bs)) (rawLine c xs)) (rawsLines (suc (suc (length bs))) q) p₁ (first-line S a b bs bytes (indented (suc (length bs)) (rawLine c xs)) p₁ t) ∙ R .1 in
+      let R = run-raws S a d q i B (b ∷ bs) [] (omega arith) (omega arith) in
+      let s = run-next (sofar p) (indented (suc (length bs)) (rawLine c xs)) (rawsLines (suc (suc (length bs))) q) p₁ (first-line S a b bs bytes (indented (suc (length bs)) (rawLine c xs)) p₁ t) ∙ R .1 in
       (R .0, s, closed S a B (b ∷ bs) (rawsBytes q) (R .2) refl (ap (state S a (b ∷ bs)) (sym (append-assoc bytes (c ∷ xs) (sized (rawsBytes q))))))
 
   run-raws : (S : Scope) (a : Option (List Function)) (d : ℕ) (rs : Raws) → Goods S d rs → (b : Opened) (bs : List Opened) (bytes : List ℕ) → length bs + d ≡ 7
@@ -229,10 +221,9 @@ mutual
   run-raws S a d (r then rs) (good-then g gs) b bs bytes n l =
       let la : length (rawBytes r ++ rawsBytes rs) ≡ length (rawBytes r) + length (rawsBytes rs) = length-append (rawBytes r) (rawsBytes rs) in
       let lb : length (bytes ++ rawBytes r) ≡ length bytes + length (rawBytes r) = length-append bytes (rawBytes r) in
-      let R : Ran (state S a (b ∷ bs) bytes) (rawLines (suc (length bs)) r) (state S a (b ∷ bs) (bytes ++ rawBytes r)) = run-raw S a d r g b bs bytes n (omega arith) in
-      let Q : Ran (state S a (b ∷ bs) (bytes ++ rawBytes r)) (rawsLines (suc (length bs)) rs) (state S a (b ∷ bs) ((bytes ++ rawBytes r) ++ rawsBytes rs)) = run-raws S a d rs gs b bs (bytes ++ rawBytes r) n (omega arith) in
-      let P : Ran (R .0) (rawsLines (suc (length bs)) rs) (state S a (b ∷ bs) ((bytes ++ rawBytes r) ++ rawsBytes rs)) =
-      on-from S d rs gs (R .0) (state S a (b ∷ bs) (bytes ++ rawBytes r)) (R .2) (suc (length bs)) (omega arith) (state S a (b ∷ bs) ((bytes ++ rawBytes r) ++ rawsBytes rs))
+      let R = run-raw S a d r g b bs bytes n (omega arith) in
+      let Q = run-raws S a d rs gs b bs (bytes ++ rawBytes r) n (omega arith) in
+      let P = on-from S d rs gs (R .0) (state S a (b ∷ bs) (bytes ++ rawBytes r)) (R .2) (suc (length bs)) (omega arith) (state S a (b ∷ bs) ((bytes ++ rawBytes r) ++ rawsBytes rs))
       (λ e. ap (λ (z : Raws). state S a (b ∷ bs) ((bytes ++ rawBytes r) ++ rawsBytes z)) e ∙ ap (state S a (b ∷ bs)) (append-nil (bytes ++ rawBytes r))) Q in (
         P .0,
         run-on (sofar (state S a (b ∷ bs) bytes)) (sofar (R .0)) (rawLines (suc (length bs)) r) (rawsLines (suc (length bs)) rs) (R .1) ∙ P .1,
@@ -292,15 +283,14 @@ run-functions (f ∷ gs) fs (a-function hk hm hl body rest) S F p c n l =
     let T : Scope = record { places = f .k; earlier = fs } in
     let lf : length (fs ++ (headOf (f .k) (f .m) ∷ [])) ≡ length fs + 1 = length-append fs (headOf (f .k) (f .m) ∷ []) in
     let l₁ : length (F ++ (f .k ∷ f .m ∷ [])) ≡ length F + 2 = length-append F (f .k ∷ f .m ∷ []) in
-    let l₂ : length ((F ++ (f .k ∷ f .m ∷ [])) ++ sized (rawsBytes (f .body))) ≡ length (F ++ (f .k ∷ f .m ∷ [])) + suc (suc (length (rawsBytes (f .body)))) = length-sized (F ++ (f .k ∷ f .m ∷ [])) (rawsBytes (f .body)) in
-    let l₃ : length (sized (rawsBytes (f .body)) ++ functionsBytes gs) ≡ suc (suc (length (rawsBytes (f .body)))) + length (functionsBytes gs) = sized-length (rawsBytes (f .body)) (functionsBytes gs) in
+    let l₂ = length-sized (F ++ (f .k ∷ f .m ∷ [])) (rawsBytes (f .body)) in
+    let l₃ = sized-length (rawsBytes (f .body)) (functionsBytes gs) in
     let line : Line = headLine (length fs) (f .k) (f .m) in
-    let s₁ : takesOne (lines (sofar p)) line ≡ some (functionBegun fs F (f .k) (f .m)) =
-    closes-takes p (state S (some fs) [] F) c 0 (omega arith) 0x66 (0x75 ∷ 0x6E ∷ 0x63 ∷ 0x74 ∷ 0x69 ∷ 0x6F ∷ 0x6E ∷ []) (decimal (length fs) ∷ locations ∷ decimal (f .k) ∷ arguments ∷ decimal (f .m) ∷ [])
+    let s₁ = closes-takes p (state S (some fs) [] F) c 0 (omega arith) 0x66 (0x75 ∷ 0x6E ∷ 0x63 ∷ 0x74 ∷ 0x69 ∷ 0x6F ∷ 0x6E ∷ []) (decimal (length fs) ∷ locations ∷ decimal (f .k) ∷ arguments ∷ decimal (f .m) ∷ [])
     ∙ top-function S fs F line (functionBegun fs F (f .k) (f .m)) (omega arith) (omega arith) (function-taken fs F (f .k) (f .m) hk hm hl) in
-    let R : Ran (functionBegun fs F (f .k) (f .m)) (rawsLines 1 (f .body)) (state T (some fs′) (B ∷ []) (rawsBytes (f .body))) = run-raws T (some fs′) 7 (f .body) body B [] [] (omega arith) (omega arith) in
+    let R = run-raws T (some fs′) 7 (f .body) body B [] [] (omega arith) (omega arith) in
     let C : Closes (R .0) (state T (some fs′) [] F′) = closed T (some fs′) B [] (rawsBytes (f .body)) (R .2) refl refl in
-    let Q : RanFunctions (R .0) (rawFunctions (length fs′) gs) (fs′ ++ heads gs) (F′ ++ functionsBytes gs) = run-functions gs fs′ rest T F′ (R .0) C (omega arith) (omega arith) in
+    let Q = run-functions gs fs′ rest T F′ (R .0) C (omega arith) (omega arith) in
     let i : length fs′ ≡ suc (length fs) = omega (arith, lf) in (
       Q .0,
       Q .1,
@@ -321,17 +311,15 @@ runs q g =
     let gs : List RawFunction = q .functions in
     let mb : List ℕ = rawsBytes (q .main) in
     let F : List ℕ = functionsBytes (q .functions) in
-    let lp : length (functionsBytes (q .functions) ++ sized (rawsBytes (q .main))) ≡ length (functionsBytes (q .functions)) + suc (suc (length (rawsBytes (q .main)))) = length-sized (functionsBytes (q .functions)) (rawsBytes (q .main)) in
+    let lp = length-sized (functionsBytes (q .functions)) (rawsBytes (q .main)) in
     let sh : length (programBytes q) ≤ 4096 = g .short in
-    let R : RanFunctions programBegun (rawFunctions 0 (q .functions)) (heads (q .functions)) (functionsBytes (q .functions)) =
-    run-functions (q .functions) [] (g .functions) (record { places = 0; earlier = [] }) [] programBegun same (omega (arith, g .few)) (omega arith) in
+    let R = run-functions (q .functions) [] (g .functions) (record { places = 0; earlier = [] }) [] programBegun same (omega (arith, g .few)) (omega arith) in
     let M : Scope = record { places = 256; earlier = heads (q .functions) } in
     let B : Opened = record { before = functionsBytes (q .functions); due = false } in
-    let s₁ : takesOne (lines (sofar (R .1))) (main ∷ []) ≡ some (mainBegun (heads (q .functions)) (functionsBytes (q .functions))) =
-    closes-takes (R .1) (state (R .0) (some (heads (q .functions))) [] (functionsBytes (q .functions))) (R .3) 0 (omega arith) 0x6D (0x61 ∷ 0x69 ∷ 0x6E ∷ []) []
+    let s₁ = closes-takes (R .1) (state (R .0) (some (heads (q .functions))) [] (functionsBytes (q .functions))) (R .3) 0 (omega arith) 0x6D (0x61 ∷ 0x69 ∷ 0x6E ∷ []) []
     ∙ top-main (R .0) (heads (q .functions)) (functionsBytes (q .functions)) in
-    let Q : Ran (mainBegun (heads (q .functions)) (functionsBytes (q .functions))) (rawsLines 1 (q .main)) (state M none (B ∷ []) (rawsBytes (q .main))) = run-raws M none 7 (q .main) (g .main) B [] [] (omega arith) (omega arith) in
-    let C : Closes (Q .0) (state M none [] (functionsBytes (q .functions) ++ sized (rawsBytes (q .main)))) = closed M none B [] (rawsBytes (q .main)) (Q .2) refl refl in (
+    let Q = run-raws M none 7 (q .main) (g .main) B [] [] (omega arith) (omega arith) in
+    let C = closed M none B [] (rawsBytes (q .main)) (Q .2) refl refl in (
       sofar (Q .0),
       run-on (sofar programBegun) (sofar (R .1)) (rawFunctions 0 (q .functions)) ((main ∷ []) ∷ rawsLines 1 (q .main)) (R .2)
           ∙ run-next (sofar (R .1)) (main ∷ []) (rawsLines 1 (q .main)) (mainBegun (heads (q .functions)) (functionsBytes (q .functions))) s₁ ∙ Q .1,

@@ -91,7 +91,7 @@ under-deeper p (suc n) g ws a h = took-deeper p n g ws a h .1
 stated : (p : Sofar) (ws : List Text) (q : Sofar) → takes (statementLine p) ws ≡ some q → Stated p ws q
 stated p [] q h = none-not-some h
 stated p (w ∷ ws) q h =
-    let r : (i : ℕ) × (place w names ≡ some i) × (takes (rowLine p (suc i) (rowOf (suc i))) ws ≡ some q) = took none names (λ i. rowLine p (suc i) (rowOf (suc i))) w ws q h in
+    let r = took none names (λ i. rowLine p (suc i) (rowOf (suc i))) w ws q h in
     let f : (getD names (r .0) [] ≡ w) × (r .0 < length names) = place-found w names (r .0) (r .1) in
     go (r .0) (f .0) (rowOf (suc (r .0))) refl (r .2)
   where
@@ -99,9 +99,8 @@ stated p (w ∷ ws) q h =
     go i e none f k = took-dead ws q k
     go i e (some r) f k =
         let G : Grammar Sofar = operands (p .scope) (r .operands) λ xs. made p (r .meaning) (suc i ∷ xs) in
-        let R : (least p + (size r + blocksOf (r .meaning)) ≤ 4096) × (takes (deeper p (blocksOf (r .meaning)) (operands (p .scope) (r .operands) λ xs. made p (r .meaning) (suc i ∷ xs))) ws ≡ some q) =
-        took-room p (size r + blocksOf (r .meaning)) (deeper p (blocksOf (r .meaning)) G) ws q k in
-        let O : Said (p .scope) (r .operands) (λ xs. made p (r .meaning) (suc i ∷ xs)) ws q = took-operands (p .scope) (r .operands) (λ xs. made p (r .meaning) (suc i ∷ xs)) ws q (under-deeper p (blocksOf (r .meaning)) G ws q (R .1)) in (
+        let R = took-room p (size r + blocksOf (r .meaning)) (deeper p (blocksOf (r .meaning)) G) ws q k in
+        let O = took-operands (p .scope) (r .operands) (λ xs. made p (r .meaning) (suc i ∷ xs)) ws q (under-deeper p (blocksOf (r .meaning)) G ws q (R .1)) in (
           suc i,
           r,
           O .0,
@@ -231,7 +230,7 @@ statement-next : (c : Ctx) (d : ℕ) (rs : Raws) → GoodCtx d c → Goods (scop
 statement-next c d rs g gs l p′ h =
     let p : Sofar = stateOf c rs in
     let n : ℕ = depthOf c in
-    let I : (k : Line) × (l ≡ indented (depthOf c) k) × (takes (statementLine (stateOf c rs)) k ≡ some p′) = took-indent (depthOf c) (statementLine (stateOf c rs)) l p′ h in
+    let I = took-indent (depthOf c) (statementLine (stateOf c rs)) l p′ h in
     let s : Stated (stateOf c rs) (I .0) p′ = stated (stateOf c rs) (I .0) p′ (I .2) in
     subst (λ (z : Line). Next (linesOf c rs ++ (z ∷ [])) p′) (sym (I .1 ∙ ap (indented (depthOf c)) (s .5)))
     (go d g gs (s .0) (s .1) (s .2) (s .3) (s .4) (s .6) (s .1 .meaning) refl (s .7) (s .8) (s .9))
@@ -251,13 +250,11 @@ statement-next c d rs g gs l p′ h =
         let M : ℕ = getD xs 2 0 in
         let g₂ : List ℕ → List ℕ → Grammar Sofar = λ ls ms. stop (some (added (stateOf c rs) ((b ∷ xs) ++ (ls ++ ms)))) in
         let g₁ : List ℕ → Grammar Sofar = λ ls. list (scopeOf c) with Slot (getD xs 2 0) (g₂ ls) in
-        let R : (least (stateOf c rs) + (suc (length xs) + getD xs 1 0 + getD xs 2 0) ≤ 4096) × (takes (list (scopeOf c) at Location (getD xs 1 0) g₁) vs ≡ some p′) =
-        took-room (stateOf c rs) (suc (length xs) + getD xs 1 0 + getD xs 2 0) (list (scopeOf c) at Location (getD xs 1 0) g₁) vs p′ k in
-        let A : Listed (scopeOf c) at Location refl (λ x. refl) (getD xs 1 0) g₁ vs p′ = took-list (scopeOf c) at Location refl (λ x. refl) (getD xs 1 0) g₁ vs p′ (R .1) in
-        let W : Listed (scopeOf c) with Slot refl (λ x. refl) (getD xs 2 0) (g₂ (A .0)) (A .1) p′ = took-list (scopeOf c) with Slot refl (λ x. refl) (getD xs 2 0) (g₂ (A .0)) (A .1) p′ (A .4) in
-        let t : (W .1 ≡ []) × (added (stateOf c rs) ((b ∷ xs) ++ (A .0 ++ W .0)) ≡ p′) = took-stop (added (stateOf c rs) ((b ∷ xs) ++ (A .0 ++ W .0))) (W .1) p′ (W .4) in
-        let v : vs ≡ listed at (A .0) ++ listed with (W .0) =
-        A .2 ∙ ap (λ (u : List Text). listed at (A .0) ++ u) (W .2 ∙ ap (λ (u : List Text). listed with (W .0) ++ u) (t .0) ∙ append-nil (listed with (W .0))) in
+        let R = took-room (stateOf c rs) (suc (length xs) + getD xs 1 0 + getD xs 2 0) (list (scopeOf c) at Location (getD xs 1 0) g₁) vs p′ k in
+        let A = took-list (scopeOf c) at Location refl (λ x. refl) (getD xs 1 0) g₁ vs p′ (R .1) in
+        let W = took-list (scopeOf c) with Slot refl (λ x. refl) (getD xs 2 0) (g₂ (A .0)) (A .1) p′ (A .4) in
+        let t = took-stop (added (stateOf c rs) ((b ∷ xs) ++ (A .0 ++ W .0))) (W .1) p′ (W .4) in
+        let v = A .2 ∙ ap (λ (u : List Text). listed at (A .0) ++ u) (W .2 ∙ ap (λ (u : List Text). listed with (W .0) ++ u) (t .0) ∙ append-nil (listed with (W .0))) in
         let la : length (A .0) ≡ length (replicate (getD xs 1 0) Location) = ranged-length (scopeOf c) 0 (replicate (getD xs 1 0) Location) (A .0) (A .3) in
         let lw : length (W .0) ≡ length (replicate (getD xs 2 0) Slot) = ranged-length (scopeOf c) 0 (replicate (getD xs 2 0) Slot) (W .0) (W .3) in
         let la′ : length (replicate (getD xs 1 0) Location) ≡ getD xs 1 0 = length-replicate (getD xs 1 0) Location in
@@ -270,8 +267,7 @@ statement-next c d rs g gs l p′ h =
     go d g gs b r xs vs row o loops e fit dp k =
         let t : (vs ≡ []) × (opened (stateOf c rs) false (b ∷ xs) ≡ p′) = took-stop (opened (stateOf c rs) false (b ∷ xs)) vs p′ k in
         let z : size r ≡ suc (length xs) = size-xs (scopeOf c) r xs o in
-        let D : (length (topOf c ∷ outerOf c) < 8) × (takes (operands (scopeOf c) (r .operands) λ xs. made (stateOf c rs) loops (b ∷ xs)) (said (r .operands) xs ++ vs) ≡ some p′) =
-        took-deeper (stateOf c rs) 1 (operands (scopeOf c) (r .operands) λ xs. made (stateOf c rs) loops (b ∷ xs)) (said (r .operands) xs ++ vs) p′ dp in
+        let D = took-deeper (stateOf c rs) 1 (operands (scopeOf c) (r .operands) λ xs. made (stateOf c rs) loops (b ∷ xs)) (said (r .operands) xs ++ vs) p′ dp in
         let w : rawLine b xs ≡ rawLine b xs ++ vs = sym (append-nil (rawLine b xs)) ∙ ap (λ (u : List Text). rawLine b xs ++ u) (sym (t .0)) in
         let lb : length (rawsBytes rs ++ (b ∷ xs)) ≡ length (rawsBytes rs) + suc (length xs) = length-append (rawsBytes rs) (b ∷ xs) in
         subst (λ (q : Sofar). Next (linesOf c rs ++ (indented (depthOf c) (rawLine b xs ++ vs) ∷ [])) q) (t .1) (at-depth d g gs (D .0) (omega arith) w)
@@ -284,8 +280,7 @@ statement-next c d rs g gs l p′ h =
     go d g gs b r xs vs row o branches e fit dp k =
         let t : (vs ≡ []) × (opened (stateOf c rs) true (b ∷ xs) ≡ p′) = took-stop (opened (stateOf c rs) true (b ∷ xs)) vs p′ k in
         let z : size r ≡ suc (length xs) = size-xs (scopeOf c) r xs o in
-        let D : (length (topOf c ∷ outerOf c) < 8) × (takes (operands (scopeOf c) (r .operands) λ xs. made (stateOf c rs) branches (b ∷ xs)) (said (r .operands) xs ++ vs) ≡ some p′) =
-        took-deeper (stateOf c rs) 3 (operands (scopeOf c) (r .operands) λ xs. made (stateOf c rs) branches (b ∷ xs)) (said (r .operands) xs ++ vs) p′ dp in
+        let D = took-deeper (stateOf c rs) 3 (operands (scopeOf c) (r .operands) λ xs. made (stateOf c rs) branches (b ∷ xs)) (said (r .operands) xs ++ vs) p′ dp in
         let w : rawLine b xs ≡ rawLine b xs ++ vs = sym (append-nil (rawLine b xs)) ∙ ap (λ (u : List Text). rawLine b xs ++ u) (sym (t .0)) in
         let lb : length (rawsBytes rs ++ (b ∷ xs)) ≡ length (rawsBytes rs) + suc (length xs) = length-append (rawsBytes rs) (b ∷ xs) in
         subst (λ (q : Sofar). Next (linesOf c rs ++ (indented (depthOf c) (rawLine b xs ++ vs) ∷ [])) q) (t .1) (at-depth d g gs (D .0) (omega arith) w)
@@ -336,20 +331,18 @@ function-next fs g n f l p′ h =
     let M : ℕ → ℕ = λ k. suc (elim (leb k 8) [ true ↦ k | false ↦ 8 ]) in
     let g₃ : ℕ → Grammar Sofar = λ k. ask none (upTo 0 (M k) decimal) λ m. stop (some (functionBegun (heads fs) (functionsBytes fs) k m)) in
     let g₂ : Grammar Sofar = ask none (upTo 0 17 decimal) λ k. word arguments (g₃ k) in
-    let a : (vs : List Text) × (l ≡ function ∷ vs) × (takes (word (decimal (length (heads fs))) (word locations g₂)) vs ≡ some p′) = took-word function (word (decimal (length (heads fs))) (word locations g₂)) l p′ h in
-    let b : (vs : List Text) × (a .0 ≡ decimal (length (heads fs)) ∷ vs) × (takes (word locations g₂) vs ≡ some p′) = took-word (decimal (length (heads fs))) (word locations g₂) (a .0) p′ (a .2) in
+    let a = took-word function (word (decimal (length (heads fs))) (word locations g₂)) l p′ h in
+    let b = took-word (decimal (length (heads fs))) (word locations g₂) (a .0) p′ (a .2) in
     let c : (vs : List Text) × (b .0 ≡ locations ∷ vs) × (takes g₂ vs ≡ some p′) = took-word locations g₂ (b .0) p′ (b .2) in
-    let d : (k : ℕ) × (vs : List Text) × (c .0 ≡ decimal k ∷ vs) × (k < 17) × (takes (word arguments (g₃ k)) vs ≡ some p′) = took-number 17 (λ k. word arguments (g₃ k)) (c .0) p′ (c .2) in
+    let d = took-number 17 (λ k. word arguments (g₃ k)) (c .0) p′ (c .2) in
     let e : (vs : List Text) × (d .1 ≡ arguments ∷ vs) × (takes (g₃ (d .0)) vs ≡ some p′) = took-word arguments (g₃ (d .0)) (d .1) p′ (d .4) in
-    let i : (m : ℕ) × (vs : List Text) × (e .0 ≡ decimal m ∷ vs) × (m < M (d .0)) × (takes (stop (some (functionBegun (heads fs) (functionsBytes fs) (d .0) m))) vs ≡ some p′) =
-    took-number (M (d .0)) (λ m. stop (some (functionBegun (heads fs) (functionsBytes fs) (d .0) m))) (e .0) p′ (e .2) in
-    let j : (i .1 ≡ []) × (functionBegun (heads fs) (functionsBytes fs) (d .0) (i .0) ≡ p′) = took-stop (functionBegun (heads fs) (functionsBytes fs) (d .0) (i .0)) (i .1) p′ (i .4) in
+    let i = took-number (M (d .0)) (λ m. stop (some (functionBegun (heads fs) (functionsBytes fs) (d .0) m))) (e .0) p′ (e .2) in
+    let j = took-stop (functionBegun (heads fs) (functionsBytes fs) (d .0) (i .0)) (i .1) p′ (i .4) in
     let m8 : (i .0 ≤ 8) × (i .0 ≤ d .0) = at-most-8 (d .0) (i .0) (i .3) in
     let k16 : d .0 ≤ 16 = omega (arith, d .3) in
-    let line : l ≡ headLine (length fs) (d .0) (i .0) =
-    a .1 ∙ ap (λ (z : List Text). function ∷ z) (b .1 ∙ ap (λ (z : ℕ). decimal z ∷ b .0) (length-heads fs)
+    let line = a .1 ∙ ap (λ (z : List Text). function ∷ z) (b .1 ∙ ap (λ (z : ℕ). decimal z ∷ b .0) (length-heads fs)
     ∙ ap (λ (z : List Text). decimal (length fs) ∷ z) (c .1 ∙ ap (λ (z : List Text). locations ∷ z) (d .2 ∙ ap (λ (z : List Text). decimal (d .0) ∷ z) (e .1 ∙ ap (λ (z : List Text). arguments ∷ z) (i .2 ∙ ap (λ (z : List Text). decimal (i .0) ∷ z) (j .0)))))) in
-    let lf : length (functionsBytes fs ++ (d .0 ∷ i .0 ∷ [])) ≡ length (functionsBytes fs) + 2 = length-append (functionsBytes fs) (d .0 ∷ i .0 ∷ []) in
+    let lf = length-append (functionsBytes fs) (d .0 ∷ i .0 ∷ []) in
     let fit : least (functionBegun (heads fs) (functionsBytes fs) (d .0) (i .0)) ≤ 4096 = omega arith in (
       in-function fs (d .0) (i .0),
       7,
@@ -364,7 +357,7 @@ function-next fs g n f l p′ h =
 main-next : (fs : List RawFunction) → GoodFunctions [] fs → length fs ≤ 15 → 8 + length (functionsBytes fs) ≤ 4096 → (l : Line) (p′ : Sofar)
     → takes (mainLine (heads fs) (functionsBytes fs)) l ≡ some p′ → Next (firstLines fs ++ (l ∷ [])) p′
 main-next fs g n f l p′ h =
-    let a : (vs : List Text) × (l ≡ main ∷ vs) × (takes (stop (some (mainBegun (heads fs) (functionsBytes fs)))) vs ≡ some p′) = took-word main (stop (some (mainBegun (heads fs) (functionsBytes fs)))) l p′ h in
+    let a = took-word main (stop (some (mainBegun (heads fs) (functionsBytes fs)))) l p′ h in
     let j : (a .0 ≡ []) × (mainBegun (heads fs) (functionsBytes fs) ≡ p′) = took-stop (mainBegun (heads fs) (functionsBytes fs)) (a .0) p′ (a .2) in
     let line : l ≡ main ∷ [] = a .1 ∙ ap (λ (z : List Text). main ∷ z) (j .0) in
     let fit : least (mainBegun (heads fs) (functionsBytes fs)) ≤ 4096 = omega arith in
@@ -390,7 +383,7 @@ top-next fs g n f l p′ h = go (leb (12 + length (functionsBytes fs)) 4096) ref
         → Next (firstLines fs ++ (l ∷ [])) p′
     go true a true b k =
         let u : length (heads fs) < 15 = ltb→lt (length (heads fs)) 15 (eq→T (ltb (length (heads fs)) 15) b) in
-        let v : 12 + length (functionsBytes fs) ≤ 4096 = leb→le (12 + length (functionsBytes fs)) 4096 (eq→T (leb (12 + length (functionsBytes fs)) 4096) a) in
+        let v = leb→le (12 + length (functionsBytes fs)) 4096 (eq→T (leb (12 + length (functionsBytes fs)) 4096) a) in
         either (omega (arith, length-heads fs)) v (took-one (functionLine (heads fs) (functionsBytes fs)) (mainLine (heads fs) (functionsBytes fs) ∷ []) l p′ k)
     go true a false b k = mains k
     go false a b e k = mains k
@@ -446,9 +439,9 @@ any-next (in-function fs k m) d rs (good-function g n i j h) gs f l p′ t = go 
         → Next (linesOf (in-function fs k m) rs ++ (l ∷ [])) p′
     go (inl u) = statement-next (in-function fs k m) 7 rs (good-function g n i j h) gs l p′ u
     go (inr u) =
-        let lb : length ((functionsBytes fs ++ (k ∷ m ∷ [])) ++ sized (rawsBytes rs)) ≡ length (functionsBytes fs ++ (k ∷ m ∷ [])) + suc (suc (length (rawsBytes rs))) = length-sized (functionsBytes fs ++ (k ∷ m ∷ [])) (rawsBytes rs) in
+        let lb = length-sized (functionsBytes fs ++ (k ∷ m ∷ [])) (rawsBytes rs) in
         let lw : length (withBody fs k m rs) ≡ length fs + 1 = length-append fs (record { k = k; m = m; body = rs } ∷ []) in
-        let lf : length (functionsBytes (withBody fs k m rs)) ≡ length ((functionsBytes fs ++ (k ∷ m ∷ [])) ++ sized (rawsBytes rs)) = ap length (sym (body-bytes fs k m rs)) in
+        let lf = ap length (sym (body-bytes fs k m rs)) in
         subst (λ (z : List Line). Next (z ++ (l ∷ [])) p′) (body-lines fs k m rs)
         (top-next (withBody fs k m rs) (functions-good-snoc [] fs (record { k = k; m = m; body = rs }) g i j h gs) (omega arith) (omega arith) l p′
         (ap (λ (z : List ℕ). takesOne (topLines (some (heads (withBody fs k m rs))) z) l) (sym (body-bytes fs k m rs))
@@ -467,8 +460,8 @@ any-next (in-loop c qs b xs) d rs (good-in-loop g hs r row e o) gs f l p′ t =
         → Next (linesOf (in-loop c qs b xs) rs ++ (l ∷ [])) p′
     go (inl u) rec = statement-next (in-loop c qs b xs) d rs (good-in-loop g hs r row e o) gs l p′ u
     go (inr u) rec =
-        let lb : length ((rawsBytes qs ++ (b ∷ xs)) ++ sized (rawsBytes rs)) ≡ length (rawsBytes qs ++ (b ∷ xs)) + suc (suc (length (rawsBytes rs))) = length-sized (rawsBytes qs ++ (b ∷ xs)) (rawsBytes rs) in
-        let lf : length ((rawsBytes qs ++ (b ∷ xs)) ++ sized (rawsBytes rs)) ≡ length (rawsBytes (snoc qs (loop b xs rs))) = ap length (loop-bytes qs b xs rs) in
+        let lb = length-sized (rawsBytes qs ++ (b ∷ xs)) (rawsBytes rs) in
+        let lf = ap length (loop-bytes qs b xs rs) in
         subst (λ (z : List Line). Next (z ++ (l ∷ [])) p′) (loop-lines c qs b xs rs)
         (rec (omega arith) (ap (λ (z : List ℕ). takesOne (linesAfter (scopeOf c) (afterOf c) (topOf c ∷ outerOf c) z) l) (sym (loop-bytes qs b xs rs)) ∙ u))
 any-next (in-first c qs b xs) d rs (good-in-first g hs r row e o) gs f l p′ t =
@@ -477,12 +470,11 @@ any-next (in-first c qs b xs) d rs (good-in-first g hs r row e o) gs f l p′ t 
     elses : takes (indent (depthOf c) (elseLine (scopeOf c) (afterOf c) (topOf (in-first c qs b xs)) (topOf c ∷ outerOf c) (rawsBytes rs))) l ≡ some p′ → Next (linesOf (in-first c qs b xs) rs ++ (l ∷ [])) p′
     elses u =
         let q : Sofar = stateOf (in-second c qs b xs rs) end in
-        let a : (k : Line) × (l ≡ indented (depthOf c) k) × (takes (elseLine (scopeOf c) (afterOf c) (topOf (in-first c qs b xs)) (topOf c ∷ outerOf c) (rawsBytes rs)) k ≡ some p′) =
-        took-indent (depthOf c) (elseLine (scopeOf c) (afterOf c) (topOf (in-first c qs b xs)) (topOf c ∷ outerOf c) (rawsBytes rs)) l p′ u in
-        let w : (vs : List Text) × (a .0 ≡ else ∷ vs) × (takes (stop (some (stateOf (in-second c qs b xs rs) end))) vs ≡ some p′) = took-word else (stop (some (stateOf (in-second c qs b xs rs) end))) (a .0) p′ (a .2) in
+        let a = took-indent (depthOf c) (elseLine (scopeOf c) (afterOf c) (topOf (in-first c qs b xs)) (topOf c ∷ outerOf c) (rawsBytes rs)) l p′ u in
+        let w = took-word else (stop (some (stateOf (in-second c qs b xs rs) end))) (a .0) p′ (a .2) in
         let j : (w .0 ≡ []) × (stateOf (in-second c qs b xs rs) end ≡ p′) = took-stop (stateOf (in-second c qs b xs rs) end) (w .0) p′ (w .2) in
         let line : l ≡ indented (depthOf c) (else ∷ []) = a .1 ∙ ap (indented (depthOf c)) (w .1 ∙ ap (λ (z : List Text). else ∷ z) (j .0)) in
-        let lb : length ((rawsBytes qs ++ (b ∷ xs)) ++ sized (rawsBytes rs)) ≡ length (rawsBytes qs ++ (b ∷ xs)) + suc (suc (length (rawsBytes rs))) = length-sized (rawsBytes qs ++ (b ∷ xs)) (rawsBytes rs) in
+        let lb = length-sized (rawsBytes qs ++ (b ∷ xs)) (rawsBytes rs) in
         let fit : least (stateOf (in-second c qs b xs rs) end) ≤ 4096 = omega arith in
         (in-second c qs b xs rs, d, end, good-in-second g hs r row e o gs, good-end, sym (j .1), first-lines c qs b xs rs ∙ ap (λ (z : Line). linesOf (in-first c qs b xs) rs ++ (z ∷ [])) (sym line), subst (λ (q : Sofar). least q ≤ 4096) (j .1) fit)
 
@@ -504,8 +496,8 @@ any-next (in-second c qs b xs q) d rs (good-in-second g hs r row e o gq) gs f l 
         → Next (linesOf (in-second c qs b xs q) rs ++ (l ∷ [])) p′
     go (inl u) rec = statement-next (in-second c qs b xs q) d rs (good-in-second g hs r row e o gq) gs l p′ u
     go (inr u) rec =
-        let lb : length (((rawsBytes qs ++ (b ∷ xs)) ++ sized (rawsBytes q)) ++ sized (rawsBytes rs)) ≡ length ((rawsBytes qs ++ (b ∷ xs)) ++ sized (rawsBytes q)) + suc (suc (length (rawsBytes rs))) = length-sized ((rawsBytes qs ++ (b ∷ xs)) ++ sized (rawsBytes q)) (rawsBytes rs) in
-        let lf : length (((rawsBytes qs ++ (b ∷ xs)) ++ sized (rawsBytes q)) ++ sized (rawsBytes rs)) ≡ length (rawsBytes (snoc qs (fork b xs q rs))) = ap length (fork-bytes qs b xs q rs) in
+        let lb = length-sized ((rawsBytes qs ++ (b ∷ xs)) ++ sized (rawsBytes q)) (rawsBytes rs) in
+        let lf = ap length (fork-bytes qs b xs q rs) in
         subst (λ (z : List Line). Next (z ++ (l ∷ [])) p′) (fork-lines c qs b xs q rs)
         (rec (omega arith) (ap (λ (z : List ℕ). takesOne (linesAfter (scopeOf c) (afterOf c) (topOf c ∷ outerOf c) z) l) (sym (fork-bytes qs b xs q rs)) ∙ u))
 
@@ -515,8 +507,8 @@ all-next : (ls : List Line) (c : Ctx) (d : ℕ) (rs : Raws) → GoodCtx d c → 
 all-next [] c d rs g gs p e f σ h = (p, (let z : some (sofar p) ≡ some σ = h in cc), (c, d, rs, g, gs, e, sym (append-nil (linesOf c rs)), f))
 all-next (l ∷ ls) c d rs g gs p e f σ h =
     let r : (q : Sofar) × (takesOne (lines (sofar p)) l ≡ some q) × (run (sofar q) ls ≡ some σ) = ran (sofar p) σ l ls h in
-    let n : Next (linesOf c rs ++ (l ∷ [])) (r .0) = any-next c d rs g gs (subst (λ (q : Sofar). least q ≤ 4096) e f) l (r .0) (ap (λ (q : Sofar). takesOne (lines (sofar q)) l) (sym e) ∙ r .1) in
-    let t : (q : Sofar) × (σ ≡ sofar q) × Next (linesOf (n .0) (n .2) ++ ls) q = all-next ls (n .0) (n .1) (n .2) (n .3) (n .4) (r .0) (n .5) (n .7) σ (r .2) in
+    let n = any-next c d rs g gs (subst (λ (q : Sofar). least q ≤ 4096) e f) l (r .0) (ap (λ (q : Sofar). takesOne (lines (sofar q)) l) (sym e) ∙ r .1) in
+    let t = all-next ls (n .0) (n .1) (n .2) (n .3) (n .4) (r .0) (n .5) (n .7) σ (r .2) in
     (t .0, t .1, subst (λ (z : List Line). Next z (t .0)) (ap (λ (z : List Line). z ++ ls) (n .6) ∙ append-assoc (linesOf c rs) (l ∷ []) ls) (t .2))
 
 -- Completing: due elses with nothing behind them, and main.
@@ -526,9 +518,9 @@ Completed p L = (q : RawProgram) × (more : List Line) × GoodProgram q × (rawP
 complete : (c : Ctx) (d : ℕ) (rs : Raws) → GoodCtx d c → Goods (scopeOf c) d rs → least (stateOf c rs) ≤ 4096 → Completed (stateOf c rs) (linesOf c rs)
 complete (in-function fs k m) d rs (good-function g n i j h) gs f =
     let q : RawProgram = record { functions = withBody fs k m rs; main = end } in
-    let lb : length ((functionsBytes fs ++ (k ∷ m ∷ [])) ++ sized (rawsBytes rs)) ≡ length (functionsBytes fs ++ (k ∷ m ∷ [])) + suc (suc (length (rawsBytes rs))) = length-sized (functionsBytes fs ++ (k ∷ m ∷ [])) (rawsBytes rs) in
-    let lf : length (functionsBytes (withBody fs k m rs)) ≡ length ((functionsBytes fs ++ (k ∷ m ∷ [])) ++ sized (rawsBytes rs)) = ap length (sym (body-bytes fs k m rs)) in
-    let lp : length (functionsBytes (withBody fs k m rs) ++ sized []) ≡ length (functionsBytes (withBody fs k m rs)) + 2 = length-sized (functionsBytes (withBody fs k m rs)) [] in
+    let lb = length-sized (functionsBytes fs ++ (k ∷ m ∷ [])) (rawsBytes rs) in
+    let lf = ap length (sym (body-bytes fs k m rs)) in
+    let lp = length-sized (functionsBytes (withBody fs k m rs)) [] in
     let lw : length (withBody fs k m rs) ≡ length fs + 1 = length-append fs (record { k = k; m = m; body = rs } ∷ []) in (
       q,
       (main ∷ []) ∷ [],
@@ -538,7 +530,7 @@ complete (in-function fs k m) d rs (good-function g n i j h) gs f =
     )
 complete (in-main fs) d rs (good-main g n) gs f =
     let q : RawProgram = record { functions = fs; main = rs } in
-    let lp : length (functionsBytes fs ++ sized (rawsBytes rs)) ≡ length (functionsBytes fs) + suc (suc (length (rawsBytes rs))) = length-sized (functionsBytes fs) (rawsBytes rs) in
+    let lp = length-sized (functionsBytes fs) (rawsBytes rs) in
     let Z : ℕ → List ℕ = λ n. header n ++ (functionsBytes fs ++ sized (rawsBytes rs)) in (
       q,
       [],
@@ -547,18 +539,17 @@ complete (in-main fs) d rs (good-main g n) gs f =
       λ z e. (sym (let u : some (Z (length (heads fs))) ≡ some z = e in let v : Z (length (heads fs)) ≡ z = cc in v) ∙ ap Z (length-heads fs), refl),
     )
 complete (in-loop c qs b xs) d rs (good-in-loop g hs r row e o) gs f =
-    let lb : length ((rawsBytes qs ++ (b ∷ xs)) ++ sized (rawsBytes rs)) ≡ length (rawsBytes qs ++ (b ∷ xs)) + suc (suc (length (rawsBytes rs))) = length-sized (rawsBytes qs ++ (b ∷ xs)) (rawsBytes rs) in
-    let lf : length ((rawsBytes qs ++ (b ∷ xs)) ++ sized (rawsBytes rs)) ≡ length (rawsBytes (snoc qs (loop b xs rs))) = ap length (loop-bytes qs b xs rs) in
-    let R : Completed (stateOf c (snoc qs (loop b xs rs))) (linesOf c (snoc qs (loop b xs rs))) = complete c (suc d) (snoc qs (loop b xs rs)) g (snoc-good (scopeOf c) (suc d) qs (loop b xs rs) hs (good-loop r row e o gs)) (omega arith) in
-    let F : file (sofar (stateOf (in-loop c qs b xs) rs)) ≡ file (sofar (stateOf c (snoc qs (loop b xs rs)))) =
-    closes-file (stateOf (in-loop c qs b xs) rs) (stateOf c (snoc qs (loop b xs rs)))
+    let lb = length-sized (rawsBytes qs ++ (b ∷ xs)) (rawsBytes rs) in
+    let lf = ap length (loop-bytes qs b xs rs) in
+    let R = complete c (suc d) (snoc qs (loop b xs rs)) g (snoc-good (scopeOf c) (suc d) qs (loop b xs rs) hs (good-loop r row e o gs)) (omega arith) in
+    let F = closes-file (stateOf (in-loop c qs b xs) rs) (stateOf c (snoc qs (loop b xs rs)))
     (closed (scopeOf c) (afterOf c) (topOf (in-loop c qs b xs)) (topOf c ∷ outerOf c) (rawsBytes rs) same refl (ap (state (scopeOf c) (afterOf c) (topOf c ∷ outerOf c)) (sym (loop-bytes qs b xs rs)))) in
     (R .0, R .1, R .2, R .3 ∙ ap (λ (z : List Line). z ++ R .1) (loop-lines c qs b xs rs), λ z u. R .4 z (sym F ∙ u))
 complete (in-first c qs b xs) d rs (good-in-first g hs r row e o) gs f =
-    let lb : length (((rawsBytes qs ++ (b ∷ xs)) ++ sized (rawsBytes rs)) ++ sized []) ≡ length ((rawsBytes qs ++ (b ∷ xs)) ++ sized (rawsBytes rs)) + 2 = length-sized ((rawsBytes qs ++ (b ∷ xs)) ++ sized (rawsBytes rs)) [] in
-    let lc : length ((rawsBytes qs ++ (b ∷ xs)) ++ sized (rawsBytes rs)) ≡ length (rawsBytes qs ++ (b ∷ xs)) + suc (suc (length (rawsBytes rs))) = length-sized (rawsBytes qs ++ (b ∷ xs)) (rawsBytes rs) in
-    let lf : length (((rawsBytes qs ++ (b ∷ xs)) ++ sized (rawsBytes rs)) ++ sized []) ≡ length (rawsBytes (snoc qs (fork b xs rs end))) = ap length (fork-bytes qs b xs rs end) in
-    let R : Completed (stateOf c (snoc qs (fork b xs rs end))) (linesOf c (snoc qs (fork b xs rs end))) = complete c (suc d) (snoc qs (fork b xs rs end)) g (snoc-good (scopeOf c) (suc d) qs (fork b xs rs end) hs (good-fork r row e o gs good-end)) (omega arith) in
+    let lb = length-sized ((rawsBytes qs ++ (b ∷ xs)) ++ sized (rawsBytes rs)) [] in
+    let lc = length-sized (rawsBytes qs ++ (b ∷ xs)) (rawsBytes rs) in
+    let lf = ap length (fork-bytes qs b xs rs end) in
+    let R = complete c (suc d) (snoc qs (fork b xs rs end)) g (snoc-good (scopeOf c) (suc d) qs (fork b xs rs end) hs (good-fork r row e o gs good-end)) (omega arith) in
     let m : Line = indented (depthOf c) (else ∷ []) in (
       R .0,
       indented (depthOf c) (else ∷ []) ∷ R .1,
@@ -571,11 +562,10 @@ complete (in-first c qs b xs) d rs (good-in-first g hs r row e o) gs f =
     no-file none z u = none-not-some u
     no-file (some fs) z u = none-not-some u
 complete (in-second c qs b xs q) d rs (good-in-second g hs r row e o gq) gs f =
-    let lb : length (((rawsBytes qs ++ (b ∷ xs)) ++ sized (rawsBytes q)) ++ sized (rawsBytes rs)) ≡ length ((rawsBytes qs ++ (b ∷ xs)) ++ sized (rawsBytes q)) + suc (suc (length (rawsBytes rs))) = length-sized ((rawsBytes qs ++ (b ∷ xs)) ++ sized (rawsBytes q)) (rawsBytes rs) in
-    let lf : length (((rawsBytes qs ++ (b ∷ xs)) ++ sized (rawsBytes q)) ++ sized (rawsBytes rs)) ≡ length (rawsBytes (snoc qs (fork b xs q rs))) = ap length (fork-bytes qs b xs q rs) in
-    let R : Completed (stateOf c (snoc qs (fork b xs q rs))) (linesOf c (snoc qs (fork b xs q rs))) = complete c (suc d) (snoc qs (fork b xs q rs)) g (snoc-good (scopeOf c) (suc d) qs (fork b xs q rs) hs (good-fork r row e o gq gs)) (omega arith) in
-    let F : file (sofar (stateOf (in-second c qs b xs q) rs)) ≡ file (sofar (stateOf c (snoc qs (fork b xs q rs)))) =
-    closes-file (stateOf (in-second c qs b xs q) rs) (stateOf c (snoc qs (fork b xs q rs)))
+    let lb = length-sized ((rawsBytes qs ++ (b ∷ xs)) ++ sized (rawsBytes q)) (rawsBytes rs) in
+    let lf = ap length (fork-bytes qs b xs q rs) in
+    let R = complete c (suc d) (snoc qs (fork b xs q rs)) g (snoc-good (scopeOf c) (suc d) qs (fork b xs q rs) hs (good-fork r row e o gq gs)) (omega arith) in
+    let F = closes-file (stateOf (in-second c qs b xs q) rs) (stateOf c (snoc qs (fork b xs q rs)))
     (closed (scopeOf c) (afterOf c) (topOf (in-second c qs b xs q)) (topOf c ∷ outerOf c) (rawsBytes rs) same refl (ap (state (scopeOf c) (afterOf c) (topOf c ∷ outerOf c)) (sym (fork-bytes qs b xs q rs)))) in
     (R .0, R .1, R .2, R .3 ∙ ap (λ (z : List Line). z ++ R .1) (fork-lines c qs b xs q rs), λ z u. R .4 z (sym F ∙ u))
 
@@ -588,7 +578,7 @@ Backed ls σ = (q : RawProgram) × (more : List Line) × GoodProgram q × (rawPr
 
 backed : (L : List Line) (q : Sofar) (σ : State) → σ ≡ sofar q → Next L q → Backed L σ
 backed L q σ e n =
-    let c : Completed (stateOf (n .0) (n .2)) (linesOf (n .0) (n .2)) = complete (n .0) (n .1) (n .2) (n .3) (n .4) (subst (λ (p : Sofar). least p ≤ 4096) (n .5) (n .7)) in
+    let c = complete (n .0) (n .1) (n .2) (n .3) (n .4) (subst (λ (p : Sofar). least p ≤ 4096) (n .5) (n .7)) in
     (c .0, c .1, c .2, c .3 ∙ ap (λ (z : List Line). z ++ c .1) (n .6), λ z u. c .4 z (ap (λ (p : Sofar). file (sofar p)) (sym (n .5)) ∙ ap file (sym e) ∙ u))
 
 from-start : (ls : List Line) (σ : State) → run (sofar programBegun) ls ≡ some σ → Backed ((program ∷ decimal 1 ∷ []) ∷ ls) σ
@@ -599,7 +589,7 @@ from-start [] σ h =
 from-start (l ∷ ls) σ h =
     let r : (p : Sofar) × (takesOne (lines (sofar programBegun)) l ≡ some p) × (run (sofar p) ls ≡ some σ) = ran (sofar programBegun) σ l ls h in
     let n : Next ((program ∷ decimal 1 ∷ []) ∷ l ∷ []) (r .0) = top-next [] no-functions (omega arith) (omega arith) l (r .0) (r .1) in
-    let t : (q : Sofar) × (σ ≡ sofar q) × Next (linesOf (n .0) (n .2) ++ ls) q = all-next ls (n .0) (n .1) (n .2) (n .3) (n .4) (r .0) (n .5) (n .7) σ (r .2) in
+    let t = all-next ls (n .0) (n .1) (n .2) (n .3) (n .4) (r .0) (n .5) (n .7) σ (r .2) in
     backed ((program ∷ decimal 1 ∷ []) ∷ l ∷ ls) (t .0) σ (t .1) (subst (λ (z : List Line). Next z (t .0)) (ap (λ (z : List Line). z ++ ls) (n .6)) (t .2))
 
 pub runs-back : RunsBack
@@ -613,9 +603,9 @@ runs-back (l ∷ ls) σ h =
   where
     go : (p : Sofar) → run (sofar p) ls ≡ some σ → (takes (word program (word (decimal 1) (stop (some programBegun)))) l ≡ some p) ⊎ (takesOne [] l ≡ some p) → Backed (l ∷ ls) σ
     go p k (inl t) =
-        let a : (vs : List Text) × (l ≡ program ∷ vs) × (takes (word (decimal 1) (stop (some programBegun))) vs ≡ some p) = took-word program (word (decimal 1) (stop (some programBegun))) l p t in
-        let b : (vs : List Text) × (a .0 ≡ decimal 1 ∷ vs) × (takes (stop (some programBegun)) vs ≡ some p) = took-word (decimal 1) (stop (some programBegun)) (a .0) p (a .2) in
+        let a = took-word program (word (decimal 1) (stop (some programBegun))) l p t in
+        let b = took-word (decimal 1) (stop (some programBegun)) (a .0) p (a .2) in
         let c : (b .0 ≡ []) × (programBegun ≡ p) = took-stop programBegun (b .0) p (b .2) in
-        let e : program ∷ decimal 1 ∷ [] ≡ l = sym (a .1 ∙ ap (λ (z : List Text). program ∷ z) (b .1 ∙ ap (λ (z : List Text). decimal 1 ∷ z) (c .0))) in
+        let e = sym (a .1 ∙ ap (λ (z : List Text). program ∷ z) (b .1 ∙ ap (λ (z : List Text). decimal 1 ∷ z) (c .0))) in
         subst (λ (z : Line). Backed (z ∷ ls) σ) e (from-start ls σ (ap (λ (q : Sofar). run (sofar q) ls) (c .1) ∙ k))
     go p k (inr t) = none-not-some t

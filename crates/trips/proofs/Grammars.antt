@@ -86,7 +86,10 @@ opens-all [] z = refl
 opens-all (x ∷ u) z = ap (λ (b : Bool). b && opens u (u ++ z)) (T→eq (eqb x x) (eqb-refl x)) ∙ opens-all u z
 
 -- of two ways to part a text, one has the longer front
-pub longer : (w r l y : Text) → w ++ r ≡ l ++ y → ((z : Text) × (w ≡ l ++ z)) ⊎ ((x : ℕ) × (z : Text) × (l ≡ w ++ (x ∷ z)) × (r ≡ x ∷ (z ++ y)))
+abbrev pub Longer : Text → Text → Text → Text → Type 0
+Longer w r l y = ((z : Text) × (w ≡ l ++ z)) ⊎ ((x : ℕ) × (z : Text) × (l ≡ w ++ (x ∷ z)) × (r ≡ x ∷ (z ++ y)))
+
+pub longer : (w r l y : Text) → w ++ r ≡ l ++ y → Longer w r l y
 longer w r [] y e = inl (w, refl)
 longer [] r (x ∷ l) y e = inr (x, l, refl, e)
 longer (v ∷ w) r (x ∷ l) y e =
@@ -94,8 +97,7 @@ longer (v ∷ w) r (x ∷ l) y e =
     let t : w ++ r ≡ l ++ y = cc in
     go h (longer w r l y t)
   where
-    go : v ≡ x → ((z : Text) × (w ≡ l ++ z)) ⊎ ((a : ℕ) × (z : Text) × (l ≡ w ++ (a ∷ z)) × (r ≡ a ∷ (z ++ y)))
-        → ((z : Text) × (v ∷ w ≡ x ∷ (l ++ z))) ⊎ ((a : ℕ) × (z : Text) × (x ∷ l ≡ v ∷ (w ++ (a ∷ z))) × (r ≡ a ∷ (z ++ y)))
+    go : v ≡ x → Longer w r l y → Longer (v ∷ w) r (x ∷ l) y
     go h (inl q) = inl (q .0, let f : w ≡ l ++ q .0 = q .1 in cc)
     go h (inr q) = inr (q .0, q .1, (let f : l ≡ w ++ (q .0 ∷ q .1) = q .2 in cc), q .3)
 
@@ -226,7 +228,7 @@ module _ {A : Type 0} where
           ∙ ap (starts (k i)) (sym (sh .2)) ∙ v
 
       go : (i : ℕ) → place w vs ≡ some i → (xs : List Text) → takes (k i) xs ≡ some a → CleanLine xs
-          → ((z : Text) × (w ≡ l ++ z)) ⊎ ((x : ℕ) × (z : Text) × (l ≡ w ++ (x ∷ z)) × (behind space xs ≡ x ∷ (z ++ y)))
+          → Longer w (behind space xs) l y
           → ((x : Text) (xs : List Text) → takes (k i) (x ∷ xs) ≡ some a → CleanLine (x ∷ xs) → (l′ : Text) → join space (x ∷ xs) ≡ l′ ++ y → starts (k i) (split space l′) ≡ true)
           → starts (ask e vs k) (split space l) ≡ true
       go i f xs t d (inl q) rec = ends i f (takes-live (k i) xs a t) (q .0) (q .1)

@@ -251,6 +251,10 @@ proper-function fs F =
 proper-main : (fs : List Function) (F : List ℕ) → Offers (mainLine fs F)
 proper-main fs F = one-word main (clean-by main tt) ends
 
+-- the lines outside functions and main, by whether there is room for a function and a number left
+abbrev pub topWith : List Function → List ℕ → Bool → Bool → List (Grammar Sofar)
+topWith fs F a b = elim a [ true ↦ elim b [ true ↦ functionLine fs F ∷ [] | false ↦ [] ] | false ↦ [] ] ++ (mainLine fs F ∷ [])
+
 proper-top : (a : Option (List Function)) (F : List ℕ) → AllProper (topLines a F)
 proper-top none F = tt
 proper-top (some fs) F = go (leb (12 + length F) 4096) (ltb (length fs) 15)
@@ -258,13 +262,17 @@ proper-top (some fs) F = go (leb (12 + length F) 4096) (ltb (length fs) 15)
     mains : AllProper (mainLine fs F ∷ [])
     mains = (offered (proper-main fs F), refl, tt)
 
-    go : (a b : Bool) → AllProper (elim a [ true ↦ elim b [ true ↦ functionLine fs F ∷ [] | false ↦ [] ] | false ↦ [] ] ++ (mainLine fs F ∷ []))
+    go : (a b : Bool) → AllProper (topWith fs F a b)
     go true true = (offered (proper-function fs F), refl, mains)
     go true false = mains
     go false b = mains
 
 abbrev pub elseLine : Scope → Option (List Function) → Opened → List Opened → List ℕ → Grammar Sofar
 elseLine S a b bs bytes = word else (stop (some (elseBegun S a b bs bytes)))
+
+-- the lines behind a block, by whether its else is due
+abbrev pub afterBlock : Scope → Option (List Function) → Opened → List Opened → List ℕ → Bool → List (Grammar Sofar)
+afterBlock S a b bs bytes d = elim d [ true ↦ indent (length bs) (elseLine S a b bs bytes) ∷ [] | false ↦ linesAfter S a bs (b .before ++ sized bytes) ]
 
 proper-else : (S : Scope) (a : Option (List Function)) (b : Opened) (bs : List Opened) (bytes : List ℕ) → Offers (elseLine S a b bs bytes)
 proper-else S a b bs bytes = one-word else (clean-by else tt) ends
@@ -279,7 +287,7 @@ proper-after S a (b ∷ bs) bytes =
     (proper-indent (suc (length bs)) (statementLine p) (proper-statement p), refl, rest (b .due) (proper-after S a bs (b .before ++ sized bytes)))
   where
     rest : (d : Bool) → AllProper (linesAfter S a bs (b .before ++ sized bytes))
-        → AllProper (elim d [ true ↦ indent (length bs) (elseLine S a b bs bytes) ∷ [] | false ↦ linesAfter S a bs (b .before ++ sized bytes) ])
+        → AllProper (afterBlock S a b bs bytes d)
     rest true r = (proper-indent (length bs) (elseLine S a b bs bytes) (offered (proper-else S a b bs bytes)), indent-none (length bs) (elseLine S a b bs bytes) refl, tt)
     rest false r = r
 

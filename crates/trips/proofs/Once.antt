@@ -13,7 +13,7 @@ use Rattle.rules.specs.Words.{Text, newline}
 use Rattle.rules.specs.Listing.{listing}
 use Rattle.rules.specs.Unlisting.{unlisted}
 use Rattle.trips.specs.Trips.{Bytes, Begins, Unbroken, Whole, OneLine, Stops, at-line, at-end, RefusesExactly}
-use Rattle.trips.proofs.Grammars.{longer}
+use Rattle.trips.proofs.Grammars.{Longer, longer}
 use Rattle.trips.proofs.Listings.{only-listings, refuses}
 
 begins-front : (p q : Text) → Begins (p ++ q) → Begins p
@@ -52,7 +52,7 @@ covers l a (inl o) u rest e = go (longer (o .0) (newline ∷ a) u (newline ∷ r
         let n : c ≡ newline = cc in
         broken u z (subst (λ (t : Text). Unbroken t) (q ∙ ap (λ (y : ℕ). u ++ (y ∷ z)) n) (o .1))
 
-    go : ((z : Text) × (o .0 ≡ u ++ z)) ⊎ ((x : ℕ) × (z : Text) × (u ≡ o .0 ++ (x ∷ z)) × (newline ∷ a ≡ x ∷ (z ++ (newline ∷ rest)))) → (z : Text) × (u ++ (newline ∷ []) ≡ l ++ z)
+    go : Longer (o .0) (newline ∷ a) u (newline ∷ rest) → (z : Text) × (u ++ (newline ∷ []) ≡ l ++ z)
     go (inl q) = same-front (q .0) (q .1)
     go (inr q) =
         let n : newline ≡ q .0 = (let k : newline ∷ a ≡ q .0 ∷ (q .1 ++ (newline ∷ rest)) = q .3 in cc) in (
@@ -81,7 +81,7 @@ one-stop t x y (at-line b l a e w o h k) (at-line b′ l′ a′ e′ w′ o′ 
         let m = sym (cancel b′ ((c ∷ z) ++ (l ++ a)) (l′ ++ a′) (sym (append-assoc b′ (c ∷ z) (l ++ a)) ∙ ap (λ (s : Text). s ++ (l ++ a)) (sym q) ∙ sym e ∙ e′)) in
         later b′ l′ a′ b o′ k′ w h c z (l ++ a) q m
 
-    go : ((z : Text) × (b ≡ b′ ++ z)) ⊎ ((c : ℕ) × (z : Text) × (b′ ≡ b ++ (c ∷ z)) × (l ++ a ≡ c ∷ (z ++ (l′ ++ a′)))) → length b ≡ length b′
+    go : Longer b (l ++ a) b′ (l′ ++ a′) → length b ≡ length b′
     go (inl q) = front (q .0) (q .1)
     go (inr q) = later b l a b′ o k w′ h′ (q .0) (q .1) (l′ ++ a′) (q .2) (q .3)
 

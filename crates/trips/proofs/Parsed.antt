@@ -7,7 +7,7 @@ use native.Mathlib.Nat.{add-zero, add-suc, suc-add}
 use native.Mathlib.Omega.{arith}
 use Prim.Native.Nat.{ℕ, zero, suc, _+_, _-_, _%_, _<_, _≤_}
 use lib.Dec.{eqb, ltb, leb}
-use lib.ListN.{getD, length, length-append, length-replicate, replicate}
+use lib.ListN.{length, length-append, length-replicate, replicate}
 use Rattle.answers.specs.Check.{Check}
 use Rattle.answers.proofs.Laws.{Holds, not-ok, by, holds-bind, holds-then, holds-need, holds-map, holds-at}
 use Rattle.rules.specs.declared.program.FunctionHeader.{FunctionHeader}
@@ -50,6 +50,10 @@ module _ (s : List ℕ) (bytes : Bytes s) where
   abbrev part : ℕ → ℕ → List ℕ
   part i n = upTo i n (byte s)
 
+  -- the operand bytes of a statement at i, by its row
+  abbrev given : ℕ → Row → List ℕ
+  given i r = part (i + 1) (length (r .operands))
+
   operands-raw : (S : Scope) (i n : ℕ) (os : List Operand) → all isOperand os ≡ true → Holds (λ u. Ranged (stubbed S) (byte s (i + 1)) os (part (i + n) (length os))) (operands s S i n os)
   operands-raw S i n [] e = by tt
   operands-raw S i n (o ∷ os) e =
@@ -89,19 +93,19 @@ module _ (s : List ℕ) (bytes : Bytes s) where
     RawStatements d i e ts = (q : Raws) × Goods (stubbed S) d q × At s i (rawsBytes q) × (i + length (rawsBytes q) ≡ e) × ((n : ℕ) → statementsLines s n ts ≡ rawsLines n q)
 
     -- the fixed part at i, in front of other bytes
-    module _ (i : ℕ) (r : Row) (row : rowOf (byte s i) ≡ some r) (fits : i + size r ≤ length s) (ops : Operands (stubbed S) (r .operands) (part (i + 1) (length (r .operands)))) where
-      xs-length : length (part (i + 1) (length (r .operands))) ≡ length (r .operands)
+    module _ (i : ℕ) (r : Row) (row : rowOf (byte s i) ≡ some r) (fits : i + size r ≤ length s) (ops : Operands (stubbed S) (r .operands) (given i r)) where
+      xs-length : length (given i r) ≡ length (r .operands)
       xs-length = length-upTo (i + 1) (length (r .operands)) (byte s)
 
-      fixed-at : (rest : List ℕ) → At s (i + size r) rest → At s i (byte s i ∷ (part (i + 1) (length (r .operands)) ++ rest))
+      fixed-at : (rest : List ℕ) → At s (i + size r) rest → At s i (byte s i ∷ (given i r ++ rest))
       fixed-at rest a =
           let e : i + 1 ≡ suc i = omega arith in
           let n : ℕ = length (r .operands) in
-          let f : i + size r ≡ suc i + length (part (i + 1) (length (r .operands))) = omega (arith, xs-length) in
-          (refl, omega arith, at-append s (part (i + 1) (length (r .operands))) rest (suc i) (moved s (i + 1) (suc i) (part (i + 1) (length (r .operands))) e (at-upTo s (length (r .operands)) (i + 1) (omega arith))) (moved s (i + size r) (suc i + length (part (i + 1) (length (r .operands)))) rest f a))
+          let f : i + size r ≡ suc i + length (given i r) = omega (arith, xs-length) in
+          (refl, omega arith, at-append s (given i r) rest (suc i) (moved s (i + 1) (suc i) (given i r) e (at-upTo s (length (r .operands)) (i + 1) (omega arith))) (moved s (i + size r) (suc i + length (given i r)) rest f a))
 
-      fixed-size : (rest : List ℕ) → i + size r + length rest ≡ i + length (byte s i ∷ (part (i + 1) (length (r .operands)) ++ rest))
-      fixed-size rest = omega (arith, xs-length, length-append (part (i + 1) (length (r .operands))) rest)
+      fixed-size : (rest : List ℕ) → i + size r + length rest ≡ i + length (byte s i ∷ (given i r ++ rest))
+      fixed-size rest = omega (arith, xs-length, length-append (given i r) rest)
 
     sized-at : (i : ℕ) (bs : List ℕ) → length bs ≡ word s i → At s (i + 2) bs → i + 2 ≤ length s → At s i (sized bs)
     sized-at i bs e a l =
@@ -112,30 +116,30 @@ module _ (s : List ℕ) (bytes : Bytes s) where
         (omega arith, omega arith, (ap (byte s) (sym f) ∙ c, omega arith, moved s (i + 2) (suc (suc i)) bs g a))
 
     module _ (d : ℕ) (inner : (i limit : ℕ) → limit ≤ length s → Holds (RawBlock d i limit) (readBlock s sd S d i limit)) where
-      meant-raw : (i e : ℕ) (r : Row) → rowOf (byte s i) ≡ some r → e ≤ length s → i + size r ≤ e → Operands (stubbed S) (r .operands) (part (i + 1) (length (r .operands))) → (m : Meaning) → r .meaning ≡ m
+      meant-raw : (i e : ℕ) (r : Row) → rowOf (byte s i) ≡ some r → e ≤ length s → i + size r ≤ e → Operands (stubbed S) (r .operands) (given i r) → (m : Meaning) → r .meaning ≡ m
           → Holds (RawStatement d i e) (meant s sd S (readBlock s sd S d) m i (i + size r) e)
       meant-raw i e r row w l o (simple f) m =
           let l′ : i + size r ≤ length s = omega arith in
-          let xs : List ℕ = part (i + 1) (length (r .operands)) in
-          let a : At s i (byte s i ∷ (part (i + 1) (length (r .operands)) ++ [])) = fixed-at i r row l′ o [] (omega arith) in
-          let a′ = subst (λ (z : List ℕ). At s i (byte s i ∷ z)) (append-nil (part (i + 1) (length (r .operands)))) a in
-          let lx : length (part (i + 1) (length (r .operands))) ≡ length (r .operands) = xs-length i r row l′ o in
-          let nx : i + size r ≡ i + suc (length (part (i + 1) (length (r .operands)))) = omega arith in
-          by (plain (byte s i) (part (i + 1) (length (r .operands))), good-plain r f row m o, a′, nx, l, λ n. ap (λ (z : Line). indented n z ∷ []) (fixed-line s sd S (byte s i) r row (part (i + 1) (length (r .operands))) o i [] a))
+          let xs : List ℕ = given i r in
+          let a : At s i (byte s i ∷ (given i r ++ [])) = fixed-at i r row l′ o [] (omega arith) in
+          let a′ = subst (λ (z : List ℕ). At s i (byte s i ∷ z)) (append-nil (given i r)) a in
+          let lx : length (given i r) ≡ length (r .operands) = xs-length i r row l′ o in
+          let nx : i + size r ≡ i + suc (length (given i r)) = omega arith in
+          by (plain (byte s i) (given i r), good-plain r f row m o, a′, nx, l, λ n. ap (λ (z : Line). indented n z ∷ []) (fixed-line s sd S (byte s i) r row (given i r) o i [] a))
       meant-raw i e r row w l o loops m =
           holds-bind (inner (i + size r) e w) λ b u.
           let l′ : i + size r ≤ length s = omega arith in
           let a = fixed-at i r row l′ o (sized (rawsBytes (u .1))) (u .4) in
           let z = fixed-size i r row l′ o (sized (rawsBytes (u .1))) in
-          let nx : b .next ≡ i + length (byte s i ∷ (part (i + 1) (length (r .operands)) ++ sized (rawsBytes (u .1)))) = omega (arith, u .5) in
+          let nx : b .next ≡ i + length (byte s i ∷ (given i r ++ sized (rawsBytes (u .1)))) = omega (arith, u .5) in
           by (
-            loop (byte s i) (part (i + 1) (length (r .operands))) (u .1),
-            subst (λ (k : ℕ). Good (stubbed S) k (loop (byte s i) (part (i + 1) (length (r .operands))) (u .1))) (sym (u .2)) (good-loop r row m o (u .3)),
+            loop (byte s i) (given i r) (u .1),
+            subst (λ (k : ℕ). Good (stubbed S) k (loop (byte s i) (given i r) (u .1))) (sym (u .2)) (good-loop r row m o (u .3)),
             a,
             nx,
             u .6,
-            λ n. ap (λ (z : Line). indented n z ∷ blockLines s (suc n) (b .it)) (fixed-line s sd S (byte s i) r row (part (i + 1) (length (r .operands))) o i (sized (rawsBytes (u .1))) a)
-                ∙ ap (λ (z : List Line). indented n (rawLine (byte s i) (part (i + 1) (length (r .operands)))) ∷ z) (u .7 (suc n)),
+            λ n. ap (λ (z : Line). indented n z ∷ blockLines s (suc n) (b .it)) (fixed-line s sd S (byte s i) r row (given i r) o i (sized (rawsBytes (u .1))) a)
+                ∙ ap (λ (z : List Line). indented n (rawLine (byte s i) (given i r)) ∷ z) (u .7 (suc n)),
           )
       meant-raw i e r row w l o branches m =
           holds-bind (inner (i + size r) e w) λ b u.
@@ -148,16 +152,16 @@ module _ (s : List ℕ) (bytes : Bytes s) where
           let a = fixed-at i r row l′ o (sized (rawsBytes (u .1)) ++ sized (rawsBytes (v .1))) ab in
           let z = fixed-size i r row l′ o (sized (rawsBytes (u .1)) ++ sized (rawsBytes (v .1))) in
           let lz = length-sized (sized (rawsBytes (u .1))) (rawsBytes (v .1)) in
-          let nx : c .next ≡ i + length (byte s i ∷ (part (i + 1) (length (r .operands)) ++ (sized (rawsBytes (u .1)) ++ sized (rawsBytes (v .1))))) = omega (arith, u .5, v .5) in
+          let nx : c .next ≡ i + length (byte s i ∷ (given i r ++ (sized (rawsBytes (u .1)) ++ sized (rawsBytes (v .1))))) = omega (arith, u .5, v .5) in
           by (
-            fork (byte s i) (part (i + 1) (length (r .operands))) (u .1) (v .1),
-            subst (λ (k : ℕ). Good (stubbed S) k (fork (byte s i) (part (i + 1) (length (r .operands))) (u .1) (v .1))) (sym (u .2)) (good-fork r row m o (u .3) (subst (λ (k : ℕ). Goods (stubbed S) k (v .1)) (sym de) (v .3))),
+            fork (byte s i) (given i r) (u .1) (v .1),
+            subst (λ (k : ℕ). Good (stubbed S) k (fork (byte s i) (given i r) (u .1) (v .1))) (sym (u .2)) (good-fork r row m o (u .3) (subst (λ (k : ℕ). Goods (stubbed S) k (v .1)) (sym de) (v .3))),
             a,
             nx,
             v .6,
-            λ n. ap (λ (z : Line). indented n z ∷ (blockLines s (suc n) (b .it) ++ (indented n (else ∷ []) ∷ blockLines s (suc n) (c .it)))) (fixed-line s sd S (byte s i) r row (part (i + 1) (length (r .operands))) o i (sized (rawsBytes (u .1)) ++ sized (rawsBytes (v .1))) a)
-                ∙ ap (λ (z : List Line). indented n (rawLine (byte s i) (part (i + 1) (length (r .operands)))) ∷ (z ++ (indented n (else ∷ []) ∷ blockLines s (suc n) (c .it)))) (u .7 (suc n))
-                ∙ ap (λ (z : List Line). indented n (rawLine (byte s i) (part (i + 1) (length (r .operands)))) ∷ (rawsLines (suc n) (u .1) ++ (indented n (else ∷ []) ∷ z))) (v .7 (suc n)),
+            λ n. ap (λ (z : Line). indented n z ∷ (blockLines s (suc n) (b .it) ++ (indented n (else ∷ []) ∷ blockLines s (suc n) (c .it)))) (fixed-line s sd S (byte s i) r row (given i r) o i (sized (rawsBytes (u .1)) ++ sized (rawsBytes (v .1))) a)
+                ∙ ap (λ (z : List Line). indented n (rawLine (byte s i) (given i r)) ∷ (z ++ (indented n (else ∷ []) ∷ blockLines s (suc n) (c .it)))) (u .7 (suc n))
+                ∙ ap (λ (z : List Line). indented n (rawLine (byte s i) (given i r)) ∷ (rawsLines (suc n) (u .1) ++ (indented n (else ∷ []) ∷ z))) (v .7 (suc n)),
           )
       meant-raw i e r row w l o calls m =
           let k : ℕ = byte s (i + 2) in
@@ -167,7 +171,7 @@ module _ (s : List ℕ) (bytes : Bytes s) where
           (all-replicate (byte s (i + 2)) Location refl (replicate (byte s (i + 3)) Slot) (ap (all isOperand) (sym (append-nil (replicate (byte s (i + 3)) Slot))) ∙ all-replicate (byte s (i + 3)) Slot refl [] refl))) λ v t.
           by (called-raw i e r row w l o m (at-most (i + size r + byte s (i + 2) + byte s (i + 3)) e c) t)
         where
-          called-raw : (i e : ℕ) (r : Row) → rowOf (byte s i) ≡ some r → e ≤ length s → i + size r ≤ e → Operands (stubbed S) (r .operands) (part (i + 1) (length (r .operands))) → r .meaning ≡ calls
+          called-raw : (i e : ℕ) (r : Row) → rowOf (byte s i) ≡ some r → e ≤ length s → i + size r ≤ e → Operands (stubbed S) (r .operands) (given i r) → r .meaning ≡ calls
               → i + size r + byte s (i + 2) + byte s (i + 3) ≤ e
               → Ranged (stubbed S) (byte s (i + 1)) (replicate (byte s (i + 2)) Location ++ replicate (byte s (i + 3)) Slot) (part (i + 4) (length (replicate (byte s (i + 2)) Location ++ replicate (byte s (i + 3)) Slot)))
               → RawStatement d i e (record { it = call i (byte s (i + 1)) (upTo (i + size r) (byte s (i + 2)) λ n. record { no = byte s n }) (upTo (i + size r + byte s (i + 2)) (byte s (i + 3)) λ n. byte s n); next = i + size r + byte s (i + 2) + byte s (i + 3) })
@@ -201,15 +205,15 @@ module _ (s : List ℕ) (bytes : Bytes s) where
               let a = fixed-at i r row l′ o (part (i + size r) (byte s (i + 2)) ++ part (i + size r + byte s (i + 2)) (byte s (i + 3))) ab in
               let z = fixed-size i r row l′ o (part (i + size r) (byte s (i + 2)) ++ part (i + size r + byte s (i + 2)) (byte s (i + 3))) in
               let lz = length-append (part (i + size r) (byte s (i + 2))) (part (i + size r + byte s (i + 2)) (byte s (i + 3))) in
-              let nx : i + size r + byte s (i + 2) + byte s (i + 3) ≡ i + length (byte s i ∷ (part (i + 1) (length (r .operands)) ++ (part (i + size r) (byte s (i + 2)) ++ part (i + size r + byte s (i + 2)) (byte s (i + 3))))) = omega arith in (
-                called (byte s i) (part (i + 1) (length (r .operands))) (part (i + size r) (byte s (i + 2))) (part (i + size r + byte s (i + 2)) (byte s (i + 3))),
+              let nx : i + size r + byte s (i + 2) + byte s (i + 3) ≡ i + length (byte s i ∷ (given i r ++ (part (i + size r) (byte s (i + 2)) ++ part (i + size r + byte s (i + 2)) (byte s (i + 3))))) = omega arith in (
+                called (byte s i) (given i r) (part (i + size r) (byte s (i + 2))) (part (i + size r + byte s (i + 2)) (byte s (i + 3))),
                 good-called r row m o hl′ hm′,
                 a,
                 nx,
                 c,
                 λ n. ap (λ (z : Line). indented n (z ++ (listed at (map (λ (l : Place sd). l .no) (upTo (i + size r) (byte s (i + 2)) λ n. record { no = byte s n })) ++ listed with (part (i + size r + byte s (i + 2)) (byte s (i + 3))))) ∷ [])
-                    (fixed-line s sd S (byte s i) r row (part (i + 1) (length (r .operands))) o i (part (i + size r) (byte s (i + 2)) ++ part (i + size r + byte s (i + 2)) (byte s (i + 3))) a)
-                    ∙ ap (λ (z : List ℕ). indented n (rawLine (byte s i) (part (i + 1) (length (r .operands))) ++ (listed at z ++ listed with (part (i + size r + byte s (i + 2)) (byte s (i + 3))))) ∷ []) (map-places s sd S (i + size r) (byte s (i + 2))),
+                    (fixed-line s sd S (byte s i) r row (given i r) o i (part (i + size r) (byte s (i + 2)) ++ part (i + size r + byte s (i + 2)) (byte s (i + 3))) a)
+                    ∙ ap (λ (z : List ℕ). indented n (rawLine (byte s i) (given i r) ++ (listed at z ++ listed with (part (i + size r + byte s (i + 2)) (byte s (i + 3))))) ∷ []) (map-places s sd S (i + size r) (byte s (i + 2))),
               )
 
       statement-raw : (i e : ℕ) → e ≤ length s → Holds (RawStatement d i e) (statement s sd S (readBlock s sd S d) i e)

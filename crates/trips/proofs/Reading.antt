@@ -2,7 +2,7 @@
 -- program are followed to its file (`forth`), and lines that were followed begin those of a readable program (`back`).
 use mathlib.Core.Bool.{Bool, true, false, false≢true}
 use mathlib.Core.List.{List, [], _∷_, _++_, append-assoc, append-nil}
-use mathlib.Core.Logic.{_⊎_, inl, inr}
+use mathlib.Core.Logic.{inl, inr}
 use mathlib.Core.Option.{Option, none, some}
 use mathlib.Core.Path.{_≡_, refl, sym, ap, subst, _∙_}
 use native.Mathlib.Omega.{arith}
@@ -19,7 +19,7 @@ use Rattle.rules.specs.Grammar.{Grammar, takes, starts, takesOne, startsOne}
 use Rattle.rules.specs.Unlisting.{Sofar, State, fresh, sofar, lines, file, ending, follow, unlisted}
 use Rattle.trips.specs.Trips.{Bytes, Begins, RoundTrip, OnlyListings, OneProgram, Unbroken, Whole, Stops, at-line, at-end, Refuses}
 use Rattle.trips.proofs.Texts.{Free, AllFree, split-shape, join-split, split-free, split-seam, split-behind, peel}
-use Rattle.trips.proofs.Grammars.{none-not-some, longer, CleanLine, Proper, takes-clean, starts-begun, begun-starts}
+use Rattle.trips.proofs.Grammars.{none-not-some, Longer, longer, CleanLine, Proper, takes-clean, starts-begun, begun-starts}
 
 -- Lines one after the other.
 abbrev pub run : State → List Line → Option State
@@ -49,7 +49,10 @@ run-front σ τ (l ∷ ls) ms h =
     let q : (ρ : State) × (run (sofar (r .0)) ls ≡ some ρ) × (run ρ ms ≡ some τ) = run-front (sofar (r .0)) τ ls ms (r .2) in
     (q .0, run-next σ l ls (r .0) (r .1) ∙ q .1, q .2)
 
--- Clean lines.
+-- Clean lines: each has a word.
+abbrev pub CleanWords : Line → Type 0
+CleanWords l = (w : Text) × (ws : List Text) × (l ≡ w ∷ ws) × CleanLine (w ∷ ws)
+
 abbrev pub CleanLines : List Line → Type 0
 CleanLines [] = Unit {0}
 CleanLines (l ∷ ls) = (w : Text) × (ws : List Text) × (l ≡ w ∷ ws) × CleanLine (w ∷ ws) × CleanLines ls
@@ -143,12 +146,12 @@ abbrev pub AllProper : List (Grammar Sofar) → Type 0
 AllProper [] = Unit {0}
 AllProper (g ∷ gs) = Proper g × (takes g [] ≡ none) × AllProper gs
 
-one-clean : (gs : List (Grammar Sofar)) → AllProper gs → (l : Line) (p : Sofar) → takesOne gs l ≡ some p → (w : Text) × (ws : List Text) × (l ≡ w ∷ ws) × CleanLine (w ∷ ws)
+one-clean : (gs : List (Grammar Sofar)) → AllProper gs → (l : Line) (p : Sofar) → takesOne gs l ≡ some p → CleanWords l
 one-clean [] h l p e = none-not-some e
 one-clean (g ∷ gs) h l p e = go l (takes g l) refl e (λ k. one-clean gs (h .2) l p k)
   where
     go : (l : Line) (o : Option Sofar) → takes g l ≡ o → elim o [ none ↦ takesOne gs l | some a ↦ some a ] ≡ some p
-        → (takesOne gs l ≡ some p → (w : Text) × (ws : List Text) × (l ≡ w ∷ ws) × CleanLine (w ∷ ws)) → (w : Text) × (ws : List Text) × (l ≡ w ∷ ws) × CleanLine (w ∷ ws)
+        → (takesOne gs l ≡ some p → CleanWords l) → CleanWords l
     go l none f k rec = rec k
     go [] (some a) f k rec = none-not-some (sym (h .1) ∙ f)
     go (w ∷ ws) (some a) f k rec = (w, ws, refl, takes-clean g (h .0) (w ∷ ws) a f)
@@ -206,7 +209,7 @@ module _ (proper : ProperLines) (forth : Forth) (back : Back) where
   run-clean [] σ τ h = tt
   run-clean (l ∷ ls) σ τ h =
       let r : (p : Sofar) × (takesOne (lines σ) l ≡ some p) × (run (sofar p) ls ≡ some τ) = ran σ τ l ls h in
-      let c : (w : Text) × (ws : List Text) × (l ≡ w ∷ ws) × CleanLine (w ∷ ws) = one-clean (lines σ) (proper σ) l (r .0) (r .1) in
+      let c : CleanWords l = one-clean (lines σ) (proper σ) l (r .0) (r .1) in
       (c .0, c .1, c .2, c .3, run-clean ls (sofar (r .0)) τ (r .2))
 
   -- lines that are written are followed as they run
@@ -325,7 +328,7 @@ module _ (proper : ProperLines) (forth : Forth) (back : Back) where
       go (g .0) (g .1) (g .2) (g .4) (g .5)
     where
       here : (w : Text) (ws : List Text) → CleanLine (w ∷ ws) → (p : Sofar) → takesOne (lines σ) (w ∷ ws) ≡ some p → (more : List Line)
-          → ((z : Text) × (join space (w ∷ ws) ≡ (x ∷ u) ++ z)) ⊎ ((y : ℕ) × (z : Text) × (x ∷ u ≡ join space (w ∷ ws) ++ (y ∷ z)) × (newline ∷ written more ≡ y ∷ (z ++ b .1))) → ⊥
+          → Longer (join space (w ∷ ws)) (newline ∷ written more) (x ∷ u) (b .1) → ⊥
       here w ws c p t more (inl q) = absurd (false≢true (sym e ∙ one-starts (lines σ) (proper σ) w ws p t c (x ∷ u) (q .0) (q .1)))
       here w ws c p t more (inr q) =
           let y : newline ≡ q .0 = (let k : newline ∷ written more ≡ q .0 ∷ (q .1 ++ b .1) = q .3 in cc) in

@@ -17,11 +17,11 @@ use Rattle.rules.specs.Words.{Text, decimal}
 use Rattle.rules.specs.Listing.{headLine, Line, indented, listed, operandsIn}
 use Rattle.rules.specs.Names.{locations, arguments, main, else, at, with}
 use Rattle.rules.specs.Grammar.{Grammar, stop, ask, dead, word, takes, takesOne}
-use Rattle.rules.specs.Unlisting.{Opened, Sofar, sofar, sized, least, room, deeper, added, operands, list, made, blocksOf, rowLine, statementLine, indent, functionLine, mainLine, linesAfter, lines, ended, file, header, functionBegun, mainBegun, programBegun}
+use Rattle.rules.specs.Unlisting.{Opened, Sofar, sofar, sized, least, room, deeper, added, operands, list, made, blocksOf, rowLine, statementLine, indent, functionLine, mainLine, lines, ended, file, header, functionBegun, mainBegun, programBegun}
 use Rattle.rules.proofs.Tests.{T→eq}
 use Rattle.trips.proofs.Grammars.{none-not-some, word-same, takes-next}
 use Rattle.trips.proofs.Reading.{run, run-next, run-on}
-use Rattle.trips.proofs.Offered.{place-numbered, apart-decimal, elseLine}
+use Rattle.trips.proofs.Offered.{afterBlock, topWith, place-numbered, apart-decimal, elseLine}
 use Rattle.trips.proofs.Rows.{byte-of-row, name-filled, name-at, place-name}
 use Rattle.trips.proofs.Raw.{length-sized, sized-length, Raw, plain, called, fork, loop, Raws, end, _then_, rawBytes, rawsBytes, said, rawLine, rawLines, rawsLines, Operands, ranged-length, operands-length, takes-operands, takes-list, Good, good-plain, good-called, good-fork, good-loop, Goods, good-then, RawFunction, headOf, heads, functionsBytes, programBytes, rawFunctions, GoodFunctions, a-function, Runs}
 
@@ -79,13 +79,13 @@ pub data Closes (q : Sofar) : Sofar → Type 0 where
 first-line : (S : Scope) (a : Option (List Function)) (b : Opened) (bs : List Opened) (bytes : List ℕ) (l : Line) (p : Sofar)
     → takes (indent (suc (length bs)) (statementLine (state S a (b ∷ bs) bytes))) l ≡ some p → takesOne (lines (sofar (state S a (b ∷ bs) bytes))) l ≡ some p
 first-line S a b bs bytes l p h =
-    ap (λ (o : Option Sofar). elim o [ none ↦ takesOne (elim (b .due) [ true ↦ indent (length bs) (elseLine S a b bs bytes) ∷ [] | false ↦ linesAfter S a bs (b .before ++ sized bytes) ]) l | some a ↦ some a ]) h
+    ap (λ (o : Option Sofar). elim o [ none ↦ takesOne (afterBlock S a b bs bytes (b .due)) l | some a ↦ some a ]) h
 
 later-line : (S : Scope) (a : Option (List Function)) (b : Opened) (bs : List Opened) (bytes : List ℕ) (m : ℕ) → m ≤ length bs → (x : ℕ) (w : Text) (ws : List Text)
     → takesOne (lines (sofar (state S a (b ∷ bs) bytes))) (indented m ((x ∷ w) ∷ ws))
-    ≡ takesOne (elim (b .due) [ true ↦ indent (length bs) (elseLine S a b bs bytes) ∷ [] | false ↦ linesAfter S a bs (b .before ++ sized bytes) ]) (indented m ((x ∷ w) ∷ ws))
+    ≡ takesOne (afterBlock S a b bs bytes (b .due)) (indented m ((x ∷ w) ∷ ws))
 later-line S a b bs bytes m h x w ws =
-    ap (λ (o : Option Sofar). elim o [ none ↦ takesOne (elim (b .due) [ true ↦ indent (length bs) (elseLine S a b bs bytes) ∷ [] | false ↦ linesAfter S a bs (b .before ++ sized bytes) ]) (indented m ((x ∷ w) ∷ ws)) | some a ↦ some a ])
+    ap (λ (o : Option Sofar). elim o [ none ↦ takesOne (afterBlock S a b bs bytes (b .due)) (indented m ((x ∷ w) ∷ ws)) | some a ↦ some a ])
     (not-so-deep (length bs) m h (statementLine (state S a (b ∷ bs) bytes)) x w ws)
 
 pub closes-takes : (q p : Sofar) → Closes q p → (m : ℕ) → m ≤ length (p .open-blocks) → (x : ℕ) (w : Text) (ws : List Text)
@@ -95,7 +95,7 @@ closes-takes q p (closed S a b bs bytes c e e′) m h x w ws =
     let k : m ≤ length bs = subst (λ (r : Sofar). m ≤ length (r .open-blocks)) e′ h in
     let l : Line = indented m ((x ∷ w) ∷ ws) in
     closes-takes q (state S a (b ∷ bs) bytes) c m (omega (arith, k)) x w ws ∙ later-line S a b bs bytes m k x w ws
-    ∙ ap {B = Option Sofar} (λ (d : Bool). takesOne (elim d [ true ↦ indent (length bs) (elseLine S a b bs bytes) ∷ [] | false ↦ linesAfter S a bs (b .before ++ sized bytes) ]) l) e
+    ∙ ap {B = Option Sofar} (λ (d : Bool). takesOne (afterBlock S a b bs bytes d) l) e
     ∙ ap (λ (r : Sofar). takesOne (lines (sofar r)) l) (sym e′)
 
 pub closes-file : (q p : Sofar) → Closes q p → file (sofar q) ≡ file (sofar p)
@@ -254,14 +254,14 @@ function-taken fs F k m hk hm l =
 top-function : (S : Scope) (fs : List Function) (F : List ℕ) (l : Line) (p : Sofar) → 12 + length F ≤ 4096 → length fs < 15 → takes (functionLine fs F) l ≡ some p
     → takesOne (lines (sofar (state S (some fs) [] F))) l ≡ some p
 top-function S fs F l p h k t =
-    ap {B = Option Sofar} (λ (b : Bool). takesOne (elim b [ true ↦ elim (ltb (length fs) 15) [ true ↦ functionLine fs F ∷ [] | false ↦ [] ] | false ↦ [] ] ++ (mainLine fs F ∷ [])) l) (T→eq (leb (12 + length F) 4096) (le→leb (12 + length F) 4096 h))
-    ∙ ap {B = Option Sofar} (λ (b : Bool). takesOne (elim b [ true ↦ functionLine fs F ∷ [] | false ↦ [] ] ++ (mainLine fs F ∷ [])) l) (T→eq (ltb (length fs) 15) (lt→ltb (length fs) 15 k))
+    ap {B = Option Sofar} (λ (b : Bool). takesOne (topWith fs F b (ltb (length fs) 15)) l) (T→eq (leb (12 + length F) 4096) (le→leb (12 + length F) 4096 h))
+    ∙ ap {B = Option Sofar} (λ (b : Bool). takesOne (topWith fs F true b) l) (T→eq (ltb (length fs) 15) (lt→ltb (length fs) 15 k))
     ∙ ap (λ (o : Option Sofar). elim o [ none ↦ takesOne (mainLine fs F ∷ []) l | some a ↦ some a ]) t
 
 top-main : (S : Scope) (fs : List Function) (F : List ℕ) → takesOne (lines (sofar (state S (some fs) [] F))) (main ∷ []) ≡ some (mainBegun fs F)
 top-main S fs F = go (leb (12 + length F) 4096) (ltb (length fs) 15)
   where
-    go : (a b : Bool) → takesOne (elim a [ true ↦ elim b [ true ↦ functionLine fs F ∷ [] | false ↦ [] ] | false ↦ [] ] ++ (mainLine fs F ∷ [])) (main ∷ []) ≡ some (mainBegun fs F)
+    go : (a b : Bool) → takesOne (topWith fs F a b) (main ∷ []) ≡ some (mainBegun fs F)
     go true true = refl
     go true false = refl
     go false b = refl

@@ -23,10 +23,10 @@ use Rattle.rules.specs.Unlisting.{Opened, Sofar, State, fresh, sofar, sized, le
 use Rattle.rules.proofs.Tests.{eq→T}
 use Rattle.trips.proofs.Grammars.{none-not-some, place-found, took}
 use Rattle.trips.proofs.Reading.{run, ran}
-use Rattle.trips.proofs.Offered.{elseLine}
+use Rattle.trips.proofs.Offered.{topWith, elseLine}
 use Rattle.trips.proofs.Running.{state, size-xs, same, closed, closes-file, length-heads}
 use Rattle.trips.proofs.Rows.{name-at}
-use Rattle.trips.proofs.Raw.{length-sized, Raw, plain, called, fork, loop, Raws, end, _then_, rawBytes, rawsBytes, said, rawLine, rawLines, rawsLines, Operands, ranged-length, Said, took-operands, Listed, took-list, Good, good-plain, good-called, good-fork, good-loop, Goods, good-end, good-then, RawFunction, RawProgram, headOf, heads, functionsBytes, programBytes, rawFunctions, rawProgramLines, GoodFunctions, no-functions, a-function, GoodProgram, RunsBack}
+use Rattle.trips.proofs.Raw.{length-sized, Raw, plain, called, fork, loop, Raws, end, _then_, rawBytes, rawsBytes, said, rawLine, rawLines, rawsLines, Operands, ranged-length, took-operands, took-list, Good, good-plain, good-called, good-fork, good-loop, Goods, good-end, good-then, RawFunction, RawProgram, headOf, heads, functionsBytes, programBytes, rawFunctions, rawProgramLines, GoodFunctions, no-functions, a-function, GoodProgram, RunsBack}
 
 -- What a line that was taken is.
 module _ {A : Type 0} where
@@ -169,8 +169,11 @@ outerOf (in-second c rs b xs q) = topOf c ∷ outerOf c
 abbrev depthOf : Ctx → ℕ
 depthOf c = suc (length (outerOf c))
 
+abbrev stateIn : Ctx → List ℕ → Sofar
+stateIn c bytes = state (scopeOf c) (afterOf c) (topOf c ∷ outerOf c) bytes
+
 abbrev stateOf : Ctx → Raws → Sofar
-stateOf c rs = state (scopeOf c) (afterOf c) (topOf c ∷ outerOf c) (rawsBytes rs)
+stateOf c rs = stateIn c (rawsBytes rs)
 
 abbrev firstLines : List RawFunction → List Line
 firstLines fs = (program ∷ decimal 1 ∷ []) ∷ rawFunctions 0 fs
@@ -181,6 +184,13 @@ ctxLines (in-main fs) = firstLines fs ++ ((main ∷ []) ∷ [])
 ctxLines (in-loop c rs b xs) = (ctxLines c ++ rawsLines (depthOf c) rs) ++ (indented (depthOf c) (rawLine b xs) ∷ [])
 ctxLines (in-first c rs b xs) = (ctxLines c ++ rawsLines (depthOf c) rs) ++ (indented (depthOf c) (rawLine b xs) ∷ [])
 ctxLines (in-second c rs b xs q) = (ctxLines c ++ rawsLines (depthOf c) rs) ++ (indented (depthOf c) (rawLine b xs) ∷ (rawsLines (suc (depthOf c)) q ++ (indented (depthOf c) (else ∷ []) ∷ [])))
+
+-- the lines that may follow in c, once the block inside has ended; the else of a first block
+abbrev afterIn : Ctx → List ℕ → List (Grammar Sofar)
+afterIn c bytes = linesAfter (scopeOf c) (afterOf c) (topOf c ∷ outerOf c) bytes
+
+abbrev elseIn : Ctx → Raws → ℕ → List ℕ → Raws → Grammar Sofar
+elseIn c qs b xs rs = elseLine (scopeOf c) (afterOf c) (topOf (in-first c qs b xs)) (topOf c ∷ outerOf c) (rawsBytes rs)
 
 abbrev linesOf : Ctx → Raws → List Line
 linesOf c rs = ctxLines c ++ rawsLines (depthOf c) rs
@@ -221,7 +231,7 @@ grown c d rs g gs r h l e f =
       snoc rs r,
       g,
       snoc-good (scopeOf c) d rs r gs h,
-      ap (state (scopeOf c) (afterOf c) (topOf c ∷ outerOf c)) (sym (snoc-bytes rs r)),
+      ap (stateIn c) (sym (snoc-bytes rs r)),
       ap (λ (z : List Line). ctxLines c ++ z) (snoc-lines (depthOf c) rs r ∙ ap (λ (z : List Line). rawsLines (depthOf c) rs ++ z) e) ∙ sym (append-assoc (ctxLines c) (rawsLines (depthOf c) rs) (l ∷ [])),
       omega arith,
     )
@@ -379,7 +389,7 @@ top-next fs g n f l p′ h = go (leb (12 + length (functionsBytes fs)) 4096) ref
     either u v (inr t) = mains t
 
     go : (a : Bool) → leb (12 + length (functionsBytes fs)) 4096 ≡ a → (b : Bool) → ltb (length (heads fs)) 15 ≡ b
-        → takesOne (elim a [ true ↦ elim b [ true ↦ functionLine (heads fs) (functionsBytes fs) ∷ [] | false ↦ [] ] | false ↦ [] ] ++ (mainLine (heads fs) (functionsBytes fs) ∷ [])) l ≡ some p′
+        → takesOne (topWith (heads fs) (functionsBytes fs) a b) l ≡ some p′
         → Next (firstLines fs ++ (l ∷ [])) p′
     go true a true b k =
         let u : length (heads fs) < 15 = ltb→lt (length (heads fs)) 15 (eq→T (ltb (length (heads fs)) 15) b) in
@@ -452,10 +462,10 @@ any-next (in-main fs) d rs (good-main g n) gs f l p′ t = go (took-one (indent 
     go (inl u) = statement-next (in-main fs) 7 rs (good-main g n) gs l p′ u
     go (inr u) = none-not-some u
 any-next (in-loop c qs b xs) d rs (good-in-loop g hs r row e o) gs f l p′ t =
-    go (took-one (indent (suc (depthOf c)) (statementLine (stateOf (in-loop c qs b xs) rs))) (linesAfter (scopeOf c) (afterOf c) (topOf c ∷ outerOf c) ((rawsBytes qs ++ (b ∷ xs)) ++ sized (rawsBytes rs))) l p′ t)
+    go (took-one (indent (suc (depthOf c)) (statementLine (stateOf (in-loop c qs b xs) rs))) (afterIn c ((rawsBytes qs ++ (b ∷ xs)) ++ sized (rawsBytes rs))) l p′ t)
     (λ fit u. any-next c (suc d) (snoc qs (loop b xs rs)) g (snoc-good (scopeOf c) (suc d) qs (loop b xs rs) hs (good-loop r row e o gs)) fit l p′ u)
   where
-    go : (takes (indent (suc (depthOf c)) (statementLine (stateOf (in-loop c qs b xs) rs))) l ≡ some p′) ⊎ (takesOne (linesAfter (scopeOf c) (afterOf c) (topOf c ∷ outerOf c) ((rawsBytes qs ++ (b ∷ xs)) ++ sized (rawsBytes rs))) l ≡ some p′)
+    go : (takes (indent (suc (depthOf c)) (statementLine (stateOf (in-loop c qs b xs) rs))) l ≡ some p′) ⊎ (takesOne (afterIn c ((rawsBytes qs ++ (b ∷ xs)) ++ sized (rawsBytes rs))) l ≡ some p′)
         → (least (stateOf c (snoc qs (loop b xs rs))) ≤ 4096 → takesOne (lines (sofar (stateOf c (snoc qs (loop b xs rs))))) l ≡ some p′ → Next (linesOf c (snoc qs (loop b xs rs)) ++ (l ∷ [])) p′)
         → Next (linesOf (in-loop c qs b xs) rs ++ (l ∷ [])) p′
     go (inl u) rec = statement-next (in-loop c qs b xs) d rs (good-in-loop g hs r row e o) gs l p′ u
@@ -463,14 +473,14 @@ any-next (in-loop c qs b xs) d rs (good-in-loop g hs r row e o) gs f l p′ t =
         let lb = length-sized (rawsBytes qs ++ (b ∷ xs)) (rawsBytes rs) in
         let lf = ap length (loop-bytes qs b xs rs) in
         subst (λ (z : List Line). Next (z ++ (l ∷ [])) p′) (loop-lines c qs b xs rs)
-        (rec (omega arith) (ap (λ (z : List ℕ). takesOne (linesAfter (scopeOf c) (afterOf c) (topOf c ∷ outerOf c) z) l) (sym (loop-bytes qs b xs rs)) ∙ u))
+        (rec (omega arith) (ap (λ (z : List ℕ). takesOne (afterIn c z) l) (sym (loop-bytes qs b xs rs)) ∙ u))
 any-next (in-first c qs b xs) d rs (good-in-first g hs r row e o) gs f l p′ t =
-    go (took-one (indent (suc (depthOf c)) (statementLine (stateOf (in-first c qs b xs) rs))) (indent (depthOf c) (elseLine (scopeOf c) (afterOf c) (topOf (in-first c qs b xs)) (topOf c ∷ outerOf c) (rawsBytes rs)) ∷ []) l p′ t)
+    go (took-one (indent (suc (depthOf c)) (statementLine (stateOf (in-first c qs b xs) rs))) (indent (depthOf c) (elseIn c qs b xs rs) ∷ []) l p′ t)
   where
-    elses : takes (indent (depthOf c) (elseLine (scopeOf c) (afterOf c) (topOf (in-first c qs b xs)) (topOf c ∷ outerOf c) (rawsBytes rs))) l ≡ some p′ → Next (linesOf (in-first c qs b xs) rs ++ (l ∷ [])) p′
+    elses : takes (indent (depthOf c) (elseIn c qs b xs rs)) l ≡ some p′ → Next (linesOf (in-first c qs b xs) rs ++ (l ∷ [])) p′
     elses u =
         let q : Sofar = stateOf (in-second c qs b xs rs) end in
-        let a = took-indent (depthOf c) (elseLine (scopeOf c) (afterOf c) (topOf (in-first c qs b xs)) (topOf c ∷ outerOf c) (rawsBytes rs)) l p′ u in
+        let a = took-indent (depthOf c) (elseIn c qs b xs rs) l p′ u in
         let w = took-word else (stop (some (stateOf (in-second c qs b xs rs) end))) (a .0) p′ (a .2) in
         let j : (w .0 ≡ []) × (stateOf (in-second c qs b xs rs) end ≡ p′) = took-stop (stateOf (in-second c qs b xs rs) end) (w .0) p′ (w .2) in
         let line : l ≡ indented (depthOf c) (else ∷ []) = a .1 ∙ ap (indented (depthOf c)) (w .1 ∙ ap (λ (z : List Text). else ∷ z) (j .0)) in
@@ -478,20 +488,20 @@ any-next (in-first c qs b xs) d rs (good-in-first g hs r row e o) gs f l p′ t 
         let fit : least (stateOf (in-second c qs b xs rs) end) ≤ 4096 = omega arith in
         (in-second c qs b xs rs, d, end, good-in-second g hs r row e o gs, good-end, sym (j .1), first-lines c qs b xs rs ∙ ap (λ (z : Line). linesOf (in-first c qs b xs) rs ++ (z ∷ [])) (sym line), subst (λ (q : Sofar). least q ≤ 4096) (j .1) fit)
 
-    only : (takes (indent (depthOf c) (elseLine (scopeOf c) (afterOf c) (topOf (in-first c qs b xs)) (topOf c ∷ outerOf c) (rawsBytes rs))) l ≡ some p′) ⊎ (takesOne [] l ≡ some p′) → Next (linesOf (in-first c qs b xs) rs ++ (l ∷ [])) p′
+    only : (takes (indent (depthOf c) (elseIn c qs b xs rs)) l ≡ some p′) ⊎ (takesOne [] l ≡ some p′) → Next (linesOf (in-first c qs b xs) rs ++ (l ∷ [])) p′
     only (inl u) = elses u
     only (inr u) = none-not-some u
 
     go : (takes (indent (suc (depthOf c)) (statementLine (stateOf (in-first c qs b xs) rs))) l ≡ some p′)
-        ⊎ (takesOne (indent (depthOf c) (elseLine (scopeOf c) (afterOf c) (topOf (in-first c qs b xs)) (topOf c ∷ outerOf c) (rawsBytes rs)) ∷ []) l ≡ some p′) → Next (linesOf (in-first c qs b xs) rs ++ (l ∷ [])) p′
+        ⊎ (takesOne (indent (depthOf c) (elseIn c qs b xs rs) ∷ []) l ≡ some p′) → Next (linesOf (in-first c qs b xs) rs ++ (l ∷ [])) p′
     go (inl u) = statement-next (in-first c qs b xs) d rs (good-in-first g hs r row e o) gs l p′ u
-    go (inr u) = only (took-one (indent (depthOf c) (elseLine (scopeOf c) (afterOf c) (topOf (in-first c qs b xs)) (topOf c ∷ outerOf c) (rawsBytes rs))) [] l p′ u)
+    go (inr u) = only (took-one (indent (depthOf c) (elseIn c qs b xs rs)) [] l p′ u)
 any-next (in-second c qs b xs q) d rs (good-in-second g hs r row e o gq) gs f l p′ t =
-    go (took-one (indent (suc (depthOf c)) (statementLine (stateOf (in-second c qs b xs q) rs))) (linesAfter (scopeOf c) (afterOf c) (topOf c ∷ outerOf c) (((rawsBytes qs ++ (b ∷ xs)) ++ sized (rawsBytes q)) ++ sized (rawsBytes rs))) l p′ t)
+    go (took-one (indent (suc (depthOf c)) (statementLine (stateOf (in-second c qs b xs q) rs))) (afterIn c (((rawsBytes qs ++ (b ∷ xs)) ++ sized (rawsBytes q)) ++ sized (rawsBytes rs))) l p′ t)
     (λ fit u. any-next c (suc d) (snoc qs (fork b xs q rs)) g (snoc-good (scopeOf c) (suc d) qs (fork b xs q rs) hs (good-fork r row e o gq gs)) fit l p′ u)
   where
     go : (takes (indent (suc (depthOf c)) (statementLine (stateOf (in-second c qs b xs q) rs))) l ≡ some p′)
-        ⊎ (takesOne (linesAfter (scopeOf c) (afterOf c) (topOf c ∷ outerOf c) (((rawsBytes qs ++ (b ∷ xs)) ++ sized (rawsBytes q)) ++ sized (rawsBytes rs))) l ≡ some p′)
+        ⊎ (takesOne (afterIn c (((rawsBytes qs ++ (b ∷ xs)) ++ sized (rawsBytes q)) ++ sized (rawsBytes rs))) l ≡ some p′)
         → (least (stateOf c (snoc qs (fork b xs q rs))) ≤ 4096 → takesOne (lines (sofar (stateOf c (snoc qs (fork b xs q rs))))) l ≡ some p′ → Next (linesOf c (snoc qs (fork b xs q rs)) ++ (l ∷ [])) p′)
         → Next (linesOf (in-second c qs b xs q) rs ++ (l ∷ [])) p′
     go (inl u) rec = statement-next (in-second c qs b xs q) d rs (good-in-second g hs r row e o gq) gs l p′ u
@@ -499,7 +509,7 @@ any-next (in-second c qs b xs q) d rs (good-in-second g hs r row e o gq) gs f l 
         let lb = length-sized ((rawsBytes qs ++ (b ∷ xs)) ++ sized (rawsBytes q)) (rawsBytes rs) in
         let lf = ap length (fork-bytes qs b xs q rs) in
         subst (λ (z : List Line). Next (z ++ (l ∷ [])) p′) (fork-lines c qs b xs q rs)
-        (rec (omega arith) (ap (λ (z : List ℕ). takesOne (linesAfter (scopeOf c) (afterOf c) (topOf c ∷ outerOf c) z) l) (sym (fork-bytes qs b xs q rs)) ∙ u))
+        (rec (omega arith) (ap (λ (z : List ℕ). takesOne (afterIn c z) l) (sym (fork-bytes qs b xs q rs)) ∙ u))
 
 -- all lines
 all-next : (ls : List Line) (c : Ctx) (d : ℕ) (rs : Raws) → GoodCtx d c → Goods (scopeOf c) d rs → (p : Sofar) → p ≡ stateOf c rs → least p ≤ 4096 → (σ : State) → run (sofar p) ls ≡ some σ
@@ -543,7 +553,7 @@ complete (in-loop c qs b xs) d rs (good-in-loop g hs r row e o) gs f =
     let lf = ap length (loop-bytes qs b xs rs) in
     let R = complete c (suc d) (snoc qs (loop b xs rs)) g (snoc-good (scopeOf c) (suc d) qs (loop b xs rs) hs (good-loop r row e o gs)) (omega arith) in
     let F = closes-file (stateOf (in-loop c qs b xs) rs) (stateOf c (snoc qs (loop b xs rs)))
-    (closed (scopeOf c) (afterOf c) (topOf (in-loop c qs b xs)) (topOf c ∷ outerOf c) (rawsBytes rs) same refl (ap (state (scopeOf c) (afterOf c) (topOf c ∷ outerOf c)) (sym (loop-bytes qs b xs rs)))) in
+    (closed (scopeOf c) (afterOf c) (topOf (in-loop c qs b xs)) (topOf c ∷ outerOf c) (rawsBytes rs) same refl (ap (stateIn c) (sym (loop-bytes qs b xs rs)))) in
     (R .0, R .1, R .2, R .3 ∙ ap (λ (z : List Line). z ++ R .1) (loop-lines c qs b xs rs), λ z u. R .4 z (sym F ∙ u))
 complete (in-first c qs b xs) d rs (good-in-first g hs r row e o) gs f =
     let lb = length-sized ((rawsBytes qs ++ (b ∷ xs)) ++ sized (rawsBytes rs)) [] in
@@ -566,7 +576,7 @@ complete (in-second c qs b xs q) d rs (good-in-second g hs r row e o gq) gs f =
     let lf = ap length (fork-bytes qs b xs q rs) in
     let R = complete c (suc d) (snoc qs (fork b xs q rs)) g (snoc-good (scopeOf c) (suc d) qs (fork b xs q rs) hs (good-fork r row e o gq gs)) (omega arith) in
     let F = closes-file (stateOf (in-second c qs b xs q) rs) (stateOf c (snoc qs (fork b xs q rs)))
-    (closed (scopeOf c) (afterOf c) (topOf (in-second c qs b xs q)) (topOf c ∷ outerOf c) (rawsBytes rs) same refl (ap (state (scopeOf c) (afterOf c) (topOf c ∷ outerOf c)) (sym (fork-bytes qs b xs q rs)))) in
+    (closed (scopeOf c) (afterOf c) (topOf (in-second c qs b xs q)) (topOf c ∷ outerOf c) (rawsBytes rs) same refl (ap (stateIn c) (sym (fork-bytes qs b xs q rs)))) in
     (R .0, R .1, R .2, R .3 ∙ ap (λ (z : List Line). z ++ R .1) (fork-lines c qs b xs q rs), λ z u. R .4 z (sym F ∙ u))
 
 -- the empty program completes what is before the first function

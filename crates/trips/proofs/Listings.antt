@@ -5,7 +5,7 @@ use Rattle.trips.proofs.Reading.{Forth, Back}
 use Rattle.trips.proofs.Raw as raw
 use Rattle.trips.proofs.Offered.{proper-lines}
 use Rattle.trips.proofs.Running.{runs}
-use Rattle.trips.proofs.Standing.{runs-back}
+use Rattle.trips.proofs.Completing.{runs-back}
 use Rattle.trips.proofs.Readback.{reads-back}
 use Rattle.trips.proofs.Parsed.{reads}
 use Rattle.trips.proofs.Lengths as lengths

@@ -15,11 +15,14 @@ use Rattle.rules.specs.Grammar.{stop, word, takes, takesOne}
 use Rattle.rules.specs.Unlisting.{Sofar, State, fresh, sofar, sized, least, lines, file, header, programBegun}
 use Rattle.trips.proofs.Grammars.{none-not-some}
 use Rattle.trips.proofs.Reading.{run, ran}
+use Rattle.trips.proofs.Raw.{length-sized, fork, loop, Raws, end, rawsBytes, rawsLines, good-fork, good-loop, Goods, good-end, RawProgram, heads}
+use Rattle.trips.proofs.Raw.{functionsBytes, programBytes, rawProgramLines, no-functions, GoodProgram, RunsBack}
 use Rattle.trips.proofs.Running.{state, same, closed, closes-file, length-heads}
-use Rattle.trips.proofs.Raw.{length-sized, fork, loop, Raws, end, rawsBytes, rawsLines, good-fork, good-loop, Goods, good-end, RawProgram, heads, functionsBytes, programBytes, rawProgramLines, no-functions, GoodProgram, RunsBack}
 use Rattle.trips.proofs.Took.{took-one, took-word, took-stop}
 use Rattle.trips.proofs.More.{snoc, snoc-good, functions-good-snoc}
-use Rattle.trips.proofs.Places.{Ctx, in-function, in-main, in-loop, in-first, in-second, scopeOf, afterOf, topOf, outerOf, depthOf, stateIn, stateOf, firstLines, linesOf, GoodCtx, good-function, good-main, good-in-loop, good-in-first, good-in-second, loop-bytes, fork-bytes, loop-lines, fork-lines, first-lines, withBody, body-lines, body-bytes}
+use Rattle.trips.proofs.Places.{Ctx, in-function, in-main, in-loop, in-first, in-second, scopeOf, afterOf, topOf, outerOf, depthOf, stateIn, stateOf}
+use Rattle.trips.proofs.Places.{firstLines, linesOf, GoodCtx, good-function, good-main, good-in-loop, good-in-first, good-in-second, loop-bytes}
+use Rattle.trips.proofs.Places.{fork-bytes, loop-lines, fork-lines, first-lines, withBody, body-lines, body-bytes}
 use Rattle.trips.proofs.Following.{Next, top-next, all-next}
 
 -- Completing: due elses with nothing behind them, and main.

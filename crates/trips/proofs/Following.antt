@@ -8,24 +8,29 @@ use native.Mathlib.Omega.{arith}
 use Prim.Native.Nat.{ℕ, zero, suc, _+_, _<_, _≤_}
 use lib.Dec.{ltb, leb, leb→le, ltb→lt, nleb→lt}
 use lib.ListN.{getD, length, length-append, length-replicate, replicate}
-use Rattle.rules.specs.Basics.{upTo}
 use Rattle.rules.specs.declared.statements.Operand.the-variants.{Slot, Location}
+use Rattle.rules.specs.Basics.{upTo}
 use Rattle.rules.specs.Syntax.{Function}
-use Rattle.rules.specs.Table.{Meaning, simple, branches, loops, calls, Row, rowOf, size}
 use Rattle.rules.specs.Words.{Text, decimal}
 use Rattle.rules.specs.Names.{function, locations, arguments, main, else, at, with}
+use Rattle.rules.specs.Table.{Meaning, simple, branches, loops, calls, Row, rowOf, size}
 use Rattle.rules.specs.Listing.{headLine, Line, indented, listed}
 use Rattle.rules.specs.Grammar.{Grammar, stop, ask, word, takes, takesOne}
-use Rattle.rules.specs.Unlisting.{Sofar, State, sofar, sized, least, deeper, added, opened, operands, list, made, blocksOf, statementLine, indent, functionLine, mainLine, topLines, lines, functionBegun, mainBegun}
+use Rattle.rules.specs.Unlisting.{Sofar, State, sofar, sized, least, deeper, added, opened, operands, list, made, blocksOf, statementLine, indent}
+use Rattle.rules.specs.Unlisting.{functionLine, mainLine, topLines, lines, functionBegun, mainBegun}
 use Rattle.rules.proofs.Tests.{eq→T}
 use Rattle.trips.proofs.Grammars.{none-not-some}
 use Rattle.trips.proofs.Reading.{run, ran}
 use Rattle.trips.proofs.Offered.{topWith}
+use Rattle.trips.proofs.Raw.{length-sized, Raw, plain, called, fork, loop, Raws, end, rawBytes, rawsBytes, said, rawLine, rawLines, rawsLines}
+use Rattle.trips.proofs.Raw.{Operands, ranged-length, took-list, Good, good-plain, good-called, good-fork, good-loop, Goods, good-end, RawFunction}
+use Rattle.trips.proofs.Raw.{headOf, heads, functionsBytes, GoodFunctions}
 use Rattle.trips.proofs.Running.{size-xs, length-heads}
-use Rattle.trips.proofs.Raw.{length-sized, Raw, plain, called, fork, loop, Raws, end, rawBytes, rawsBytes, said, rawLine, rawLines, rawsLines, Operands, ranged-length, took-list, Good, good-plain, good-called, good-fork, good-loop, Goods, good-end, RawFunction, headOf, heads, functionsBytes, GoodFunctions}
 use Rattle.trips.proofs.Took.{Stated, stated, took-one, took-word, took-indent, took-number, took-stop, took-room, took-deeper}
 use Rattle.trips.proofs.More.{snoc, snoc-bytes, snoc-lines, snoc-good, heads-snoc, functions-good-snoc}
-use Rattle.trips.proofs.Places.{Ctx, in-function, in-main, in-loop, in-first, in-second, scopeOf, topOf, outerOf, depthOf, stateIn, stateOf, firstLines, ctxLines, afterIn, elseIn, linesOf, GoodCtx, good-function, good-main, good-in-loop, good-in-first, good-in-second, depths, loop-bytes, fork-bytes, loop-lines, fork-lines, first-lines, withBody, body-lines, body-bytes}
+use Rattle.trips.proofs.Places.{Ctx, in-function, in-main, in-loop, in-first, in-second, scopeOf, topOf, outerOf, depthOf, stateIn, stateOf}
+use Rattle.trips.proofs.Places.{firstLines, ctxLines, afterIn, elseIn, linesOf, GoodCtx, good-function, good-main, good-in-loop, good-in-first}
+use Rattle.trips.proofs.Places.{good-in-second, depths, loop-bytes, fork-bytes, loop-lines, fork-lines, first-lines, withBody, body-lines, body-bytes}
 
 -- What stands for the lines L.
 abbrev pub Next : List Line → Sofar → Type 0

@@ -8,21 +8,24 @@ use Prim.Native.Nat.{ℕ, zero, suc, _+_, _*_, _/_, _%_, _≤_}
 use lib.Dec.{ltb, leb, leb→le}
 use lib.ListN.{getD, length, length-append}
 use Rattle.answers.specs.Check.{ok}
-use Rattle.rules.specs.Basics.{all, chosen}
 use Rattle.rules.specs.declared.statements.Operand.{Operand}
 use Rattle.rules.specs.declared.statements.Operand.the-variants.{Slot, Location, Gate, Basis, Value, Callee, CalleeK, CalleeM, Nothing}
+use Rattle.rules.specs.Basics.{all, chosen}
 use Rattle.rules.specs.Syntax.{Function, Program}
-use Rattle.rules.specs.Table.{Row, rowOf, nameOf}
-use Rattle.rules.specs.Program.{Scope, readProgram}
 use Rattle.rules.specs.Words.{Text, space, newline, behind, join, written, decimal}
 use Rattle.rules.specs.Names.{gates, program, function, locations, arguments, main, else, at, with}
+use Rattle.rules.specs.Table.{Row, rowOf, nameOf}
+use Rattle.rules.specs.Program.{Scope, readProgram}
 use Rattle.rules.specs.Listing.{headLine, spoken, silent, Line, indented, listed, operandsIn, programLines}
 use Rattle.rules.specs.Unlisting.{sized}
-use Rattle.trips.specs.Trips.{Short}
 use Rattle.rules.proofs.Tests.{eq→T}
-use Rattle.trips.proofs.Reading.{listing-of}
-use Rattle.trips.proofs.Raw.{length-sized, sized-length, Raw, plain, called, fork, loop, Raws, end, _then_, rawBytes, rawsBytes, said, rawLine, rawLines, rawsLines, Operands, operands-length, Good, good-plain, good-called, good-fork, good-loop, Goods, good-then, RawFunction, RawProgram, headOf, heads, functionsBytes, programBytes, rawFunctions, rawProgramLines, GoodFunctions, a-function, GoodProgram}
+use Rattle.trips.specs.Trips.{Short}
 use Rattle.trips.proofs.Rows.{row-some, name-short}
+use Rattle.trips.proofs.Reading.{listing-of}
+use Rattle.trips.proofs.Raw.{length-sized, sized-length, Raw, plain, called, fork, loop, Raws, end, _then_, rawBytes, rawsBytes, said, rawLine}
+use Rattle.trips.proofs.Raw.{rawLines, rawsLines, Operands, operands-length, Good, good-plain, good-called, good-fork, good-loop, Goods, good-then}
+use Rattle.trips.proofs.Raw.{RawFunction, RawProgram, headOf, heads, functionsBytes, programBytes, rawFunctions, rawProgramLines, GoodFunctions}
+use Rattle.trips.proofs.Raw.{a-function, GoodProgram}
 use Rattle.trips.proofs.Parsed.{reads}
 
 -- the characters of a line, with its newline

@@ -4,8 +4,8 @@ use lib.ListN.{length}
 use Rattle.answers.specs.Check.{ok, _>>=_, _>>_}
 use Rattle.rules.specs.Listing.{listing}
 use Rattle.rules.specs.Unlisting.{unlisted}
-use Rattle.trips.proofs.Listings.{only-listings}
 use Rattle.trips.specs.Limits.{longest, NoCall, NoStatement, OnlyFree, NoInit, NoThen}
+use Rattle.trips.proofs.Listings.{only-listings}
 
 pub longest-length : length (longest .file) ≡ 4096
 longest-length = refl

@@ -2,8 +2,8 @@
 use Rattle.trips.specs.Trips.{RoundTrip, OnlyListings, OneProgram, Short, Refuses}
 use Rattle.trips.proofs.Reading as reading
 use Rattle.trips.proofs.Reading.{Forth, Back}
-use Rattle.trips.proofs.Raw as raw
 use Rattle.trips.proofs.Offered.{proper-lines}
+use Rattle.trips.proofs.Raw as raw
 use Rattle.trips.proofs.Running.{runs}
 use Rattle.trips.proofs.Completing.{runs-back}
 use Rattle.trips.proofs.Readback.{reads-back}

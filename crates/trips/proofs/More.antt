@@ -8,7 +8,8 @@ use Rattle.rules.specs.Syntax.{Function}
 use Rattle.rules.specs.Program.{Scope}
 use Rattle.rules.specs.Listing.{headLine, Line}
 use Rattle.rules.specs.Unlisting.{sized}
-use Rattle.trips.proofs.Raw.{Raw, Raws, end, _then_, rawBytes, rawsBytes, rawLines, rawsLines, Good, Goods, good-end, good-then, RawFunction, headOf, heads, functionsBytes, rawFunctions, GoodFunctions, no-functions, a-function}
+use Rattle.trips.proofs.Raw.{Raw, Raws, end, _then_, rawBytes, rawsBytes, rawLines, rawsLines, Good, Goods, good-end, good-then, RawFunction, headOf}
+use Rattle.trips.proofs.Raw.{heads, functionsBytes, rawFunctions, GoodFunctions, no-functions, a-function}
 
 -- One tree more.
 abbrev pub snoc : Raws → Raw → Raws

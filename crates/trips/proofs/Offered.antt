@@ -8,23 +8,24 @@ use native.Mathlib.Omega.{arith}
 use Prim.Native.Nat.{ℕ, zero, suc, _+_, _-_, _*_, _/_, _%_, _<_, _≤_}
 use lib.Dec.{T, eqb, eqb→eq, ltb, leb}
 use lib.ListN.{getD, length, replicate}
-use Rattle.rules.specs.Basics.{all, sameList, upTo}
-use Rattle.rules.proofs.Basics.{length-upTo, getD-upTo-zero, all-upTo}
 use Rattle.rules.specs.declared.statements.Operand.{Operand}
 use Rattle.rules.specs.declared.statements.Operand.the-variants.{Slot, Location, Gate, Basis, Value, Callee, CalleeK, CalleeM, Nothing}
+use Rattle.rules.specs.Basics.{all, sameList, upTo}
 use Rattle.rules.specs.Syntax as syntax
 use Rattle.rules.specs.Syntax.{Function}
-use Rattle.rules.specs.Table.{Meaning, simple, branches, loops, calls, Row, rowOf, size, names}
-use Rattle.rules.specs.Program.{Scope}
 use Rattle.rules.specs.Words.{Text, space, newline, decimal, place}
 use Rattle.rules.specs.Names.{gates, program, function, locations, arguments, main, else, at, with}
+use Rattle.rules.specs.Table.{Meaning, simple, branches, loops, calls, Row, rowOf, size, names}
+use Rattle.rules.specs.Program.{Scope}
 use Rattle.rules.specs.Listing.{spoken}
-use Rattle.rules.specs.Unlisting.{count, Opened, Sofar, fresh, sofar, sized, least, added, room, deeper, operand, others, operands, list, made, blocksOf, rowLine, statementLine, indent, functionLine, mainLine, topLines, linesAfter, elseBegun, programBegun}
 use Rattle.rules.specs.Grammar.{Grammar, stop, ask, dead, word, takes}
+use Rattle.rules.specs.Unlisting.{count, Opened, Sofar, fresh, sofar, sized, least, added, room, deeper, operand, others, operands, list, made, blocksOf}
+use Rattle.rules.specs.Unlisting.{rowLine, statementLine, indent, functionLine, mainLine, topLines, linesAfter, elseBegun, programBegun}
+use Rattle.rules.proofs.Basics.{length-upTo, getD-upTo-zero, all-upTo}
 use Rattle.rules.proofs.Tests.{T→eq, eq→T}
 use Rattle.trips.proofs.Texts.{Free}
-use Rattle.trips.proofs.Rows.{place-name}
 use Rattle.trips.proofs.Grammars.{same-word, word-same, both, Clean, Proper}
+use Rattle.trips.proofs.Rows.{place-name}
 use Rattle.trips.proofs.Reading.{AllProper, ProperLines}
 
 eqb-no : (m n : ℕ) → (m ≡ n → ⊥) → eqb m n ≡ false

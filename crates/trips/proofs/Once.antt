@@ -6,8 +6,8 @@ use mathlib.Core.Path.{_≡_, refl, sym, ap, subst, _∙_}
 use native.Mathlib.Omega.{arith}
 use Prim.Native.Nat.{ℕ}
 use lib.ListN.{length}
-use Rattle.answers.specs.Check.{ok, refused, refusal}
 use Rattle.answers.specs.declared.Refusal.{Refusal}
+use Rattle.answers.specs.Check.{ok, refused, refusal}
 use Rattle.answers.proofs.Laws.{ok-or-refused}
 use Rattle.rules.specs.Words.{Text, newline}
 use Rattle.rules.specs.Listing.{listing}

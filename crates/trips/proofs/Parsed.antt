@@ -11,23 +11,27 @@ use lib.ListN.{length, length-append, length-replicate, replicate}
 use Rattle.answers.specs.Check.{Check}
 use Rattle.answers.proofs.Laws.{Holds, not-ok, by, holds-bind, holds-then, holds-need, holds-map, holds-at}
 use Rattle.rules.specs.declared.program.FunctionHeader.{FunctionHeader}
-use Rattle.rules.specs.Basics.{all, upTo, byte, word, hasMark}
-use Rattle.rules.proofs.Basics.{length-upTo, getD-upTo}
 use Rattle.rules.specs.declared.statements.Operand.{Operand}
 use Rattle.rules.specs.declared.statements.Operand.the-variants.{Slot, Location}
+use Rattle.rules.specs.Basics.{all, upTo, byte, word, hasMark}
 use Rattle.rules.specs.Syntax.{Side, device, parameter, Place, Statement, call, Statements, Block, Function, Program}
-use Rattle.rules.specs.Table.{Meaning, simple, branches, loops, calls, Row, rowOf, size}
-use Rattle.rules.specs.Program.{Read, Scope, inRange, known, operands, meant, statement, statements, readBlock, functionHeader, programHeader, functionsAt, readProgram}
-use Rattle.rules.proofs.Tests.{eqb-true, at-most, not-below, and-left, and-right}
 use Rattle.rules.specs.Words.{decimal}
-use Rattle.rules.specs.Names.{at, with, else}
 use Rattle.rules.specs.Names as names
+use Rattle.rules.specs.Names.{at, with, else}
+use Rattle.rules.specs.Table.{Meaning, simple, branches, loops, calls, Row, rowOf, size}
+use Rattle.rules.specs.Program.{Read, Scope, inRange, known, operands, meant, statement, statements, readBlock, functionHeader, programHeader, functionsAt}
+use Rattle.rules.specs.Program.{readProgram}
 use Rattle.rules.specs.Listing.{headLine, Line, indented, listed, statementLines, statementsLines, blockLines, functionsLines, programLines}
 use Rattle.rules.specs.Unlisting.{sized}
+use Rattle.rules.proofs.Basics.{length-upTo, getD-upTo}
+use Rattle.rules.proofs.Tests.{eqb-true, at-most, not-below, and-left, and-right}
 use Rattle.trips.specs.Trips.{Bytes}
 use Rattle.trips.proofs.Grammars.{both}
-use Rattle.trips.proofs.Raw.{length-sized, sized-length, Raw, plain, called, fork, loop, Raws, end, _then_, rawBytes, rawsBytes, rawLine, rawLines, rawsLines, Within, Ranged, Operands, Good, good-plain, good-called, good-fork, good-loop, Goods, good-end, good-then, RawFunction, RawProgram, headOf, heads, functionsBytes, programBytes, rawFunctions, rawProgramLines, GoodFunctions, no-functions, a-function, GoodProgram, Reads}
 use Rattle.trips.proofs.Rows.{headSpoken, isOperand, row-head, row-operands, row-calls}
+use Rattle.trips.proofs.Raw.{length-sized, sized-length, Raw, plain, called, fork, loop, Raws, end, _then_, rawBytes, rawsBytes, rawLine, rawLines}
+use Rattle.trips.proofs.Raw.{rawsLines, Within, Ranged, Operands, Good, good-plain, good-called, good-fork, good-loop, Goods, good-end, good-then}
+use Rattle.trips.proofs.Raw.{RawFunction, RawProgram, headOf, heads, functionsBytes, programBytes, rawFunctions, rawProgramLines, GoodFunctions}
+use Rattle.trips.proofs.Raw.{no-functions, a-function, GoodProgram, Reads}
 use Rattle.trips.proofs.Placed.{At, at-end, at-append, at-upTo, at-all, stub, stubbed, map-snoc, withins, ranged-operands}
 use Rattle.trips.proofs.Readback.{moved, fixed-line, map-places}
 

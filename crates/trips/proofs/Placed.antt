@@ -8,9 +8,9 @@ use Prim.Native.Nat.{ℕ, zero, suc, _+_, _/_, _%_, _<_, _≤_}
 use lib.Dec.{eqb, ltb, eqb→eq, eqb-refl, ltb→lt, lt→ltb}
 use lib.ListN.{getD, length, length-append, length-map, List·getD-map}
 use lib.Seq.{ext-getD, getD-append-seam}
-use Rattle.rules.specs.Basics.{chosen, upTo, byte, word}
 use Rattle.rules.specs.declared.statements.Operand.{Operand}
 use Rattle.rules.specs.declared.statements.Operand.the-variants.{Slot, Location, Gate, Basis, Value, Callee, CalleeK, CalleeM, Nothing}
+use Rattle.rules.specs.Basics.{chosen, upTo, byte, word}
 use Rattle.rules.specs.Syntax as syntax
 use Rattle.rules.specs.Syntax.{Function, block, done}
 use Rattle.rules.specs.Program.{Scope, inRange}

@@ -8,16 +8,17 @@ use native.Mathlib.Omega.{arith}
 use Prim.Native.Nat.{ℕ, suc, _+_, _<_, _≤_}
 use lib.ListN.{length}
 use Rattle.rules.specs.Syntax.{Function}
-use Rattle.rules.specs.Table.{branches, loops, Row, rowOf}
-use Rattle.rules.specs.Program.{Scope}
 use Rattle.rules.specs.Words.{decimal}
 use Rattle.rules.specs.Names.{program, main, else}
+use Rattle.rules.specs.Table.{branches, loops, Row, rowOf}
+use Rattle.rules.specs.Program.{Scope}
 use Rattle.rules.specs.Listing.{headLine, Line, indented}
 use Rattle.rules.specs.Grammar.{Grammar}
 use Rattle.rules.specs.Unlisting.{Opened, Sofar, sized, operands, linesAfter}
 use Rattle.trips.proofs.Offered.{elseLine}
+use Rattle.trips.proofs.Raw.{fork, loop, Raws, end, rawsBytes, rawLine, rawsLines, Operands, Goods, RawFunction, headOf, heads, functionsBytes}
+use Rattle.trips.proofs.Raw.{rawFunctions, GoodFunctions}
 use Rattle.trips.proofs.Running.{state}
-use Rattle.trips.proofs.Raw.{fork, loop, Raws, end, rawsBytes, rawLine, rawsLines, Operands, Goods, RawFunction, headOf, heads, functionsBytes, rawFunctions, GoodFunctions}
 use Rattle.trips.proofs.More.{snoc, snoc-bytes, snoc-lines, functions-bytes-snoc, functions-lines-snoc}
 
 -- A place in a program: the open blocks, with what stands before them.

@@ -7,22 +7,22 @@ use mathlib.Core.Path.{_≡_, refl, sym, ap, subst, _∙_}
 use native.Mathlib.Omega.{arith}
 use Prim.Native.Nat.{ℕ, zero, suc, _+_, _<_, _≤_}
 use lib.ListN.{getD, length, length-append, replicate}
-use Rattle.rules.specs.Basics.{chosen}
-use Rattle.rules.proofs.Basics.{length-upTo, getD-upTo-zero}
+use Rattle.answers.specs.Check.{ok}
 use Rattle.rules.specs.declared.statements.Operand.{Operand}
 use Rattle.rules.specs.declared.statements.Operand.the-variants.{Slot, Location, Gate, Basis, Value, Callee, CalleeK, CalleeM, Nothing}
+use Rattle.rules.specs.Basics.{chosen}
 use Rattle.rules.specs.Syntax as syntax
 use Rattle.rules.specs.Syntax.{Side, Op, Function, Program, block, done}
+use Rattle.rules.specs.Words.{Text, decimal, place}
+use Rattle.rules.specs.Names.{program, function, main, else, at, with}
 use Rattle.rules.specs.Table.{simple, branches, loops, calls, Row, rowOf, nameOf}
 use Rattle.rules.specs.Program.{Scope, readProgram}
-use Rattle.answers.specs.Check.{ok}
-use Rattle.rules.specs.Words.{Text, decimal, place}
 use Rattle.rules.specs.Listing.{headLine, spoken, silent, Line, indented, listed, operandsIn, programLines}
-use Rattle.rules.specs.Unlisting.{count, wordsFor, State, fresh, file, header, sized, operand, others, operands, list}
-use Rattle.rules.specs.Names.{program, function, main, else, at, with}
 use Rattle.rules.specs.Grammar.{Grammar, ask, takes}
-use Rattle.trips.proofs.Grammars.{none-not-some, word-same, place-found, takes-next, took}
+use Rattle.rules.specs.Unlisting.{count, wordsFor, State, fresh, file, header, sized, operand, others, operands, list}
+use Rattle.rules.proofs.Basics.{length-upTo, getD-upTo-zero}
 use Rattle.trips.specs.Trips.{Bytes}
+use Rattle.trips.proofs.Grammars.{none-not-some, word-same, place-found, takes-next, took}
 use Rattle.trips.proofs.Reading.{run, Forth, Back}
 use Rattle.trips.proofs.Offered.{place-numbered, apart-spoken}
 

@@ -11,22 +11,26 @@ use lib.ListN.{getD, length, length-append, length-replicate, replicate}
 use Rattle.answers.specs.Check.{Check, ok, _>>=_, _>>_, need}
 use Rattle.rules.specs.declared.program.FunctionHeader.{FunctionHeader}
 use Rattle.rules.specs.declared.program.ProgramHeader.{ProgramHeader}
-use Rattle.rules.specs.Basics.{upTo, byte, word, hasMark}
 use Rattle.rules.specs.declared.statements.Operand.{Operand}
 use Rattle.rules.specs.declared.statements.Operand.the-variants.{Slot, Location}
+use Rattle.rules.specs.Basics.{upTo, byte, word, hasMark}
 use Rattle.rules.specs.Syntax.{Side, device, parameter, Place, Statement, op, if, while, call, Statements, done, _⨾_, Block, block, Function, Program}
-use Rattle.rules.specs.Table.{Meaning, calls, Row, rowOf, size, nameOf}
-use Rattle.rules.specs.Program.{Read, Scope, inRange, known, operands, meant, statement, statements, readBlock, functionHeader, functionsAt, readProgram}
 use Rattle.rules.specs.Words.{decimal}
 use Rattle.rules.specs.Names as names
 use Rattle.rules.specs.Names.{at, with, else}
+use Rattle.rules.specs.Table.{Meaning, calls, Row, rowOf, size, nameOf}
+use Rattle.rules.specs.Program.{Read, Scope, inRange, known, operands, meant, statement, statements, readBlock, functionHeader, functionsAt, readProgram}
 use Rattle.rules.specs.Listing.{headLine, Line, indented, listed, operandsIn, words, fixedLine, statementLines, statementsLines, blockLines, functionsLines}
 use Rattle.rules.specs.Unlisting.{sized}
 use Rattle.rules.proofs.Tests.{T→eq, eq→T}
-use Rattle.trips.proofs.Raw.{length-sized, sized-length, Raw, plain, called, fork, loop, Raws, end, _then_, rawBytes, rawsBytes, said, rawLine, rawLines, rawsLines, Within, Ranged, Operands, ranged-length, operands-length, Good, good-plain, good-called, good-fork, good-loop, Goods, good-then, RawFunction, headOf, heads, functionsBytes, programBytes, rawFunctions, GoodFunctions, a-function, ReadsBack}
-use Rattle.trips.proofs.Running.{size-xs, length-heads}
 use Rattle.trips.proofs.Rows.{row-head, row-calls}
-use Rattle.trips.proofs.Placed.{At, at-end, at-left, at-right, at-byte, upTo-at, at-whole, stub, stubbed, map-snoc, ranges, operands-ranged, words-said}
+use Rattle.trips.proofs.Raw.{length-sized, sized-length, Raw, plain, called, fork, loop, Raws, end, _then_, rawBytes, rawsBytes, said, rawLine}
+use Rattle.trips.proofs.Raw.{rawLines, rawsLines, Within, Ranged, Operands, ranged-length, operands-length, Good, good-plain, good-called, good-fork}
+use Rattle.trips.proofs.Raw.{good-loop, Goods, good-then, RawFunction, headOf, heads, functionsBytes, programBytes, rawFunctions, GoodFunctions}
+use Rattle.trips.proofs.Raw.{a-function, ReadsBack}
+use Rattle.trips.proofs.Running.{size-xs, length-heads}
+use Rattle.trips.proofs.Placed.{At, at-end, at-left, at-right, at-byte, upTo-at, at-whole, stub, stubbed, map-snoc, ranges, operands-ranged}
+use Rattle.trips.proofs.Placed.{words-said}
 use Rattle.trips.proofs.Small.{raws-bytes, bytes-append, bytes-sized, small-none, functions-bytes}
 
 leb-yes : (m n : ℕ) → m ≤ n → leb m n ≡ true

@@ -8,19 +8,20 @@ use mathlib.Core.Path.{_≡_, refl, sym, ap, subst, _∙_}
 use native.Mathlib.Omega.{arith}
 use Prim.Native.Nat.{ℕ, suc, _+_}
 use lib.ListN.{length, length-append}
-use Rattle.answers.specs.Check.{Check, ok, refused, refusal, _>>=_, _>>_, need}
 use Rattle.answers.specs.declared.Refusal.{Refusal}
+use Rattle.answers.specs.Check.{Check, ok, refused, refusal, _>>=_, _>>_, need}
 use Rattle.answers.proofs.Laws.{ok-not-refused}
 use Rattle.rules.specs.Syntax.{Program}
-use Rattle.rules.specs.Program.{readProgram}
 use Rattle.rules.specs.Words.{Text, space, newline, split, join, written}
+use Rattle.rules.specs.Program.{readProgram}
 use Rattle.rules.specs.Listing.{Line, programLines, listing}
 use Rattle.rules.specs.Grammar.{Grammar, takes, starts, takesOne, startsOne}
 use Rattle.rules.specs.Unlisting.{Sofar, State, fresh, sofar, lines, file, ending, follow, unlisted}
 use Rattle.trips.specs.Trips.{Bytes, Begins, RoundTrip, OnlyListings, OneProgram, Stops, at-line, at-end, Refuses}
 use Rattle.trips.proofs.Texts.{Free, AllFree, split-shape, join-split, split-free, split-seam, peel}
 use Rattle.trips.proofs.Grammars.{none-not-some, Longer, longer, CleanLine, Proper, takes-clean, starts-begun, begun-starts}
-use Rattle.trips.proofs.Lines.{CleanWords, CleanLines, line-free, split-line, nil-not-mid, written-front, written-append, written-line, whole, unbroken}
+use Rattle.trips.proofs.Lines.{CleanWords, CleanLines, line-free, split-line, nil-not-mid, written-front, written-append, written-line, whole}
+use Rattle.trips.proofs.Lines.{unbroken}
 
 -- Lines one after the other.
 abbrev pub run : State → List Line → Option State

@@ -8,22 +8,26 @@ use native.Mathlib.Omega.{arith}
 use Prim.Native.Nat.{ℕ, zero, suc, _+_, _<_, _≤_}
 use lib.Dec.{T, ltb, leb, le→leb, lt→ltb}
 use lib.ListN.{getD, length, length-append, length-replicate, replicate}
-use Rattle.rules.specs.Basics.{upTo}
 use Rattle.rules.specs.declared.statements.Operand.the-variants.{Slot, Location}
+use Rattle.rules.specs.Basics.{upTo}
 use Rattle.rules.specs.Syntax.{Function}
+use Rattle.rules.specs.Words.{Text, decimal}
+use Rattle.rules.specs.Names.{locations, arguments, main, else, at, with}
 use Rattle.rules.specs.Table.{Meaning, simple, branches, loops, calls, Row, table, rowOf, size, names, nameOf}
 use Rattle.rules.specs.Program.{Scope}
-use Rattle.rules.specs.Words.{Text, decimal}
 use Rattle.rules.specs.Listing.{headLine, Line, indented, listed, operandsIn}
-use Rattle.rules.specs.Names.{locations, arguments, main, else, at, with}
 use Rattle.rules.specs.Grammar.{Grammar, stop, ask, dead, word, takes, takesOne}
-use Rattle.rules.specs.Unlisting.{Opened, Sofar, sofar, sized, least, room, deeper, added, operands, list, made, blocksOf, rowLine, statementLine, indent, functionLine, mainLine, lines, ended, file, header, functionBegun, mainBegun, programBegun}
+use Rattle.rules.specs.Unlisting.{Opened, Sofar, sofar, sized, least, room, deeper, added, operands, list, made, blocksOf, rowLine, statementLine, indent}
+use Rattle.rules.specs.Unlisting.{functionLine, mainLine, lines, ended, file, header, functionBegun, mainBegun, programBegun}
 use Rattle.rules.proofs.Tests.{T→eq}
 use Rattle.trips.proofs.Grammars.{none-not-some, word-same, takes-next}
+use Rattle.trips.proofs.Rows.{byte-of-row, name-filled, name-at, place-name}
 use Rattle.trips.proofs.Reading.{run, run-next, run-on}
 use Rattle.trips.proofs.Offered.{afterBlock, topWith, place-numbered, apart-decimal, elseLine}
-use Rattle.trips.proofs.Rows.{byte-of-row, name-filled, name-at, place-name}
-use Rattle.trips.proofs.Raw.{length-sized, sized-length, Raw, plain, called, fork, loop, Raws, end, _then_, rawBytes, rawsBytes, said, rawLine, rawLines, rawsLines, Operands, ranged-length, operands-length, takes-operands, takes-list, Good, good-plain, good-called, good-fork, good-loop, Goods, good-then, RawFunction, headOf, heads, functionsBytes, programBytes, rawFunctions, GoodFunctions, a-function, Runs}
+use Rattle.trips.proofs.Raw.{length-sized, sized-length, Raw, plain, called, fork, loop, Raws, end, _then_, rawBytes, rawsBytes, said, rawLine}
+use Rattle.trips.proofs.Raw.{rawLines, rawsLines, Operands, ranged-length, operands-length, takes-operands, takes-list, Good, good-plain, good-called}
+use Rattle.trips.proofs.Raw.{good-fork, good-loop, Goods, good-then, RawFunction, headOf, heads, functionsBytes, programBytes, rawFunctions}
+use Rattle.trips.proofs.Raw.{GoodFunctions, a-function, Runs}
 
 abbrev pub state : Scope → Option (List Function) → List Opened → List ℕ → Sofar
 state S a bs bytes = record { scope = S; after = a; open-blocks = bs; bytes = bytes }

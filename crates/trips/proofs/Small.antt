@@ -11,9 +11,11 @@ use Rattle.rules.specs.Syntax.{Function, function}
 use Rattle.rules.specs.Table.{Row, table, rowOf}
 use Rattle.rules.specs.Program.{Scope, operands}
 use Rattle.rules.specs.Unlisting.{sized}
-use Rattle.trips.proofs.Raw.{length-sized, sized-length, Raw, plain, called, fork, loop, Raws, end, _then_, rawBytes, rawsBytes, Within, Ranged, Operands, Good, good-plain, good-called, good-fork, good-loop, Goods, good-then, RawFunction, headOf, heads, functionsBytes, GoodFunctions, a-function}
 use Rattle.trips.specs.Trips.{Bytes}
 use Rattle.trips.proofs.Rows.{byte-of-row}
+use Rattle.trips.proofs.Raw.{length-sized, sized-length, Raw, plain, called, fork, loop, Raws, end, _then_, rawBytes, rawsBytes, Within, Ranged}
+use Rattle.trips.proofs.Raw.{Operands, Good, good-plain, good-called, good-fork, good-loop, Goods, good-then, RawFunction, headOf, heads}
+use Rattle.trips.proofs.Raw.{functionsBytes, GoodFunctions, a-function}
 
 -- Bytes.
 pub bytes-append : (xs ys : List ℕ) → Bytes xs → Bytes ys → Bytes (xs ++ ys)

@@ -4,8 +4,8 @@ use mathlib.Core.List.{List, [], _∷_, _++_, append-nil}
 use mathlib.Core.Path.{_≡_, refl, sym, ap, _∙_}
 use Prim.Native.Nat.{ℕ}
 use lib.Dec.{eqb, eqb→eq, eqb-refl}
-use Rattle.rules.proofs.Tests.{T→eq, eq→T}
 use Rattle.rules.specs.Words.{Text, onto, split, behind, join}
+use Rattle.rules.proofs.Tests.{T→eq, eq→T}
 
 -- no character of the text is c
 abbrev pub Free : ℕ → Text → Type 0

@@ -9,12 +9,12 @@ use Prim.Native.Nat.{ℕ, zero, suc, _+_, _<_, _≤_}
 use lib.Dec.{ltb, leb, leb→le, ltb→lt}
 use lib.ListN.{getD, length}
 use Rattle.rules.specs.Basics.{upTo}
-use Rattle.rules.proofs.Basics.{length-upTo, getD-upTo-zero}
-use Rattle.rules.specs.Table.{Row, rowOf, size, names, nameOf}
 use Rattle.rules.specs.Words.{Text, decimal, place}
+use Rattle.rules.specs.Table.{Row, rowOf, size, names, nameOf}
 use Rattle.rules.specs.Listing.{Line, indented, operandsIn}
 use Rattle.rules.specs.Grammar.{Grammar, stop, ask, dead, word, takes, takesOne}
 use Rattle.rules.specs.Unlisting.{Sofar, least, room, deeper, operands, made, blocksOf, rowLine, statementLine, indent}
+use Rattle.rules.proofs.Basics.{length-upTo, getD-upTo-zero}
 use Rattle.rules.proofs.Tests.{eq→T}
 use Rattle.trips.proofs.Grammars.{none-not-some, place-found, took}
 use Rattle.trips.proofs.Rows.{name-at}

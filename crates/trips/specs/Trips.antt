@@ -1,13 +1,13 @@
 -- What is claimed of listings, as types. `listing s ≡ ok t` says that s is a readable program and t its listing.
+use mathlib.Core.Bool.{false}
 use mathlib.Core.List.{List, [], _∷_, _++_}
 use mathlib.Core.Logic.{_⊎_, _↔_}
 use mathlib.Core.Path.{_≡_}
 use Prim.Native.Nat.{ℕ, _<_, _≤_}
 use lib.Dec.{eqb}
-use mathlib.Core.Bool.{false}
 use lib.ListN.{length}
-use Rattle.answers.specs.Check.{ok, refused, refusal}
 use Rattle.answers.specs.declared.Refusal.{Refusal}
+use Rattle.answers.specs.Check.{ok, refused, refusal}
 use Rattle.rules.specs.Words.{Text, newline}
 use Rattle.rules.specs.Listing.{listing}
 use Rattle.rules.specs.Unlisting.{unlisted}

@@ -63,8 +63,7 @@ complete (in-first c qs b xs) d rs (good-in-first g hs r row e o) gs f =
     let lb = length-sized ((rawsBytes qs ++ (b ∷ xs)) ++ sized (rawsBytes rs)) [] in
     let lc = length-sized (rawsBytes qs ++ (b ∷ xs)) (rawsBytes rs) in
     let lf = ap length (fork-bytes qs b xs rs end) in
-    let R = complete c (suc d) (snoc qs (fork b xs rs end)) g (snoc-good (scopeOf c) (suc d) qs (fork b xs rs end) hs (good-fork r row e o gs good-end)) (omega arith) in
-    let m : Line = indented (depthOf c) (else ∷ []) in (
+    let R = complete c (suc d) (snoc qs (fork b xs rs end)) g (snoc-good (scopeOf c) (suc d) qs (fork b xs rs end) hs (good-fork r row e o gs good-end)) (omega arith) in (
       R .0,
       indented (depthOf c) (else ∷ []) ∷ R .1,
       R .2,

@@ -53,8 +53,6 @@ grown c d rs g gs r h l e f =
 
 statement-next : (c : Ctx) (d : ℕ) (rs : Raws) → GoodCtx d c → Goods (scopeOf c) d rs → (l : Line) (p′ : Sofar) → takes (indent (depthOf c) (statementLine (stateOf c rs))) l ≡ some p′ → Next (linesOf c rs ++ (l ∷ [])) p′
 statement-next c d rs g gs l p′ h =
-    let p : Sofar = stateOf c rs in
-    let n : ℕ = depthOf c in
     let I = took-indent (depthOf c) (statementLine (stateOf c rs)) l p′ h in
     let s : Stated (stateOf c rs) (I .0) p′ = stated (stateOf c rs) (I .0) p′ (I .2) in
     subst (λ (z : Line). Next (linesOf c rs ++ (z ∷ [])) p′) (sym (I .1 ∙ ap (indented (depthOf c)) (s .5)))
@@ -74,16 +72,16 @@ statement-next c d rs g gs l p′ h =
         let K : ℕ = getD xs 1 0 in
         let M : ℕ = getD xs 2 0 in
         let g₂ : List ℕ → List ℕ → Grammar Sofar = λ ls ms. stop (some (added (stateOf c rs) ((b ∷ xs) ++ (ls ++ ms)))) in
-        let g₁ : List ℕ → Grammar Sofar = λ ls. list (scopeOf c) with Slot (getD xs 2 0) (g₂ ls) in
-        let R = took-room (stateOf c rs) (suc (length xs) + getD xs 1 0 + getD xs 2 0) (list (scopeOf c) at Location (getD xs 1 0) g₁) vs p′ k in
-        let A = took-list (scopeOf c) at Location refl (λ x. refl) (getD xs 1 0) g₁ vs p′ (R .1) in
-        let W = took-list (scopeOf c) with Slot refl (λ x. refl) (getD xs 2 0) (g₂ (A .0)) (A .1) p′ (A .4) in
+        let g₁ : List ℕ → Grammar Sofar = λ ls. list (scopeOf c) with Slot M (g₂ ls) in
+        let R = took-room (stateOf c rs) (suc (length xs) + getD xs 1 0 + getD xs 2 0) (list (scopeOf c) at Location K g₁) vs p′ k in
+        let A = took-list (scopeOf c) at Location refl (λ x. refl) K g₁ vs p′ (R .1) in
+        let W = took-list (scopeOf c) with Slot refl (λ x. refl) M (g₂ (A .0)) (A .1) p′ (A .4) in
         let t = took-stop (added (stateOf c rs) ((b ∷ xs) ++ (A .0 ++ W .0))) (W .1) p′ (W .4) in
         let v = A .2 ∙ ap (λ (u : List Text). listed at (A .0) ++ u) (W .2 ∙ ap (λ (u : List Text). listed with (W .0) ++ u) (t .0) ∙ append-nil (listed with (W .0))) in
-        let la : length (A .0) ≡ length (replicate (getD xs 1 0) Location) = ranged-length (scopeOf c) 0 (replicate (getD xs 1 0) Location) (A .0) (A .3) in
-        let lw : length (W .0) ≡ length (replicate (getD xs 2 0) Slot) = ranged-length (scopeOf c) 0 (replicate (getD xs 2 0) Slot) (W .0) (W .3) in
-        let la′ : length (replicate (getD xs 1 0) Location) ≡ getD xs 1 0 = length-replicate (getD xs 1 0) Location in
-        let lw′ : length (replicate (getD xs 2 0) Slot) ≡ getD xs 2 0 = length-replicate (getD xs 2 0) Slot in
+        let la : length (A .0) ≡ length (replicate K Location) = ranged-length (scopeOf c) 0 (replicate K Location) (A .0) (A .3) in
+        let lw : length (W .0) ≡ length (replicate M Slot) = ranged-length (scopeOf c) 0 (replicate M Slot) (W .0) (W .3) in
+        let la′ : length (replicate K Location) ≡ getD xs 1 0 = length-replicate K Location in
+        let lw′ : length (replicate M Slot) ≡ getD xs 2 0 = length-replicate M Slot in
         let lx : length (xs ++ (A .0 ++ W .0)) ≡ length xs + length (A .0 ++ W .0) = length-append xs (A .0 ++ W .0) in
         let ly : length (A .0 ++ W .0) ≡ length (A .0) + length (W .0) = length-append (A .0) (W .0) in
         let lr : least (stateOf c rs) + (suc (length xs) + getD xs 1 0 + getD xs 2 0) ≤ 4096 = R .0 in
@@ -130,21 +128,21 @@ function-next fs g n f l p′ h =
     let hs : List Function = heads fs in
     let F : List ℕ = functionsBytes fs in
     let M : ℕ → ℕ = λ k. suc (elim (leb k 8) [ true ↦ k | false ↦ 8 ]) in
-    let g₃ : ℕ → Grammar Sofar = λ k. ask none (upTo 0 (M k) decimal) λ m. stop (some (functionBegun (heads fs) (functionsBytes fs) k m)) in
+    let g₃ : ℕ → Grammar Sofar = λ k. ask none (upTo 0 (M k) decimal) λ m. stop (some (functionBegun hs F k m)) in
     let g₂ : Grammar Sofar = ask none (upTo 0 17 decimal) λ k. word arguments (g₃ k) in
-    let a = took-word function (word (decimal (length (heads fs))) (word locations g₂)) l p′ h in
-    let b = took-word (decimal (length (heads fs))) (word locations g₂) (a .0) p′ (a .2) in
+    let a = took-word function (word (decimal (length hs)) (word locations g₂)) l p′ h in
+    let b = took-word (decimal (length hs)) (word locations g₂) (a .0) p′ (a .2) in
     let c : (vs : List Text) × (b .0 ≡ locations ∷ vs) × (takes g₂ vs ≡ some p′) = took-word locations g₂ (b .0) p′ (b .2) in
     let d = took-number 17 (λ k. word arguments (g₃ k)) (c .0) p′ (c .2) in
     let e : (vs : List Text) × (d .1 ≡ arguments ∷ vs) × (takes (g₃ (d .0)) vs ≡ some p′) = took-word arguments (g₃ (d .0)) (d .1) p′ (d .4) in
-    let i = took-number (M (d .0)) (λ m. stop (some (functionBegun (heads fs) (functionsBytes fs) (d .0) m))) (e .0) p′ (e .2) in
-    let j = took-stop (functionBegun (heads fs) (functionsBytes fs) (d .0) (i .0)) (i .1) p′ (i .4) in
+    let i = took-number (M (d .0)) (λ m. stop (some (functionBegun hs F (d .0) m))) (e .0) p′ (e .2) in
+    let j = took-stop (functionBegun hs F (d .0) (i .0)) (i .1) p′ (i .4) in
     let m8 : (i .0 ≤ 8) × (i .0 ≤ d .0) = at-most-8 (d .0) (i .0) (i .3) in
     let k16 : d .0 ≤ 16 = omega (arith, d .3) in
     let line = a .1 ∙ ap (λ (z : List Text). function ∷ z) (b .1 ∙ ap (λ (z : ℕ). decimal z ∷ b .0) (length-heads fs)
     ∙ ap (λ (z : List Text). decimal (length fs) ∷ z) (c .1 ∙ ap (λ (z : List Text). locations ∷ z) (d .2 ∙ ap (λ (z : List Text). decimal (d .0) ∷ z) (e .1 ∙ ap (λ (z : List Text). arguments ∷ z) (i .2 ∙ ap (λ (z : List Text). decimal (i .0) ∷ z) (j .0)))))) in
-    let lf = length-append (functionsBytes fs) (d .0 ∷ i .0 ∷ []) in
-    let fit : least (functionBegun (heads fs) (functionsBytes fs) (d .0) (i .0)) ≤ 4096 = omega arith in (
+    let lf = length-append F (d .0 ∷ i .0 ∷ []) in
+    let fit : least (functionBegun hs F (d .0) (i .0)) ≤ 4096 = omega arith in (
       in-function fs (d .0) (i .0),
       7,
       end,

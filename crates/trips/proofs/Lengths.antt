@@ -4,7 +4,7 @@ use mathlib.Core.List.{List, [], _∷_, _++_, append-assoc, append-nil, map}
 use mathlib.Core.Option.{some}
 use mathlib.Core.Path.{_≡_, refl, sym, ap, subst, _∙_}
 use native.Mathlib.Omega.{arith}
-use Prim.Native.Nat.{ℕ, zero, suc, _+_, _*_, _/_, _%_, _≤_}
+use Prim.Native.Nat.{ℕ, zero, suc, _+_, _*_, _≤_}
 use lib.Dec.{ltb, leb, leb→le}
 use lib.ListN.{getD, length, length-append}
 use Rattle.answers.specs.Check.{ok}
@@ -22,6 +22,7 @@ use Rattle.rules.proofs.Tests.{eq→T}
 use Rattle.trips.specs.Trips.{Short}
 use Rattle.trips.proofs.Rows.{row-some, name-short}
 use Rattle.trips.proofs.Reading.{listing-of}
+use Rattle.trips.proofs.Offered.{digits}
 use Rattle.trips.proofs.Raw.{length-sized, sized-length, Raw, plain, called, fork, loop, Raws, end, _then_, rawBytes, rawsBytes, said, rawLine}
 use Rattle.trips.proofs.Raw.{rawLines, rawsLines, Operands, operands-length, Good, good-plain, good-called, good-fork, good-loop, Goods, good-then}
 use Rattle.trips.proofs.Raw.{RawFunction, RawProgram, headOf, heads, functionsBytes, programBytes, rawFunctions, rawProgramLines, GoodFunctions}
@@ -56,7 +57,7 @@ length-indented (suc n) w ws t = let r = weight-indented n (w ∷ ws) in length-
 short-decimal : (n : ℕ) → length (decimal n) ≤ 3
 short-decimal n = go (ltb n 10) (ltb n 100)
   where
-    go : (a b : Bool) → length {A = ℕ} (elim a [ true ↦ (0x30 + n) ∷ [] | false ↦ elim b [ true ↦ (0x30 + n / 10) ∷ (0x30 + n % 10) ∷ [] | false ↦ (0x30 + n / 100) ∷ (0x30 + n / 10 % 10) ∷ (0x30 + n % 10) ∷ [] ] ]) ≤ 3
+    go : (a b : Bool) → length (digits n a b) ≤ 3
     go true b = omega arith
     go false true = omega arith
     go false false = omega arith
@@ -119,7 +120,6 @@ mutual
       omega (arith, w .0, w .1)
   raw-short S d (called b xs ls ms) (good-called r row m o hl hm) n l t =
       let w : (weight (rawLine b xs) ≤ 8 + 4 * length xs) × (1 ≤ length xs) = weight-row S b r row xs o in
-      let L : Line = rawLine b xs ++ (listed at ls ++ listed with ms) in
       let e = length-indented n (nameOf b) (said (operandsIn (rowOf b)) xs ++ (listed at ls ++ listed with ms)) (written t) in
       let w₁ = weight-append (rawLine b xs) (listed at ls ++ listed with ms) in
       let w₂ : weight (listed at ls ++ listed with ms) ≡ weight (listed at ls) + weight (listed with ms) = weight-append (listed at ls) (listed with ms) in
@@ -138,14 +138,14 @@ mutual
       let w : (weight (rawLine b xs) ≤ 8 + 4 * length xs) × (1 ≤ length xs) = weight-row S b r row xs o in
       let j : length (written (rawsLines (suc n) u ++ t)) ≤ 16 * length (rawsBytes u) + length (written t) = raws-short S d u gu (suc n) (omega arith) t in
       let E : List Line = indented n (else ∷ []) ∷ (rawsLines (suc n) u ++ t) in
-      let i = raws-short S d q gq (suc n) (omega arith) (indented n (else ∷ []) ∷ (rawsLines (suc n) u ++ t)) in
+      let i = raws-short S d q gq (suc n) (omega arith) E in
       let f = length-indented n else [] (written (rawsLines (suc n) u ++ t)) in
-      let e = length-indented n (nameOf b) (said (operandsIn (rowOf b)) xs) (written (rawsLines (suc n) q ++ (indented n (else ∷ []) ∷ (rawsLines (suc n) u ++ t)))) in
+      let e = length-indented n (nameOf b) (said (operandsIn (rowOf b)) xs) (written (rawsLines (suc n) q ++ E)) in
       let l₁ = length-append xs (sized (rawsBytes q) ++ sized (rawsBytes u)) in
       let l₂ = length-sized (sized (rawsBytes q)) (rawsBytes u) in
       let a = ap (λ (z : List Line). indented n (rawLine b xs) ∷ z) (append-assoc (rawsLines (suc n) q) (indented n (else ∷ []) ∷ rawsLines (suc n) u) t) in
       let c = ap (λ (z : List Line). length (written z)) a in
-      let k : length (written (indented n (rawLine b xs) ∷ (rawsLines (suc n) q ++ (indented n (else ∷ []) ∷ (rawsLines (suc n) u ++ t))))) ≤ 16 * length (rawBytes (fork b xs q u)) + length (written t) = omega (arith, w .0, w .1) in
+      let k : length (written (indented n (rawLine b xs) ∷ (rawsLines (suc n) q ++ E))) ≤ 16 * length (rawBytes (fork b xs q u)) + length (written t) = omega (arith, w .0, w .1) in
       subst (λ (z : ℕ). z ≤ 16 * length (rawBytes (fork b xs q u)) + length (written t)) (sym c) k
 
   raws-short : (S : Scope) (d : ℕ) (rs : Raws) → Goods S d rs → (n : ℕ) → n + d ≤ 8 → (t : List Line) → length (written (rawsLines n rs ++ t)) ≤ 16 * length (rawsBytes rs) + length (written t)
@@ -160,7 +160,6 @@ mutual
 functions-short : (gs : List RawFunction) (hs : List Function) → GoodFunctions hs gs → (i : ℕ) (t : List Line) → length (written (rawFunctions i gs ++ t)) ≤ 16 * length (functionsBytes gs) + length (written t)
 functions-short [] hs g i t = omega arith
 functions-short (f ∷ gs) hs (a-function hk hm hl body rest) i t =
-    let L : Line = headLine i (f .k) (f .m) in
     let a = functions-short gs (hs ++ (headOf (f .k) (f .m) ∷ [])) rest (suc i) t in
     let b = raws-short (record { places = f .k; earlier = hs }) 7 (f .body) body 1 (omega arith) (rawFunctions (suc i) gs ++ t) in
     let c = ap (λ (z : List Line). length (written z)) (append-assoc (rawsLines 1 (f .body)) (rawFunctions (suc i) gs) t) in
@@ -171,11 +170,11 @@ functions-short (f ∷ gs) hs (a-function hk hm hl body rest) i t =
 program-short : (q : RawProgram) → GoodProgram q → length (written (rawProgramLines q)) ≤ 16 * length (programBytes q)
 program-short q g =
     let M : List Line = (main ∷ []) ∷ rawsLines 1 (q .main) in
-    let a = functions-short (q .functions) [] (g .functions) 0 ((main ∷ []) ∷ rawsLines 1 (q .main)) in
+    let a = functions-short (q .functions) [] (g .functions) 0 M in
     let b = raws-short (record { places = 256; earlier = heads (q .functions) }) 7 (q .main) (g .main) 1 (omega arith) [] in
     let c = ap (λ (z : List Line). length (written z)) (append-nil (rawsLines 1 (q .main))) in
     let d = length-line main [] (written (rawsLines 1 (q .main))) in
-    let e = length-line program (decimal 1 ∷ []) (written (rawFunctions 0 (q .functions) ++ ((main ∷ []) ∷ rawsLines 1 (q .main)))) in
+    let e = length-line program (decimal 1 ∷ []) (written (rawFunctions 0 (q .functions) ++ M)) in
     let f = length-sized (functionsBytes (q .functions)) (rawsBytes (q .main)) in
     omega arith
 

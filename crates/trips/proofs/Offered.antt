@@ -39,10 +39,20 @@ eqb-no m n h = go (eqb m n) refl
 digit : (x c : ℕ) → c < 0x30 → eqb (0x30 + x) c ≡ false
 digit x c h = eqb-no (0x30 + x) c λ e. omega arith
 
+-- the digits of a number, by whether it is below 10 and below 100
+abbrev pub digits : ℕ → Bool → Bool → Text
+digits n a b = elim a [
+  | true ↦ (0x30 + n) ∷ []
+  | false ↦ elim b [
+    | true ↦ (0x30 + n / 10) ∷ (0x30 + n % 10) ∷ []
+    | false ↦ (0x30 + n / 100) ∷ (0x30 + n / 10 % 10) ∷ (0x30 + n % 10) ∷ []
+  ]
+]
+
 decimal-free : (n c : ℕ) → c < 0x30 → Free c (decimal n)
 decimal-free n c h = go (ltb n 10) (ltb n 100)
   where
-    go : (a b : Bool) → Free c (elim a [ true ↦ (0x30 + n) ∷ [] | false ↦ elim b [ true ↦ (0x30 + n / 10) ∷ (0x30 + n % 10) ∷ [] | false ↦ (0x30 + n / 100) ∷ (0x30 + n / 10 % 10) ∷ (0x30 + n % 10) ∷ [] ] ])
+    go : (a b : Bool) → Free c (digits n a b)
     go true b = (digit n c h, tt)
     go false true = (digit (n / 10) c h, (digit (n % 10) c h, tt))
     go false false = (digit (n / 100) c h, (digit (n / 10 % 10) c h, (digit (n % 10) c h, tt)))
@@ -60,7 +70,7 @@ value (x ∷ (y ∷ (z ∷ t))) = (x - 0x30) * 100 + (y - 0x30) * 10 + (z - 0x30
 pub value-decimal : (n : ℕ) → value (decimal n) ≡ n
 value-decimal n = go (ltb n 10) (ltb n 100)
   where
-    go : (a b : Bool) → value (elim a [ true ↦ (0x30 + n) ∷ [] | false ↦ elim b [ true ↦ (0x30 + n / 10) ∷ (0x30 + n % 10) ∷ [] | false ↦ (0x30 + n / 100) ∷ (0x30 + n / 10 % 10) ∷ (0x30 + n % 10) ∷ [] ] ]) ≡ n
+    go : (a b : Bool) → value (digits n a b) ≡ n
     go true b = omega arith
     go false true = omega arith
     go false false = omega arith

@@ -106,7 +106,7 @@ module _ (s : List ℕ) (bytes : Bytes s) where
           let e : i + 1 ≡ suc i = omega arith in
           let n : ℕ = length (r .operands) in
           let f : i + size r ≡ suc i + length (given i r) = omega (arith, xs-length) in
-          (refl, omega arith, at-append s (given i r) rest (suc i) (moved s (i + 1) (suc i) (given i r) e (at-upTo s (length (r .operands)) (i + 1) (omega arith))) (moved s (i + size r) (suc i + length (given i r)) rest f a))
+          (refl, omega arith, at-append s (given i r) rest (suc i) (moved s (i + 1) (suc i) (given i r) e (at-upTo s n (i + 1) (omega arith))) (moved s (i + size r) (suc i + length (given i r)) rest f a))
 
       fixed-size : (rest : List ℕ) → i + size r + length rest ≡ i + length (byte s i ∷ (given i r ++ rest))
       fixed-size rest = omega (arith, xs-length, length-append (given i r) rest)
@@ -124,7 +124,6 @@ module _ (s : List ℕ) (bytes : Bytes s) where
           → Holds (RawStatement d i e) (meant s sd S (readBlock s sd S d) m i (i + size r) e)
       meant-raw i e r row w l o (simple f) m =
           let l′ : i + size r ≤ length s = omega arith in
-          let xs : List ℕ = given i r in
           let a : At s i (byte s i ∷ (given i r ++ [])) = fixed-at i r row l′ o [] (omega arith) in
           let a′ = subst (λ (z : List ℕ). At s i (byte s i ∷ z)) (append-nil (given i r)) a in
           let lx : length (given i r) ≡ length (r .operands) = xs-length i r row l′ o in
@@ -153,17 +152,17 @@ module _ (s : List ℕ) (bytes : Bytes s) where
           let de : u .0 ≡ v .0 = (let p : d ≡ suc (u .0) = u .2 in let q : d ≡ suc (v .0) = v .2 in omega arith) in
           let pj : b .next ≡ i + size r + length (sized (rawsBytes (u .1))) = omega (arith, u .5) in
           let ab = at-append s (sized (rawsBytes (u .1))) (sized (rawsBytes (v .1))) (i + size r) (u .4) (moved s (b .next) (i + size r + length (sized (rawsBytes (u .1)))) (sized (rawsBytes (v .1))) pj (v .4)) in
-          let a = fixed-at i r row l′ o (sized (rawsBytes (u .1)) ++ sized (rawsBytes (v .1))) ab in
-          let z = fixed-size i r row l′ o (sized (rawsBytes (u .1)) ++ sized (rawsBytes (v .1))) in
+          let a = fixed-at i r row l′ o bs ab in
+          let z = fixed-size i r row l′ o bs in
           let lz = length-sized (sized (rawsBytes (u .1))) (rawsBytes (v .1)) in
-          let nx : c .next ≡ i + length (byte s i ∷ (given i r ++ (sized (rawsBytes (u .1)) ++ sized (rawsBytes (v .1))))) = omega (arith, u .5, v .5) in
+          let nx : c .next ≡ i + length (byte s i ∷ (given i r ++ bs)) = omega (arith, u .5, v .5) in
           by (
             fork (byte s i) (given i r) (u .1) (v .1),
             subst (λ (k : ℕ). Good (stubbed S) k (fork (byte s i) (given i r) (u .1) (v .1))) (sym (u .2)) (good-fork r row m o (u .3) (subst (λ (k : ℕ). Goods (stubbed S) k (v .1)) (sym de) (v .3))),
             a,
             nx,
             v .6,
-            λ n. ap (λ (z : Line). indented n z ∷ (blockLines s (suc n) (b .it) ++ (indented n (else ∷ []) ∷ blockLines s (suc n) (c .it)))) (fixed-line s sd S (byte s i) r row (given i r) o i (sized (rawsBytes (u .1)) ++ sized (rawsBytes (v .1))) a)
+            λ n. ap (λ (z : Line). indented n z ∷ (blockLines s (suc n) (b .it) ++ (indented n (else ∷ []) ∷ blockLines s (suc n) (c .it)))) (fixed-line s sd S (byte s i) r row (given i r) o i bs a)
                 ∙ ap (λ (z : List Line). indented n (rawLine (byte s i) (given i r)) ∷ (z ++ (indented n (else ∷ []) ∷ blockLines s (suc n) (c .it)))) (u .7 (suc n))
                 ∙ ap (λ (z : List Line). indented n (rawLine (byte s i) (given i r)) ∷ (rawsLines (suc n) (u .1) ++ (indented n (else ∷ []) ∷ z))) (v .7 (suc n)),
           )
@@ -189,35 +188,35 @@ module _ (s : List ℕ) (bytes : Bytes s) where
               let i₃ : i + 1 + 2 ≡ i + 3 = omega arith in
               let K = getD-upTo (i + 1) (length (r .operands)) 1 (byte s) 0 (omega arith) ∙ ap (byte s) i₂ in
               let J = getD-upTo (i + 1) (length (r .operands)) 2 (byte s) 0 (omega arith) ∙ ap (byte s) i₃ in
-              let R = ranged-split (stubbed S) (byte s (i + 1)) (replicate (byte s (i + 2)) Location) (replicate (byte s (i + 3)) Slot) (i + 4) t in
-              let ls : List ℕ = part (i + size r) (byte s (i + 2)) in
-              let ms : List ℕ = part (i + size r + byte s (i + 2)) (byte s (i + 3)) in
-              let lr : length (replicate (byte s (i + 2)) Location) ≡ byte s (i + 2) = length-replicate (byte s (i + 2)) Location in
-              let mr : length (replicate (byte s (i + 3)) Slot) ≡ byte s (i + 3) = length-replicate (byte s (i + 3)) Slot in
-              let le = ap (λ (n : ℕ). part (i + 4) n) lr ∙ ap (λ (n : ℕ). part n (byte s (i + 2))) i₄ in
-              let pe : i + 4 + length (replicate (byte s (i + 2)) Location) ≡ i + size r + byte s (i + 2) = omega arith in
-              let me = ap (λ (n : ℕ). part (i + 4 + length (replicate (byte s (i + 2)) Location)) n) mr ∙ ap (λ (n : ℕ). part n (byte s (i + 3))) pe in
-              let hl = to-zero (stubbed S) Location (λ f x h. h) (byte s (i + 2)) (part (i + size r) (byte s (i + 2))) (byte s (i + 1)) (subst (λ (z : List ℕ). Ranged (stubbed S) (byte s (i + 1)) (replicate (byte s (i + 2)) Location) z) le (R .0)) in
-              let hm = to-zero (stubbed S) Slot (λ f x h. h) (byte s (i + 3)) (part (i + size r + byte s (i + 2)) (byte s (i + 3))) (byte s (i + 1)) (subst (λ (z : List ℕ). Ranged (stubbed S) (byte s (i + 1)) (replicate (byte s (i + 3)) Slot) z) me (R .1)) in
-              let hl′ = subst (λ (n : ℕ). Ranged (stubbed S) 0 (replicate n Location) (part (i + size r) (byte s (i + 2)))) (sym K) hl in
-              let hm′ = subst (λ (n : ℕ). Ranged (stubbed S) 0 (replicate n Slot) (part (i + size r + byte s (i + 2)) (byte s (i + 3)))) (sym J) hm in
-              let ll : length (part (i + size r) (byte s (i + 2))) ≡ byte s (i + 2) = length-upTo (i + size r) (byte s (i + 2)) (byte s) in
-              let lm = length-upTo (i + size r + byte s (i + 2)) (byte s (i + 3)) (byte s) in
-              let ab = at-append s (part (i + size r) (byte s (i + 2))) (part (i + size r + byte s (i + 2)) (byte s (i + 3))) (i + size r) (at-upTo s (byte s (i + 2)) (i + size r) (omega arith))
-              (moved s (i + size r + byte s (i + 2)) (i + size r + length (part (i + size r) (byte s (i + 2)))) (part (i + size r + byte s (i + 2)) (byte s (i + 3))) (ap (λ (n : ℕ). i + size r + n) (sym ll)) (at-upTo s (byte s (i + 3)) (i + size r + byte s (i + 2)) (omega arith))) in
-              let rest : List ℕ = part (i + size r) (byte s (i + 2)) ++ part (i + size r + byte s (i + 2)) (byte s (i + 3)) in
-              let a = fixed-at i r row l′ o (part (i + size r) (byte s (i + 2)) ++ part (i + size r + byte s (i + 2)) (byte s (i + 3))) ab in
-              let z = fixed-size i r row l′ o (part (i + size r) (byte s (i + 2)) ++ part (i + size r + byte s (i + 2)) (byte s (i + 3))) in
-              let lz = length-append (part (i + size r) (byte s (i + 2))) (part (i + size r + byte s (i + 2)) (byte s (i + 3))) in
-              let nx : i + size r + byte s (i + 2) + byte s (i + 3) ≡ i + length (byte s i ∷ (given i r ++ (part (i + size r) (byte s (i + 2)) ++ part (i + size r + byte s (i + 2)) (byte s (i + 3))))) = omega arith in (
-                called (byte s i) (given i r) (part (i + size r) (byte s (i + 2))) (part (i + size r + byte s (i + 2)) (byte s (i + 3))),
+              let R = ranged-split (stubbed S) (byte s (i + 1)) (replicate k Location) (replicate j Slot) (i + 4) t in
+              let ls : List ℕ = part (i + size r) k in
+              let ms : List ℕ = part (i + size r + byte s (i + 2)) j in
+              let lr : length (replicate k Location) ≡ byte s (i + 2) = length-replicate k Location in
+              let mr : length (replicate j Slot) ≡ byte s (i + 3) = length-replicate j Slot in
+              let le = ap (λ (n : ℕ). part (i + 4) n) lr ∙ ap (λ (n : ℕ). part n k) i₄ in
+              let pe : i + 4 + length (replicate k Location) ≡ i + size r + byte s (i + 2) = omega arith in
+              let me = ap (λ (n : ℕ). part (i + 4 + length (replicate k Location)) n) mr ∙ ap (λ (n : ℕ). part n j) pe in
+              let hl = to-zero (stubbed S) Location (λ f x h. h) k ls (byte s (i + 1)) (subst (λ (z : List ℕ). Ranged (stubbed S) (byte s (i + 1)) (replicate k Location) z) le (R .0)) in
+              let hm = to-zero (stubbed S) Slot (λ f x h. h) j ms (byte s (i + 1)) (subst (λ (z : List ℕ). Ranged (stubbed S) (byte s (i + 1)) (replicate j Slot) z) me (R .1)) in
+              let hl′ = subst (λ (n : ℕ). Ranged (stubbed S) 0 (replicate n Location) ls) (sym K) hl in
+              let hm′ = subst (λ (n : ℕ). Ranged (stubbed S) 0 (replicate n Slot) ms) (sym J) hm in
+              let ll : length ls ≡ byte s (i + 2) = length-upTo (i + size r) k (byte s) in
+              let lm = length-upTo (i + size r + byte s (i + 2)) j (byte s) in
+              let ab = at-append s ls ms (i + size r) (at-upTo s k (i + size r) (omega arith))
+              (moved s (i + size r + byte s (i + 2)) (i + size r + length ls) ms (ap (λ (n : ℕ). i + size r + n) (sym ll)) (at-upTo s j (i + size r + byte s (i + 2)) (omega arith))) in
+              let rest : List ℕ = part (i + size r) k ++ part (i + size r + byte s (i + 2)) j in
+              let a = fixed-at i r row l′ o rest ab in
+              let z = fixed-size i r row l′ o rest in
+              let lz = length-append ls ms in
+              let nx : i + size r + byte s (i + 2) + byte s (i + 3) ≡ i + length (byte s i ∷ (given i r ++ rest)) = omega arith in (
+                called (byte s i) (given i r) ls ms,
                 good-called r row m o hl′ hm′,
                 a,
                 nx,
                 c,
-                λ n. ap (λ (z : Line). indented n (z ++ (listed at (map (λ (l : Place sd). l .no) (upTo (i + size r) (byte s (i + 2)) λ n. record { no = byte s n })) ++ listed with (part (i + size r + byte s (i + 2)) (byte s (i + 3))))) ∷ [])
-                    (fixed-line s sd S (byte s i) r row (given i r) o i (part (i + size r) (byte s (i + 2)) ++ part (i + size r + byte s (i + 2)) (byte s (i + 3))) a)
-                    ∙ ap (λ (z : List ℕ). indented n (rawLine (byte s i) (given i r) ++ (listed at z ++ listed with (part (i + size r + byte s (i + 2)) (byte s (i + 3))))) ∷ []) (map-places s sd S (i + size r) (byte s (i + 2))),
+                λ n. ap (λ (z : Line). indented n (z ++ (listed at (map (λ (l : Place sd). l .no) (upTo (i + size r) k λ n. record { no = byte s n })) ++ listed with ms)) ∷ [])
+                    (fixed-line s sd S (byte s i) r row (given i r) o i rest a)
+                    ∙ ap (λ (z : List ℕ). indented n (rawLine (byte s i) (given i r) ++ (listed at z ++ listed with ms)) ∷ []) (map-places s sd S (i + size r) k),
               )
 
       statement-raw : (i e : ℕ) → e ≤ length s → Holds (RawStatement d i e) (statement s sd S (readBlock s sd S d) i e)
@@ -279,19 +278,18 @@ module _ (s : List ℕ) (bytes : Bytes s) where
           → RawFunctions (suc n) fs i r
       finish H c b v r w =
           let d7 : v .0 ≡ 7 = (let e : 8 ≡ suc (v .0) = v .2 in omega arith) in
-          let g : RawFunction = record { k = H .locations; m = H .arguments; body = v .1 } in
           let f : Function = record { k = H .locations; m = H .arguments; body = b .it } in
           let hk : H .locations ≤ 16 = omega (arith, c .0, c .2) in
           let hm : H .arguments ≤ 8 = omega (arith, c .1, c .3) in
           let hl : H .arguments ≤ H .locations = omega (arith, c .0, c .1, c .4) in
           let body = subst (λ (k : ℕ). Goods (record { places = H .locations; earlier = map stub fs }) k (v .1)) d7 (v .3) in
-          let rest = subst (λ (z : List Function). GoodFunctions z (w .0)) (map-snoc fs (record { k = H .locations; m = H .arguments; body = b .it })) (w .4) in
+          let rest = subst (λ (z : List Function). GoodFunctions z (w .0)) (map-snoc fs f) (w .4) in
           let sz : List ℕ = sized (rawsBytes (v .1)) in
-          let pe : b .next ≡ i + 2 + length (sized (rawsBytes (v .1))) = omega (arith, v .5) in
-          let a₂ = at-append s (sized (rawsBytes (v .1))) (functionsBytes (w .0)) (i + 2) (v .4) (moved s (b .next) (i + 2 + length (sized (rawsBytes (v .1)))) (functionsBytes (w .0)) pe (w .6)) in
+          let pe : b .next ≡ i + 2 + length sz = omega (arith, v .5) in
+          let a₂ = at-append s sz (functionsBytes (w .0)) (i + 2) (v .4) (moved s (b .next) (i + 2 + length sz) (functionsBytes (w .0)) pe (w .6)) in
           let e₂ : i + 2 ≡ suc (suc i) = omega arith in
           let e₁ : i + 1 ≡ suc i = omega arith in
-          let le : i + 2 + length (sized (rawsBytes (v .1))) ≤ length s = at-end s (sized (rawsBytes (v .1))) (i + 2) (v .4) in
+          let le : i + 2 + length sz ≤ length s = at-end s sz (i + 2) (v .4) in
           let a : At s i (functionsBytes (record { k = H .locations; m = H .arguments; body = v .1 } ∷ w .0)) =
           (sym (c .0), omega arith, (ap (byte s) (sym e₁) ∙ sym (c .1), omega arith, moved s (i + 2) (suc (suc i)) (sized (rawsBytes (v .1)) ++ functionsBytes (w .0)) e₂ a₂)) in
           let lz = sized-length (rawsBytes (v .1)) (functionsBytes (w .0)) in
@@ -329,15 +327,15 @@ module _ (s : List ℕ) (bytes : Bytes s) where
       let c₄ : byte s 4 ≡ 1 = omega arith in
       let c₅ : byte s 5 ≡ length (w .0) = sym en ∙ sym (w .3) in
       let F : List ℕ = functionsBytes (w .0) in
-      let ab = at-append s (functionsBytes (w .0)) (sized (rawsBytes (v .1))) 6 (w .6) (moved s (fs .next) (6 + length (functionsBytes (w .0))) (sized (rawsBytes (v .1))) (w .7) (v .4)) in
-      let a : At s 0 (programBytes (record { functions = w .0; main = v .1 })) = (c₀, omega arith, (c₁, omega arith, (c₂, omega arith, (c₃, omega arith, (c₄, omega arith, (c₅, omega arith, ab)))))) in
-      let lp = length-sized (functionsBytes (w .0)) (rawsBytes (v .1)) in
-      let lq : length (programBytes (record { functions = w .0; main = v .1 })) ≡ length s = omega (arith, w .7, v .5, last) in
+      let ab = at-append s F (sized (rawsBytes (v .1))) 6 (w .6) (moved s (fs .next) (6 + length F) (sized (rawsBytes (v .1))) (w .7) (v .4)) in
+      let a : At s 0 (programBytes q) = (c₀, omega arith, (c₁, omega arith, (c₂, omega arith, (c₃, omega arith, (c₄, omega arith, (c₅, omega arith, ab)))))) in
+      let lp = length-sized F (rawsBytes (v .1)) in
+      let lq : length (programBytes q) ≡ length s = omega (arith, w .7, v .5, last) in
       let hs : map stub (fs .it) ≡ heads (w .0) = ap (map stub) (w .2) ∙ w .5 in
       let gm = subst (λ (z : List Function). Goods (record { places = 256; earlier = z }) 7 (v .1)) hs (subst (λ (k : ℕ). Goods (record { places = 256; earlier = map stub (fs .it) }) k (v .1)) d7 (v .3)) in (
         record { functions = w .0; main = v .1 },
         record { few = omega (arith, w .3); functions = w .4; main = gm; short = omega arith },
-        at-all s (programBytes (record { functions = w .0; main = v .1 })) a lq,
+        at-all s (programBytes q) a lq,
         sym (ap (λ (z : List Function). (names.program ∷ decimal 1 ∷ []) ∷ (functionsLines s 0 z ++ ((names.main ∷ []) ∷ blockLines s 1 (b .it)))) (w .2)
             ∙ ap (λ (z : List Line). (names.program ∷ decimal 1 ∷ []) ∷ (z ++ ((names.main ∷ []) ∷ blockLines s 1 (b .it)))) (w .8 0)
             ∙ ap (λ (z : List Line). (names.program ∷ decimal 1 ∷ []) ∷ (rawFunctions 0 (w .0) ++ ((names.main ∷ []) ∷ z))) (v .7 1)),

@@ -129,8 +129,8 @@ module _ (s : List ℕ) where
         let B : ℕ → Check (Read (Block sd)) = λ w. need (leb (i + 2) limit) 8 i >> (need (leb (i + 2 + w) limit) 8 i >> (statements s sd S (readBlock s sd S d) w (i + 2) (i + 2 + w) >>= λ b. ok (record { it = block i b; next = i + 2 + w }))) in (
           block i (r .0),
           ap B w
-              ∙ ap (λ (b : Bool). need b 8 i >> (need (leb (i + 2 + length (rawsBytes rs)) limit) 8 i >> (statements s sd S (readBlock s sd S d) (length (rawsBytes rs)) (i + 2) (i + 2 + length (rawsBytes rs)) >>= λ b. ok (record { it = block i b; next = i + 2 + length (rawsBytes rs) })))) (leb-yes (i + 2) limit (omega arith))
-              ∙ ap (λ (b : Bool). need b 8 i >> (statements s sd S (readBlock s sd S d) (length (rawsBytes rs)) (i + 2) (i + 2 + length (rawsBytes rs)) >>= λ b. ok (record { it = block i b; next = i + 2 + length (rawsBytes rs) }))) (leb-yes (i + 2 + length (rawsBytes rs)) limit f)
+              ∙ ap (λ (b : Bool). need b 8 i >> (need (leb (i + 2 + length (rawsBytes rs)) limit) 8 i >> (statements s sd S (readBlock s sd S d) n (i + 2) (i + 2 + length (rawsBytes rs)) >>= λ b. ok (record { it = block i b; next = i + 2 + length (rawsBytes rs) })))) (leb-yes (i + 2) limit (omega arith))
+              ∙ ap (λ (b : Bool). need b 8 i >> (statements s sd S (readBlock s sd S d) n (i + 2) (i + 2 + length (rawsBytes rs)) >>= λ b. ok (record { it = block i b; next = i + 2 + length (rawsBytes rs) }))) (leb-yes (i + 2 + length (rawsBytes rs)) limit f)
               ∙ ap (λ (m : Check (Statements sd)). m >>= λ b. ok (record { it = block i b; next = i + 2 + length (rawsBytes rs) })) (r .1),
           r .2,
         )
@@ -219,21 +219,20 @@ module _ (s : List ℕ) where
       read-raw (suc d) (fork b xs q t) (good-fork r row m o gq gt) i e a l =
           let z : size r ≡ suc (length xs) = size-xs (stubbed S) r xs o in
           let rest : List ℕ = sized (rawsBytes q) ++ sized (rawsBytes t) in
-          let lx = length-append xs (sized (rawsBytes q) ++ sized (rawsBytes t)) in
+          let lx = length-append xs rest in
           let ly = length-sized (sized (rawsBytes q)) (rawsBytes t) in
-          let A = inner-at (i + size r) (rawsBytes q) (sized (rawsBytes t)) (fixed-rest b r row xs o i (sized (rawsBytes q) ++ sized (rawsBytes t)) a) in
-          let j : ℕ = i + size r + 2 + length (rawsBytes q) in
+          let A = inner-at (i + size r) (rawsBytes q) (sized (rawsBytes t)) (fixed-rest b r row xs o i rest a) in
           let R = block-is d q (i + size r) e (A .1) (omega arith) (read-raws d q gq (length (rawsBytes q)) (i + size r + 2) (i + size r + 2 + length (rawsBytes q)) (omega arith) refl (A .0)) in
           let Q = block-is d t (i + size r + 2 + length (rawsBytes q)) e (A .2) (omega arith)
           (read-raws d t gt (length (rawsBytes t)) (i + size r + 2 + length (rawsBytes q) + 2) (i + size r + 2 + length (rawsBytes q) + 2 + length (rawsBytes t)) (omega arith) refl (inner-here (i + size r + 2 + length (rawsBytes q)) (rawsBytes t) (A .2))) in
           let p : i + size r + 2 + length (rawsBytes q) + 2 + length (rawsBytes t) ≡ i + length (rawBytes (fork b xs q t)) = omega arith in (
             if i (byte s (i + 1)) (R .0) (Q .0),
-            statement-is (readBlock s sd S (suc d)) i e r (fixed-row b r row xs o i (sized (rawsBytes q) ++ sized (rawsBytes t)) a) (omega arith) (fixed-ops b r row xs o i (sized (rawsBytes q) ++ sized (rawsBytes t)) a)
+            statement-is (readBlock s sd S (suc d)) i e r (fixed-row b r row xs o i rest a) (omega arith) (fixed-ops b r row xs o i rest a)
                 ∙ ap (λ (m : Meaning). meant s sd S (readBlock s sd S (suc d)) m i (i + size r) e) m
                 ∙ ap (λ (c : Check (Read (Block sd))). c >>= λ b. readBlock s sd S (suc d) (b .next) e >>= λ c. ok (record { it = if i (byte s (i + 1)) (b .it) (c .it); next = c .next })) (R .1)
                 ∙ ap (λ (c : Check (Read (Block sd))). c >>= λ c. ok (record { it = if i (byte s (i + 1)) (R .0) (c .it); next = c .next })) (Q .1)
                 ∙ ap (λ (p : ℕ). ok (record { it = if i (byte s (i + 1)) (R .0) (Q .0); next = p })) p,
-            λ n. ap (λ (w : Line). indented n w ∷ (blockLines s (suc n) (R .0) ++ (indented n (else ∷ []) ∷ blockLines s (suc n) (Q .0)))) (fixed-line b r row xs o i (sized (rawsBytes q) ++ sized (rawsBytes t)) a)
+            λ n. ap (λ (w : Line). indented n w ∷ (blockLines s (suc n) (R .0) ++ (indented n (else ∷ []) ∷ blockLines s (suc n) (Q .0)))) (fixed-line b r row xs o i rest a)
                 ∙ ap (λ (w : List Line). indented n (rawLine b xs) ∷ (w ++ (indented n (else ∷ []) ∷ blockLines s (suc n) (Q .0)))) (R .2 (suc n))
                 ∙ ap (λ (w : List Line). indented n (rawLine b xs) ∷ (rawsLines (suc n) q ++ (indented n (else ∷ []) ∷ w))) (Q .2 (suc n)),
           )
@@ -286,32 +285,32 @@ module _ (s : List ℕ) where
       let i₂ : suc (suc i) ≡ i + 2 = omega arith in
       let ek : byte s i ≡ f .k = a .0 in
       let em : byte s (i + 1) ≡ f .m = ap (byte s) i₁ ∙ a .2 .0 in
-      let ab = moved (suc (suc i)) (i + 2) (sized (rawsBytes (f .body)) ++ functionsBytes gs) i₂ (a .2 .2) in
-      let asz : At s (i + 2) (sized (rawsBytes (f .body))) = at-left s (sized (rawsBytes (f .body))) (functionsBytes gs) (i + 2) ab in
-      let ar = at-right s (sized (rawsBytes (f .body))) (functionsBytes gs) (i + 2) ab in
-      let l₁ : i + 2 + suc (suc (length (rawsBytes (f .body)))) ≤ length s = at-end s (sized (rawsBytes (f .body))) (i + 2) asz in
-      let l₂ = sized-length (rawsBytes (f .body)) (functionsBytes gs) in
+      let ab = moved (suc (suc i)) (i + 2) (sized bb ++ functionsBytes gs) i₂ (a .2 .2) in
+      let asz : At s (i + 2) (sized bb) = at-left s (sized bb) (functionsBytes gs) (i + 2) ab in
+      let ar = at-right s (sized bb) (functionsBytes gs) (i + 2) ab in
+      let l₁ : i + 2 + suc (suc (length bb)) ≤ length s = at-end s (sized bb) (i + 2) asz in
+      let l₂ = sized-length bb (functionsBytes gs) in
       let gb = subst (λ (z : List Function). Goods (record { places = f .k; earlier = z }) 7 (f .body)) (sym e) body in
-      let R = read-block parameter (record { places = f .k; earlier = fs }) 7 (f .body) gb (i + 2) (length s) asz (omega arith) in
+      let R = read-block parameter S 7 (f .body) gb (i + 2) (length s) asz (omega arith) in
       let g : Function = record { k = f .k; m = f .m; body = R .0 } in
-      let p : ℕ = i + 2 + 2 + length (rawsBytes (f .body)) in
-      let pe : i + 2 + suc (suc (length (rawsBytes (f .body)))) ≡ i + 2 + 2 + length (rawsBytes (f .body)) = omega arith in
-      let Q = read-functions gs (hs ++ (headOf (f .k) (f .m) ∷ [])) rest (fs ++ (record { k = f .k; m = f .m; body = R .0 } ∷ [])) (map-snoc fs (record { k = f .k; m = f .m; body = R .0 }) ∙ ap (λ (z : List Function). z ++ (headOf (f .k) (f .m) ∷ [])) e)
-      (i + 2 + 2 + length (rawsBytes (f .body))) (moved (i + 2 + suc (suc (length (rawsBytes (f .body))))) (i + 2 + 2 + length (rawsBytes (f .body))) (functionsBytes gs) pe ar) in
+      let p : ℕ = i + 2 + 2 + length bb in
+      let pe : i + 2 + suc (suc (length bb)) ≡ i + 2 + 2 + length bb = omega arith in
+      let Q = read-functions gs (hs ++ (headOf (f .k) (f .m) ∷ [])) rest (fs ++ (record { k = f .k; m = f .m; body = R .0 } ∷ [])) (map-snoc fs g ∙ ap (λ (z : List Function). z ++ (headOf (f .k) (f .m) ∷ [])) e)
+      (i + 2 + 2 + length bb) (moved (i + 2 + suc (suc (length bb))) (i + 2 + 2 + length bb) (functionsBytes gs) pe ar) in
       let n : ℕ = length gs in
-      let body-read : ℕ → ℕ → Check (Read (List Function)) = λ k m. readBlock s parameter (record { places = k; earlier = fs }) 8 (i + 2) (length s) >>= λ b. functionsAt s (length gs) (b .next) (fs ++ (record { k = k; m = m; body = b .it } ∷ [])) in
+      let body-read : ℕ → ℕ → Check (Read (List Function)) = λ k m. readBlock s parameter (record { places = k; earlier = fs }) 8 (i + 2) (length s) >>= λ b. functionsAt s n (b .next) (fs ++ (record { k = k; m = m; body = b .it } ∷ [])) in
       let Hd : Bool → Bool → Check FunctionHeader = λ b c. need b 4 i >> (need c 4 (i + 1) >> ok (record { locations = f .k; arguments = f .m })) in
       let H : ℕ → ℕ → Check (Read (List Function)) = λ k m. functionHeader i k m >>= λ h. body-read (h .locations) (h .arguments) in
-      let nx : i + 2 + 2 + length (rawsBytes (f .body)) + length (functionsBytes gs) ≡ i + length (functionsBytes (f ∷ gs)) = omega arith in (
+      let nx : i + 2 + 2 + length bb + length (functionsBytes gs) ≡ i + length (functionsBytes (f ∷ gs)) = omega arith in (
         record { k = f .k; m = f .m; body = R .0 } ∷ Q .0,
         ap (λ (b : Bool). need b 8 i >> H (byte s i) (byte s (i + 1))) (leb-yes (i + 2) (length s) (omega arith))
             ∙ ap (λ (y : ℕ). H y (byte s (i + 1))) ek ∙ ap (λ (y : ℕ). H (f .k) y) em
             ∙ ap (λ (b : Bool). Hd b (leb (f .m) 8 && leb (f .m) (f .k)) >>= λ h. body-read (h .locations) (h .arguments)) (leb-yes (f .k) 16 hk)
             ∙ ap (λ (b : Bool). Hd true (b && leb (f .m) (f .k)) >>= λ h. body-read (h .locations) (h .arguments)) (leb-yes (f .m) 8 hm)
             ∙ ap (λ (b : Bool). Hd true b >>= λ h. body-read (h .locations) (h .arguments)) (leb-yes (f .m) (f .k) hl)
-            ∙ ap (λ (c : Check (Read (Block parameter))). c >>= λ b. functionsAt s (length gs) (b .next) (fs ++ (record { k = f .k; m = f .m; body = b .it } ∷ []))) (R .1)
+            ∙ ap (λ (c : Check (Read (Block parameter))). c >>= λ b. functionsAt s n (b .next) (fs ++ (record { k = f .k; m = f .m; body = b .it } ∷ []))) (R .1)
             ∙ Q .1
-            ∙ ap (λ (z : List Function). ok (record { it = z; next = i + 2 + 2 + length (rawsBytes (f .body)) + length (functionsBytes gs) })) (append-assoc fs (record { k = f .k; m = f .m; body = R .0 } ∷ []) (Q .0))
+            ∙ ap (λ (z : List Function). ok (record { it = z; next = i + 2 + 2 + length bb + length (functionsBytes gs) })) (append-assoc fs (record { k = f .k; m = f .m; body = R .0 } ∷ []) (Q .0))
             ∙ ap (λ (p : ℕ). ok (record { it = fs ++ (record { k = f .k; m = f .m; body = R .0 } ∷ Q .0); next = p })) nx,
         ap (λ (z : List Function). headOf (f .k) (f .m) ∷ z) (Q .2),
         λ j. ap (λ (w : List Line). headLine j (f .k) (f .m) ∷ (w ++ functionsLines s (suc j) (Q .0))) (R .2 1)
@@ -342,27 +341,27 @@ pub reads-back : ReadsBack
 reads-back q g =
     let s : List ℕ = programBytes q in
     let gs : List RawFunction = q .functions in
-    let F : List ℕ = functionsBytes (q .functions) in
+    let F : List ℕ = functionsBytes gs in
     let mb : List ℕ = rawsBytes (q .main) in
-    let w : At (programBytes q) 0 (programBytes q) = at-whole (programBytes q) [] in
-    let a : At (programBytes q) 6 (functionsBytes (q .functions) ++ sized (rawsBytes (q .main))) = w .2 .2 .2 .2 .2 .2 in
-    let lp = length-sized (functionsBytes (q .functions)) (rawsBytes (q .main)) in
-    let sh : length (programBytes q) ≤ 4096 = g .short in
-    let few : length (q .functions) ≤ 15 = g .few in
-    let R = read-functions (programBytes q) (q .functions) [] (g .functions) [] refl 6 (at-left (programBytes q) (functionsBytes (q .functions)) (sized (rawsBytes (q .main))) 6 a) in
+    let w : At s 0 s = at-whole s [] in
+    let a : At s 6 (functionsBytes gs ++ sized mb) = w .2 .2 .2 .2 .2 .2 in
+    let lp = length-sized F mb in
+    let sh : length s ≤ 4096 = g .short in
+    let few : length gs ≤ 15 = g .few in
+    let R = read-functions s gs [] (g .functions) [] refl 6 (at-left s F (sized mb) 6 a) in
     let M : Scope = record { places = 256; earlier = R .0 } in
-    let am = at-right (programBytes q) (functionsBytes (q .functions)) (sized (rawsBytes (q .main))) 6 a in
+    let am = at-right s F (sized mb) 6 a in
     let gm = subst (λ (z : List Function). Goods (record { places = 256; earlier = z }) 7 (q .main)) (sym (R .2)) (g .main) in
-    let Q = read-block (programBytes q) device (record { places = 256; earlier = R .0 }) 7 (q .main) gm (6 + length (functionsBytes (q .functions))) (length (programBytes q)) am (omega arith) in
-    let ne : 6 + length (functionsBytes (q .functions)) + 2 + length (rawsBytes (q .main)) ≡ length (programBytes q) = omega arith in
-    let HB = functions-bytes (q .functions) [] (g .functions) small-none (omega arith) (omega arith) in
-    let lh : length (heads (q .functions)) ≡ length (q .functions) = length-heads (q .functions) in
-    let MB = raws-bytes (record { places = 256; earlier = heads (q .functions) }) (omega arith, omega arith, HB .1) 7 (q .main) (g .main) (omega arith) in (
+    let Q = read-block s device M 7 (q .main) gm (6 + length F) (length s) am (omega arith) in
+    let ne : 6 + length F + 2 + length mb ≡ length s = omega arith in
+    let HB = functions-bytes gs [] (g .functions) small-none (omega arith) (omega arith) in
+    let lh : length (heads gs) ≡ length gs = length-heads gs in
+    let MB = raws-bytes (record { places = 256; earlier = heads gs }) (omega arith, omega arith, HB .1) 7 (q .main) (g .main) (omega arith) in (
       record { functions = R .0; main = Q .0 },
-      program-is (programBytes q) (length (q .functions)) (record { it = R .0; next = 6 + length (functionsBytes (q .functions)) }) (record { it = Q .0; next = 6 + length (functionsBytes (q .functions)) + 2 + length (rawsBytes (q .main)) })
+      program-is s (length gs) (record { it = R .0; next = 6 + length F }) (record { it = Q .0; next = 6 + length F + 2 + length mb })
           (omega arith) sh refl refl refl few (R .1) (Q .1) ne,
-      ap (λ (w : List Line). (names.program ∷ decimal 1 ∷ []) ∷ (w ++ ((names.main ∷ []) ∷ blockLines (programBytes q) 1 (Q .0)))) (R .3 0)
-          ∙ ap (λ (w : List Line). (names.program ∷ decimal 1 ∷ []) ∷ (rawFunctions 0 (q .functions) ++ ((names.main ∷ []) ∷ w))) (Q .2 1),
+      ap (λ (w : List Line). (names.program ∷ decimal 1 ∷ []) ∷ (w ++ ((names.main ∷ []) ∷ blockLines s 1 (Q .0)))) (R .3 0)
+          ∙ ap (λ (w : List Line). (names.program ∷ decimal 1 ∷ []) ∷ (rawFunctions 0 gs ++ ((names.main ∷ []) ∷ w))) (Q .2 1),
       (
         omega arith,
         (
@@ -375,7 +374,7 @@ reads-back q g =
                 omega arith,
                 (
                   omega arith,
-                  bytes-append (functionsBytes (q .functions)) (sized (rawsBytes (q .main))) (HB .0) (bytes-sized (rawsBytes (q .main)) (omega arith) MB),
+                  bytes-append F (sized mb) (HB .0) (bytes-sized mb (omega arith) MB),
                 ),
               ),
             ),

@@ -179,9 +179,7 @@ mutual
       (p′, one-step p p′ (indented (suc (length bs)) (rawLine c xs ++ w)) (first-line S a b bs bytes (indented (suc (length bs)) (rawLine c xs ++ w)) p′ t), same)
   run-raw S a (suc d) (fork c xs q t) (good-fork r row e h i j) b bs bytes n l =
       let p : Sofar = state S a (b ∷ bs) bytes in
-      let N : ℕ = suc (length bs) in
       let z : size r ≡ suc (length xs) = size-xs S r xs h in
-      let qb : List ℕ = rawsBytes q in
       let tb : List ℕ = rawsBytes t in
       let B₁ : Opened = record { before = bytes ++ (c ∷ xs); due = true } in
       let B₂ : Opened = record { before = (bytes ++ (c ∷ xs)) ++ sized (rawsBytes q); due = false } in
@@ -189,8 +187,8 @@ mutual
       let p₂ : Sofar = state S a (B₂ ∷ (b ∷ bs)) [] in
       let lb : length (bytes ++ (c ∷ xs)) ≡ length bytes + suc (length xs) = length-append bytes (c ∷ xs) in
       let lc = length-sized (bytes ++ (c ∷ xs)) (rawsBytes q) in
-      let lx = length-append xs (sized (rawsBytes q) ++ sized (rawsBytes t)) in
-      let ly = length-sized (sized (rawsBytes q)) (rawsBytes t) in
+      let lx = length-append xs (sized (rawsBytes q) ++ sized tb) in
+      let ly = length-sized (sized (rawsBytes q)) tb in
       let line = ap (λ (w : Line). takes (indent (suc (length bs)) (statementLine p)) (indented (suc (length bs)) w)) (sym (append-nil (rawLine c xs)))
       ∙ line-taken p c r branches row e (omega arith) (λ g. not-deepest p 4 g (omega arith)) xs h (suc (length bs)) [] in
       let R = run-raws S a d q i B₁ (b ∷ bs) [] (omega arith) (omega arith) in
@@ -203,8 +201,8 @@ mutual
       ∙ run-next (sofar (R .0)) (indented (suc (length bs)) (else ∷ [])) (rawsLines (suc (suc (length bs))) t) p₂ els ∙ Q .1 in (
         Q .0,
         s,
-        closed S a B₂ (b ∷ bs) (rawsBytes t) (Q .2) refl
-            (ap (state S a (b ∷ bs)) (sym (append-assoc bytes (c ∷ xs) (sized (rawsBytes q) ++ sized (rawsBytes t))) ∙ sym (append-assoc (bytes ++ (c ∷ xs)) (sized (rawsBytes q)) (sized (rawsBytes t))))),
+        closed S a B₂ (b ∷ bs) tb (Q .2) refl
+            (ap (state S a (b ∷ bs)) (sym (append-assoc bytes (c ∷ xs) (sized (rawsBytes q) ++ sized tb)) ∙ sym (append-assoc (bytes ++ (c ∷ xs)) (sized (rawsBytes q)) (sized tb)))),
       )
   run-raw S a (suc d) (loop c xs q) (good-loop r row e h i) b bs bytes n l =
       let p : Sofar = state S a (b ∷ bs) bytes in
@@ -280,30 +278,30 @@ run-functions [] fs g S F p c n l =
 run-functions (f ∷ gs) fs (a-function hk hm hl body rest) S F p c n l =
     let k : ℕ = f .k in
     let m : ℕ = f .m in
-    let fs′ : List Function = fs ++ (headOf (f .k) (f .m) ∷ []) in
+    let fs′ : List Function = fs ++ (headOf k m ∷ []) in
     let bb : List ℕ = rawsBytes (f .body) in
-    let F′ : List ℕ = (F ++ (f .k ∷ f .m ∷ [])) ++ sized (rawsBytes (f .body)) in
+    let F′ : List ℕ = (F ++ (f .k ∷ f .m ∷ [])) ++ sized bb in
     let B : Opened = record { before = F ++ (f .k ∷ f .m ∷ []); due = false } in
     let T : Scope = record { places = f .k; earlier = fs } in
-    let lf : length (fs ++ (headOf (f .k) (f .m) ∷ [])) ≡ length fs + 1 = length-append fs (headOf (f .k) (f .m) ∷ []) in
+    let lf : length (fs ++ (headOf k m ∷ [])) ≡ length fs + 1 = length-append fs (headOf k m ∷ []) in
     let l₁ : length (F ++ (f .k ∷ f .m ∷ [])) ≡ length F + 2 = length-append F (f .k ∷ f .m ∷ []) in
-    let l₂ = length-sized (F ++ (f .k ∷ f .m ∷ [])) (rawsBytes (f .body)) in
-    let l₃ = sized-length (rawsBytes (f .body)) (functionsBytes gs) in
-    let line : Line = headLine (length fs) (f .k) (f .m) in
-    let s₁ = closes-takes p (state S (some fs) [] F) c 0 (omega arith) 0x66 (0x75 ∷ 0x6E ∷ 0x63 ∷ 0x74 ∷ 0x69 ∷ 0x6F ∷ 0x6E ∷ []) (decimal (length fs) ∷ locations ∷ decimal (f .k) ∷ arguments ∷ decimal (f .m) ∷ [])
-    ∙ top-function S fs F line (functionBegun fs F (f .k) (f .m)) (omega arith) (omega arith) (function-taken fs F (f .k) (f .m) hk hm hl) in
+    let l₂ = length-sized (F ++ (f .k ∷ f .m ∷ [])) bb in
+    let l₃ = sized-length bb (functionsBytes gs) in
+    let line : Line = headLine (length fs) k m in
+    let s₁ = closes-takes p (state S (some fs) [] F) c 0 (omega arith) 0x66 (0x75 ∷ 0x6E ∷ 0x63 ∷ 0x74 ∷ 0x69 ∷ 0x6F ∷ 0x6E ∷ []) (decimal (length fs) ∷ locations ∷ decimal k ∷ arguments ∷ decimal m ∷ [])
+    ∙ top-function S fs F line (functionBegun fs F k m) (omega arith) (omega arith) (function-taken fs F k m hk hm hl) in
     let R = run-raws T (some fs′) 7 (f .body) body B [] [] (omega arith) (omega arith) in
-    let C : Closes (R .0) (state T (some fs′) [] F′) = closed T (some fs′) B [] (rawsBytes (f .body)) (R .2) refl refl in
+    let C : Closes (R .0) (state T (some fs′) [] F′) = closed T (some fs′) B [] bb (R .2) refl refl in
     let Q = run-functions gs fs′ rest T F′ (R .0) C (omega arith) (omega arith) in
     let i : length fs′ ≡ suc (length fs) = omega (arith, lf) in (
       Q .0,
       Q .1,
-      run-next (sofar p) line (rawsLines 1 (f .body) ++ rawFunctions (suc (length fs)) gs) (functionBegun fs F (f .k) (f .m)) s₁
-          ∙ run-on (sofar (functionBegun fs F (f .k) (f .m))) (sofar (R .0)) (rawsLines 1 (f .body)) (rawFunctions (suc (length fs)) gs) (R .1)
+      run-next (sofar p) line (rawsLines 1 (f .body) ++ rawFunctions (suc (length fs)) gs) (functionBegun fs F k m) s₁
+          ∙ run-on (sofar (functionBegun fs F k m)) (sofar (R .0)) (rawsLines 1 (f .body)) (rawFunctions (suc (length fs)) gs) (R .1)
           ∙ ap (λ (j : ℕ). run (sofar (R .0)) (rawFunctions j gs)) (sym i) ∙ Q .2,
-      subst (λ (z : List ℕ). Closes (Q .1) (state (Q .0) (some (fs ++ (headOf (f .k) (f .m) ∷ heads gs))) [] z))
-          (append-assoc (F ++ (f .k ∷ f .m ∷ [])) (sized (rawsBytes (f .body))) (functionsBytes gs) ∙ append-assoc F (f .k ∷ f .m ∷ []) (sized (rawsBytes (f .body)) ++ functionsBytes gs))
-          (subst (λ (z : List Function). Closes (Q .1) (state (Q .0) (some z) [] (F′ ++ functionsBytes gs))) (append-assoc fs (headOf (f .k) (f .m) ∷ []) (heads gs)) (Q .3)),
+      subst (λ (z : List ℕ). Closes (Q .1) (state (Q .0) (some (fs ++ (headOf k m ∷ heads gs))) [] z))
+          (append-assoc (F ++ (f .k ∷ f .m ∷ [])) (sized bb) (functionsBytes gs) ∙ append-assoc F (f .k ∷ f .m ∷ []) (sized bb ++ functionsBytes gs))
+          (subst (λ (z : List Function). Closes (Q .1) (state (Q .0) (some z) [] (F′ ++ functionsBytes gs))) (append-assoc fs (headOf k m ∷ []) (heads gs)) (Q .3)),
     )
 
 pub length-heads : (gs : List RawFunction) → length (heads gs) ≡ length gs
@@ -314,19 +312,19 @@ pub runs : Runs
 runs q g =
     let gs : List RawFunction = q .functions in
     let mb : List ℕ = rawsBytes (q .main) in
-    let F : List ℕ = functionsBytes (q .functions) in
-    let lp = length-sized (functionsBytes (q .functions)) (rawsBytes (q .main)) in
+    let F : List ℕ = functionsBytes gs in
+    let lp = length-sized F mb in
     let sh : length (programBytes q) ≤ 4096 = g .short in
-    let R = run-functions (q .functions) [] (g .functions) (record { places = 0; earlier = [] }) [] programBegun same (omega (arith, g .few)) (omega arith) in
-    let M : Scope = record { places = 256; earlier = heads (q .functions) } in
-    let B : Opened = record { before = functionsBytes (q .functions); due = false } in
-    let s₁ = closes-takes (R .1) (state (R .0) (some (heads (q .functions))) [] (functionsBytes (q .functions))) (R .3) 0 (omega arith) 0x6D (0x61 ∷ 0x69 ∷ 0x6E ∷ []) []
-    ∙ top-main (R .0) (heads (q .functions)) (functionsBytes (q .functions)) in
+    let R = run-functions gs [] (g .functions) (record { places = 0; earlier = [] }) [] programBegun same (omega (arith, g .few)) (omega arith) in
+    let M : Scope = record { places = 256; earlier = heads gs } in
+    let B : Opened = record { before = functionsBytes gs; due = false } in
+    let s₁ = closes-takes (R .1) (state (R .0) (some (heads gs)) [] F) (R .3) 0 (omega arith) 0x6D (0x61 ∷ 0x69 ∷ 0x6E ∷ []) []
+    ∙ top-main (R .0) (heads gs) F in
     let Q = run-raws M none 7 (q .main) (g .main) B [] [] (omega arith) (omega arith) in
-    let C = closed M none B [] (rawsBytes (q .main)) (Q .2) refl refl in (
+    let C = closed M none B [] mb (Q .2) refl refl in (
       sofar (Q .0),
-      run-on (sofar programBegun) (sofar (R .1)) (rawFunctions 0 (q .functions)) ((main ∷ []) ∷ rawsLines 1 (q .main)) (R .2)
-          ∙ run-next (sofar (R .1)) (main ∷ []) (rawsLines 1 (q .main)) (mainBegun (heads (q .functions)) (functionsBytes (q .functions))) s₁ ∙ Q .1,
-      closes-file (Q .0) (state M none [] (functionsBytes (q .functions) ++ sized (rawsBytes (q .main)))) C
-          ∙ ap (λ (n : ℕ). some (header n ++ (functionsBytes (q .functions) ++ sized (rawsBytes (q .main))))) (length-heads (q .functions)),
+      run-on (sofar programBegun) (sofar (R .1)) (rawFunctions 0 gs) ((main ∷ []) ∷ rawsLines 1 (q .main)) (R .2)
+          ∙ run-next (sofar (R .1)) (main ∷ []) (rawsLines 1 (q .main)) (mainBegun (heads gs) F) s₁ ∙ Q .1,
+      closes-file (Q .0) (state M none [] (functionsBytes gs ++ sized mb)) C
+          ∙ ap (λ (n : ℕ). some (header n ++ (functionsBytes gs ++ sized mb))) (length-heads gs),
     )

@@ -20,7 +20,8 @@ pub missing-refused : map unlisted missing ≡ map (λ (t : Text). refused (refu
 unfolding _>>=_ _>>_
 missing-refused = refl
 
-pub not-in-main : map (λ (t : Text). unlisted (lines ("program 1" ∷ "main" ∷ []) ++ t)) notInMain ≡ map (λ (t : Text). refused (refusal 27 15)) notInMain
+pub not-in-main : map (λ (t : Text). unlisted (lines ("program 1" ∷ "main" ∷ []) ++ t)) notInMain
+    ≡ map (λ (t : Text). refused (refusal 27 15)) notInMain
 unfolding _>>=_ _>>_
 not-in-main = refl
 

@@ -37,7 +37,8 @@ abbrev pub Next : List Line → Sofar → Type 0
 Next L p = (c : Ctx) × (d : ℕ) × (rs : Raws) × GoodCtx d c × Goods (scopeOf c) d rs × (p ≡ stateOf c rs) × (linesOf c rs ≡ L) × (least p ≤ 4096)
 
 -- a tree of one line more in the innermost block
-grown : (c : Ctx) (d : ℕ) (rs : Raws) → GoodCtx d c → Goods (scopeOf c) d rs → (r : Raw) → Good (scopeOf c) d r → (l : Line) → rawLines (depthOf c) r ≡ l ∷ [] → least (stateOf c rs) + length (rawBytes r) ≤ 4096
+grown : (c : Ctx) (d : ℕ) (rs : Raws) → GoodCtx d c → Goods (scopeOf c) d rs → (r : Raw) → Good (scopeOf c) d r → (l : Line)
+    → rawLines (depthOf c) r ≡ l ∷ [] → least (stateOf c rs) + length (rawBytes r) ≤ 4096
     → Next (linesOf c rs ++ (l ∷ [])) (added (stateOf c rs) (rawBytes r))
 grown c d rs g gs r h l e f =
     let le : length (rawsBytes rs ++ rawBytes r) ≡ length (rawsBytes rs) + length (rawBytes r) = length-append (rawsBytes rs) (rawBytes r) in (
@@ -47,27 +48,32 @@ grown c d rs g gs r h l e f =
       g,
       snoc-good (scopeOf c) d rs r gs h,
       ap (stateIn c) (sym (snoc-bytes rs r)),
-      ap (λ (z : List Line). ctxLines c ++ z) (snoc-lines (depthOf c) rs r ∙ ap (λ (z : List Line). rawsLines (depthOf c) rs ++ z) e) ∙ sym (append-assoc (ctxLines c) (rawsLines (depthOf c) rs) (l ∷ [])),
+      ap (λ (z : List Line). ctxLines c ++ z) (snoc-lines (depthOf c) rs r ∙ ap (λ (z : List Line). rawsLines (depthOf c) rs ++ z) e)
+          ∙ sym (append-assoc (ctxLines c) (rawsLines (depthOf c) rs) (l ∷ [])),
       omega arith,
     )
 
-statement-next : (c : Ctx) (d : ℕ) (rs : Raws) → GoodCtx d c → Goods (scopeOf c) d rs → (l : Line) (p′ : Sofar) → takes (indent (depthOf c) (statementLine (stateOf c rs))) l ≡ some p′ → Next (linesOf c rs ++ (l ∷ [])) p′
+statement-next : (c : Ctx) (d : ℕ) (rs : Raws) → GoodCtx d c → Goods (scopeOf c) d rs → (l : Line) (p′ : Sofar)
+    → takes (indent (depthOf c) (statementLine (stateOf c rs))) l ≡ some p′ → Next (linesOf c rs ++ (l ∷ [])) p′
 statement-next c d rs g gs l p′ h =
     let I = took-indent (depthOf c) (statementLine (stateOf c rs)) l p′ h in
     let s : Stated (stateOf c rs) (I .0) p′ = stated (stateOf c rs) (I .0) p′ (I .2) in
     subst (λ (z : Line). Next (linesOf c rs ++ (z ∷ [])) p′) (sym (I .1 ∙ ap (indented (depthOf c)) (s .5)))
     (go d g gs (s .0) (s .1) (s .2) (s .3) (s .4) (s .6) (s .1 .meaning) refl (s .7) (s .8) (s .9))
   where
-    go : (d : ℕ) → GoodCtx d c → Goods (scopeOf c) d rs → (b : ℕ) (r : Row) (xs : List ℕ) (vs : List Text) → rowOf b ≡ some r → Operands (scopeOf c) (r .operands) xs → (m : Meaning) → r .meaning ≡ m
+    go : (d : ℕ) → GoodCtx d c → Goods (scopeOf c) d rs → (b : ℕ) (r : Row) (xs : List ℕ) (vs : List Text) → rowOf b ≡ some r
+        → Operands (scopeOf c) (r .operands) xs → (m : Meaning) → r .meaning ≡ m
         → least (stateOf c rs) + (size r + blocksOf m) ≤ 4096
-        → takes (deeper (stateOf c rs) (blocksOf m) (operands (scopeOf c) (r .operands) λ xs. made (stateOf c rs) m (b ∷ xs))) (said (r .operands) xs ++ vs) ≡ some p′
+        → takes (deeper (stateOf c rs) (blocksOf m) (operands (scopeOf c) (r .operands) λ xs. made (stateOf c rs) m (b ∷ xs)))
+        (said (r .operands) xs ++ vs) ≡ some p′
         → takes (made (stateOf c rs) m (b ∷ xs)) vs ≡ some p′ → Next (linesOf c rs ++ (indented (depthOf c) (rawLine b xs ++ vs) ∷ [])) p′
     go d g gs b r xs vs row o (simple f) e fit dp k =
         let t : (vs ≡ []) × (added (stateOf c rs) (b ∷ xs) ≡ p′) = took-stop (added (stateOf c rs) (b ∷ xs)) vs p′ k in
         let z : size r ≡ suc (length xs) = size-xs (scopeOf c) r xs o in
         let w : rawLine b xs ≡ rawLine b xs ++ vs = sym (append-nil (rawLine b xs)) ∙ ap (λ (u : List Text). rawLine b xs ++ u) (sym (t .0)) in
         subst (λ (q : Sofar). Next (linesOf c rs ++ (indented (depthOf c) (rawLine b xs ++ vs) ∷ [])) q) (t .1)
-        (grown c d rs g gs (plain b xs) (good-plain r f row e o) (indented (depthOf c) (rawLine b xs ++ vs)) (ap (λ (u : Line). indented (depthOf c) u ∷ []) w) (omega arith))
+        (grown c d rs g gs (plain b xs) (good-plain r f row e o) (indented (depthOf c) (rawLine b xs ++ vs))
+        (ap (λ (u : Line). indented (depthOf c) u ∷ []) w) (omega arith))
     go d g gs b r xs vs row o calls e fit dp k =
         let K : ℕ = getD xs 1 0 in
         let M : ℕ = getD xs 2 0 in
@@ -77,7 +83,9 @@ statement-next c d rs g gs l p′ h =
         let A = took-list (scopeOf c) at Location refl (λ x. refl) K g₁ vs p′ (R .1) in
         let W = took-list (scopeOf c) with Slot refl (λ x. refl) M (g₂ (A .0)) (A .1) p′ (A .4) in
         let t = took-stop (added (stateOf c rs) ((b ∷ xs) ++ (A .0 ++ W .0))) (W .1) p′ (W .4) in
-        let v = A .2 ∙ ap (λ (u : List Text). listed at (A .0) ++ u) (W .2 ∙ ap (λ (u : List Text). listed with (W .0) ++ u) (t .0) ∙ append-nil (listed with (W .0))) in
+        let v =
+        A .2 ∙ ap (λ (u : List Text). listed at (A .0) ++ u)
+        (W .2 ∙ ap (λ (u : List Text). listed with (W .0) ++ u) (t .0) ∙ append-nil (listed with (W .0))) in
         let la : length (A .0) ≡ length (replicate K Location) = ranged-length (scopeOf c) 0 (replicate K Location) (A .0) (A .3) in
         let lw : length (W .0) ≡ length (replicate M Slot) = ranged-length (scopeOf c) 0 (replicate M Slot) (W .0) (W .3) in
         let la′ : length (replicate K Location) ≡ getD xs 1 0 = length-replicate K Location in
@@ -86,33 +94,55 @@ statement-next c d rs g gs l p′ h =
         let ly : length (A .0 ++ W .0) ≡ length (A .0) + length (W .0) = length-append (A .0) (W .0) in
         let lr : least (stateOf c rs) + (suc (length xs) + getD xs 1 0 + getD xs 2 0) ≤ 4096 = R .0 in
         subst (λ (q : Sofar). Next (linesOf c rs ++ (indented (depthOf c) (rawLine b xs ++ vs) ∷ [])) q) (t .1)
-        (grown c d rs g gs (called b xs (A .0) (W .0)) (good-called r row e o (A .3) (W .3)) (indented (depthOf c) (rawLine b xs ++ vs)) (ap (λ (u : List Text). indented (depthOf c) (rawLine b xs ++ u) ∷ []) (sym v)) (omega arith))
+        (grown c d rs g gs (called b xs (A .0) (W .0)) (good-called r row e o (A .3) (W .3)) (indented (depthOf c) (rawLine b xs ++ vs))
+        (ap (λ (u : List Text). indented (depthOf c) (rawLine b xs ++ u) ∷ []) (sym v)) (omega arith))
     go d g gs b r xs vs row o loops e fit dp k =
         let t : (vs ≡ []) × (opened (stateOf c rs) false (b ∷ xs) ≡ p′) = took-stop (opened (stateOf c rs) false (b ∷ xs)) vs p′ k in
         let z : size r ≡ suc (length xs) = size-xs (scopeOf c) r xs o in
-        let D = took-deeper (stateOf c rs) 1 (operands (scopeOf c) (r .operands) λ xs. made (stateOf c rs) loops (b ∷ xs)) (said (r .operands) xs ++ vs) p′ dp in
+        let D =
+        took-deeper (stateOf c rs) 1 (operands (scopeOf c) (r .operands) λ xs. made (stateOf c rs) loops (b ∷ xs)) (said (r .operands) xs ++ vs) p′ dp in
         let w : rawLine b xs ≡ rawLine b xs ++ vs = sym (append-nil (rawLine b xs)) ∙ ap (λ (u : List Text). rawLine b xs ++ u) (sym (t .0)) in
         let lb : length (rawsBytes rs ++ (b ∷ xs)) ≡ length (rawsBytes rs) + suc (length xs) = length-append (rawsBytes rs) (b ∷ xs) in
         subst (λ (q : Sofar). Next (linesOf c rs ++ (indented (depthOf c) (rawLine b xs ++ vs) ∷ [])) q) (t .1) (at-depth d g gs (D .0) (omega arith) w)
       where
-        at-depth : (d : ℕ) → GoodCtx d c → Goods (scopeOf c) d rs → length (topOf c ∷ outerOf c) < 8 → least (opened (stateOf c rs) false (b ∷ xs)) ≤ 4096 → rawLine b xs ≡ rawLine b xs ++ vs
+        at-depth : (d : ℕ) → GoodCtx d c → Goods (scopeOf c) d rs → length (topOf c ∷ outerOf c) < 8
+            → least (opened (stateOf c rs) false (b ∷ xs)) ≤ 4096 → rawLine b xs ≡ rawLine b xs ++ vs
             → Next (linesOf c rs ++ (indented (depthOf c) (rawLine b xs ++ vs) ∷ [])) (opened (stateOf c rs) false (b ∷ xs))
         at-depth zero g gs l f w = let q : length (outerOf c) + 0 ≡ 7 = depths c 0 g in absurd (omega arith)
-        at-depth (suc d) g gs l f w =
-            (in-loop c rs b xs, d, end, good-in-loop g gs r row e o, good-end, refl, append-nil (ctxLines (in-loop c rs b xs)) ∙ ap (λ (u : Line). linesOf c rs ++ (indented (depthOf c) u ∷ [])) w, f)
+        at-depth (suc d) g gs l f w = (
+          in-loop c rs b xs,
+          d,
+          end,
+          good-in-loop g gs r row e o,
+          good-end,
+          refl,
+          append-nil (ctxLines (in-loop c rs b xs)) ∙ ap (λ (u : Line). linesOf c rs ++ (indented (depthOf c) u ∷ [])) w,
+          f,
+        )
     go d g gs b r xs vs row o branches e fit dp k =
         let t : (vs ≡ []) × (opened (stateOf c rs) true (b ∷ xs) ≡ p′) = took-stop (opened (stateOf c rs) true (b ∷ xs)) vs p′ k in
         let z : size r ≡ suc (length xs) = size-xs (scopeOf c) r xs o in
-        let D = took-deeper (stateOf c rs) 3 (operands (scopeOf c) (r .operands) λ xs. made (stateOf c rs) branches (b ∷ xs)) (said (r .operands) xs ++ vs) p′ dp in
+        let D =
+        took-deeper (stateOf c rs) 3 (operands (scopeOf c) (r .operands) λ xs. made (stateOf c rs) branches (b ∷ xs))
+        (said (r .operands) xs ++ vs) p′ dp in
         let w : rawLine b xs ≡ rawLine b xs ++ vs = sym (append-nil (rawLine b xs)) ∙ ap (λ (u : List Text). rawLine b xs ++ u) (sym (t .0)) in
         let lb : length (rawsBytes rs ++ (b ∷ xs)) ≡ length (rawsBytes rs) + suc (length xs) = length-append (rawsBytes rs) (b ∷ xs) in
         subst (λ (q : Sofar). Next (linesOf c rs ++ (indented (depthOf c) (rawLine b xs ++ vs) ∷ [])) q) (t .1) (at-depth d g gs (D .0) (omega arith) w)
       where
-        at-depth : (d : ℕ) → GoodCtx d c → Goods (scopeOf c) d rs → length (topOf c ∷ outerOf c) < 8 → least (opened (stateOf c rs) true (b ∷ xs)) ≤ 4096 → rawLine b xs ≡ rawLine b xs ++ vs
+        at-depth : (d : ℕ) → GoodCtx d c → Goods (scopeOf c) d rs → length (topOf c ∷ outerOf c) < 8
+            → least (opened (stateOf c rs) true (b ∷ xs)) ≤ 4096 → rawLine b xs ≡ rawLine b xs ++ vs
             → Next (linesOf c rs ++ (indented (depthOf c) (rawLine b xs ++ vs) ∷ [])) (opened (stateOf c rs) true (b ∷ xs))
         at-depth zero g gs l f w = let q : length (outerOf c) + 0 ≡ 7 = depths c 0 g in absurd (omega arith)
-        at-depth (suc d) g gs l f w =
-            (in-first c rs b xs, d, end, good-in-first g gs r row e o, good-end, refl, append-nil (ctxLines (in-first c rs b xs)) ∙ ap (λ (u : Line). linesOf c rs ++ (indented (depthOf c) u ∷ [])) w, f)
+        at-depth (suc d) g gs l f w = (
+          in-first c rs b xs,
+          d,
+          end,
+          good-in-first g gs r row e o,
+          good-end,
+          refl,
+          append-nil (ctxLines (in-first c rs b xs)) ∙ ap (λ (u : Line). linesOf c rs ++ (indented (depthOf c) u ∷ [])) w,
+          f,
+        )
 
 -- a line outside functions and main
 at-most-8 : (k m : ℕ) → m < suc (elim (leb k 8) [ true ↦ k | false ↦ 8 ]) → (m ≤ 8) × (m ≤ k)
@@ -140,7 +170,10 @@ function-next fs g n f l p′ h =
     let m8 : (i .0 ≤ 8) × (i .0 ≤ d .0) = at-most-8 (d .0) (i .0) (i .3) in
     let k16 : d .0 ≤ 16 = omega (arith, d .3) in
     let line = a .1 ∙ ap (λ (z : List Text). function ∷ z) (b .1 ∙ ap (λ (z : ℕ). decimal z ∷ b .0) (length-heads fs)
-    ∙ ap (λ (z : List Text). decimal (length fs) ∷ z) (c .1 ∙ ap (λ (z : List Text). locations ∷ z) (d .2 ∙ ap (λ (z : List Text). decimal (d .0) ∷ z) (e .1 ∙ ap (λ (z : List Text). arguments ∷ z) (i .2 ∙ ap (λ (z : List Text). decimal (i .0) ∷ z) (j .0)))))) in
+    ∙ ap (λ (z : List Text). decimal (length fs) ∷ z)
+    (c .1 ∙ ap (λ (z : List Text). locations ∷ z)
+    (d .2 ∙ ap (λ (z : List Text). decimal (d .0) ∷ z)
+    (e .1 ∙ ap (λ (z : List Text). arguments ∷ z) (i .2 ∙ ap (λ (z : List Text). decimal (i .0) ∷ z) (j .0)))))) in
     let lf = length-append F (d .0 ∷ i .0 ∷ []) in
     let fit : least (functionBegun hs F (d .0) (i .0)) ≤ 4096 = omega arith in (
       in-function fs (d .0) (i .0),
@@ -159,8 +192,16 @@ main-next fs g n f l p′ h =
     let a = took-word main (stop (some (mainBegun (heads fs) (functionsBytes fs)))) l p′ h in
     let j : (a .0 ≡ []) × (mainBegun (heads fs) (functionsBytes fs) ≡ p′) = took-stop (mainBegun (heads fs) (functionsBytes fs)) (a .0) p′ (a .2) in
     let line : l ≡ main ∷ [] = a .1 ∙ ap (λ (z : List Text). main ∷ z) (j .0) in
-    let fit : least (mainBegun (heads fs) (functionsBytes fs)) ≤ 4096 = omega arith in
-    (in-main fs, 7, end, good-main g n, good-end, sym (j .1), append-nil (firstLines fs ++ ((main ∷ []) ∷ [])) ∙ ap (λ (z : Line). firstLines fs ++ (z ∷ [])) (sym line), subst (λ (q : Sofar). least q ≤ 4096) (j .1) fit)
+    let fit : least (mainBegun (heads fs) (functionsBytes fs)) ≤ 4096 = omega arith in (
+      in-main fs,
+      7,
+      end,
+      good-main g n,
+      good-end,
+      sym (j .1),
+      append-nil (firstLines fs ++ ((main ∷ []) ∷ [])) ∙ ap (λ (z : Line). firstLines fs ++ (z ∷ [])) (sym line),
+      subst (λ (q : Sofar). least q ≤ 4096) (j .1) fit,
+    )
 
 pub top-next : (fs : List RawFunction) → GoodFunctions [] fs → length fs ≤ 15 → 8 + length (functionsBytes fs) ≤ 4096 → (l : Line) (p′ : Sofar)
     → takesOne (topLines (some (heads fs)) (functionsBytes fs)) l ≡ some p′ → Next (firstLines fs ++ (l ∷ [])) p′
@@ -173,7 +214,9 @@ top-next fs g n f l p′ h = go (leb (12 + length (functionsBytes fs)) 4096) ref
         at (inl t) = main-next fs g n f l p′ t
         at (inr t) = none-not-some t
 
-    either : length fs < 15 → 12 + length (functionsBytes fs) ≤ 4096 → (takes (functionLine (heads fs) (functionsBytes fs)) l ≡ some p′) ⊎ (takesOne (mainLine (heads fs) (functionsBytes fs) ∷ []) l ≡ some p′) → Next (firstLines fs ++ (l ∷ [])) p′
+    either : length fs < 15 → 12 + length (functionsBytes fs) ≤ 4096
+        → (takes (functionLine (heads fs) (functionsBytes fs)) l ≡ some p′)
+        ⊎ (takesOne (mainLine (heads fs) (functionsBytes fs) ∷ []) l ≡ some p′) → Next (firstLines fs ++ (l ∷ [])) p′
     either u v (inl t) = function-next fs g u v l p′ t
     either u v (inr t) = mains t
 
@@ -183,14 +226,19 @@ top-next fs g n f l p′ h = go (leb (12 + length (functionsBytes fs)) 4096) ref
     go true a true b k =
         let u : length (heads fs) < 15 = ltb→lt (length (heads fs)) 15 (eq→T (ltb (length (heads fs)) 15) b) in
         let v = leb→le (12 + length (functionsBytes fs)) 4096 (eq→T (leb (12 + length (functionsBytes fs)) 4096) a) in
-        either (omega (arith, length-heads fs)) v (took-one (functionLine (heads fs) (functionsBytes fs)) (mainLine (heads fs) (functionsBytes fs) ∷ []) l p′ k)
+        either (omega (arith, length-heads fs)) v
+        (took-one (functionLine (heads fs) (functionsBytes fs)) (mainLine (heads fs) (functionsBytes fs) ∷ []) l p′ k)
     go true a false b k = mains k
     go false a b e k = mains k
 
-any-next : (c : Ctx) (d : ℕ) (rs : Raws) → GoodCtx d c → Goods (scopeOf c) d rs → least (stateOf c rs) ≤ 4096 → (l : Line) (p′ : Sofar) → takesOne (lines (sofar (stateOf c rs))) l ≡ some p′ → Next (linesOf c rs ++ (l ∷ [])) p′
-any-next (in-function fs k m) d rs (good-function g n i j h) gs f l p′ t = go (took-one (indent 1 (statementLine (stateOf (in-function fs k m) rs))) (topLines (some (heads fs ++ (headOf k m ∷ []))) ((functionsBytes fs ++ (k ∷ m ∷ [])) ++ sized (rawsBytes rs))) l p′ t)
+any-next : (c : Ctx) (d : ℕ) (rs : Raws) → GoodCtx d c → Goods (scopeOf c) d rs → least (stateOf c rs) ≤ 4096 → (l : Line) (p′ : Sofar)
+    → takesOne (lines (sofar (stateOf c rs))) l ≡ some p′ → Next (linesOf c rs ++ (l ∷ [])) p′
+any-next (in-function fs k m) d rs (good-function g n i j h) gs f l p′ t =
+    go (took-one (indent 1 (statementLine (stateOf (in-function fs k m) rs)))
+    (topLines (some (heads fs ++ (headOf k m ∷ []))) ((functionsBytes fs ++ (k ∷ m ∷ [])) ++ sized (rawsBytes rs))) l p′ t)
   where
-    go : (takes (indent 1 (statementLine (stateOf (in-function fs k m) rs))) l ≡ some p′) ⊎ (takesOne (topLines (some (heads fs ++ (headOf k m ∷ []))) ((functionsBytes fs ++ (k ∷ m ∷ [])) ++ sized (rawsBytes rs))) l ≡ some p′)
+    go : (takes (indent 1 (statementLine (stateOf (in-function fs k m) rs))) l ≡ some p′)
+        ⊎ (takesOne (topLines (some (heads fs ++ (headOf k m ∷ []))) ((functionsBytes fs ++ (k ∷ m ∷ [])) ++ sized (rawsBytes rs))) l ≡ some p′)
         → Next (linesOf (in-function fs k m) rs ++ (l ∷ [])) p′
     go (inl u) = statement-next (in-function fs k m) 7 rs (good-function g n i j h) gs l p′ u
     go (inr u) =
@@ -200,18 +248,23 @@ any-next (in-function fs k m) d rs (good-function g n i j h) gs f l p′ t = go 
         subst (λ (z : List Line). Next (z ++ (l ∷ [])) p′) (body-lines fs k m rs)
         (top-next (withBody fs k m rs) (functions-good-snoc [] fs (record { k = k; m = m; body = rs }) g i j h gs) (omega arith) (omega arith) l p′
         (ap (λ (z : List ℕ). takesOne (topLines (some (heads (withBody fs k m rs))) z) l) (sym (body-bytes fs k m rs))
-        ∙ ap (λ (z : List Function). takesOne (topLines (some z) ((functionsBytes fs ++ (k ∷ m ∷ [])) ++ sized (rawsBytes rs))) l) (heads-snoc fs (record { k = k; m = m; body = rs })) ∙ u))
+        ∙ ap (λ (z : List Function). takesOne (topLines (some z) ((functionsBytes fs ++ (k ∷ m ∷ [])) ++ sized (rawsBytes rs))) l)
+        (heads-snoc fs (record { k = k; m = m; body = rs })) ∙ u))
 any-next (in-main fs) d rs (good-main g n) gs f l p′ t = go (took-one (indent 1 (statementLine (stateOf (in-main fs) rs))) [] l p′ t)
   where
-    go : (takes (indent 1 (statementLine (stateOf (in-main fs) rs))) l ≡ some p′) ⊎ (takesOne [] l ≡ some p′) → Next (linesOf (in-main fs) rs ++ (l ∷ [])) p′
+    go : (takes (indent 1 (statementLine (stateOf (in-main fs) rs))) l ≡ some p′) ⊎ (takesOne [] l ≡ some p′)
+        → Next (linesOf (in-main fs) rs ++ (l ∷ [])) p′
     go (inl u) = statement-next (in-main fs) 7 rs (good-main g n) gs l p′ u
     go (inr u) = none-not-some u
 any-next (in-loop c qs b xs) d rs (good-in-loop g hs r row e o) gs f l p′ t =
-    go (took-one (indent (suc (depthOf c)) (statementLine (stateOf (in-loop c qs b xs) rs))) (afterIn c ((rawsBytes qs ++ (b ∷ xs)) ++ sized (rawsBytes rs))) l p′ t)
+    go (took-one (indent (suc (depthOf c)) (statementLine (stateOf (in-loop c qs b xs) rs)))
+    (afterIn c ((rawsBytes qs ++ (b ∷ xs)) ++ sized (rawsBytes rs))) l p′ t)
     (λ fit u. any-next c (suc d) (snoc qs (loop b xs rs)) g (snoc-good (scopeOf c) (suc d) qs (loop b xs rs) hs (good-loop r row e o gs)) fit l p′ u)
   where
-    go : (takes (indent (suc (depthOf c)) (statementLine (stateOf (in-loop c qs b xs) rs))) l ≡ some p′) ⊎ (takesOne (afterIn c ((rawsBytes qs ++ (b ∷ xs)) ++ sized (rawsBytes rs))) l ≡ some p′)
-        → (least (stateOf c (snoc qs (loop b xs rs))) ≤ 4096 → takesOne (lines (sofar (stateOf c (snoc qs (loop b xs rs))))) l ≡ some p′ → Next (linesOf c (snoc qs (loop b xs rs)) ++ (l ∷ [])) p′)
+    go : (takes (indent (suc (depthOf c)) (statementLine (stateOf (in-loop c qs b xs) rs))) l ≡ some p′)
+        ⊎ (takesOne (afterIn c ((rawsBytes qs ++ (b ∷ xs)) ++ sized (rawsBytes rs))) l ≡ some p′)
+        → (least (stateOf c (snoc qs (loop b xs rs))) ≤ 4096 → takesOne (lines (sofar (stateOf c (snoc qs (loop b xs rs))))) l ≡ some p′
+        → Next (linesOf c (snoc qs (loop b xs rs)) ++ (l ∷ [])) p′)
         → Next (linesOf (in-loop c qs b xs) rs ++ (l ∷ [])) p′
     go (inl u) rec = statement-next (in-loop c qs b xs) d rs (good-in-loop g hs r row e o) gs l p′ u
     go (inr u) rec =
@@ -230,10 +283,19 @@ any-next (in-first c qs b xs) d rs (good-in-first g hs r row e o) gs f l p′ t 
         let j : (w .0 ≡ []) × (stateOf (in-second c qs b xs rs) end ≡ p′) = took-stop (stateOf (in-second c qs b xs rs) end) (w .0) p′ (w .2) in
         let line : l ≡ indented (depthOf c) (else ∷ []) = a .1 ∙ ap (indented (depthOf c)) (w .1 ∙ ap (λ (z : List Text). else ∷ z) (j .0)) in
         let lb = length-sized (rawsBytes qs ++ (b ∷ xs)) (rawsBytes rs) in
-        let fit : least (stateOf (in-second c qs b xs rs) end) ≤ 4096 = omega arith in
-        (in-second c qs b xs rs, d, end, good-in-second g hs r row e o gs, good-end, sym (j .1), first-lines c qs b xs rs ∙ ap (λ (z : Line). linesOf (in-first c qs b xs) rs ++ (z ∷ [])) (sym line), subst (λ (q : Sofar). least q ≤ 4096) (j .1) fit)
+        let fit : least (stateOf (in-second c qs b xs rs) end) ≤ 4096 = omega arith in (
+          in-second c qs b xs rs,
+          d,
+          end,
+          good-in-second g hs r row e o gs,
+          good-end,
+          sym (j .1),
+          first-lines c qs b xs rs ∙ ap (λ (z : Line). linesOf (in-first c qs b xs) rs ++ (z ∷ [])) (sym line),
+          subst (λ (q : Sofar). least q ≤ 4096) (j .1) fit,
+        )
 
-    only : (takes (indent (depthOf c) (elseIn c qs b xs rs)) l ≡ some p′) ⊎ (takesOne [] l ≡ some p′) → Next (linesOf (in-first c qs b xs) rs ++ (l ∷ [])) p′
+    only : (takes (indent (depthOf c) (elseIn c qs b xs rs)) l ≡ some p′) ⊎ (takesOne [] l ≡ some p′)
+        → Next (linesOf (in-first c qs b xs) rs ++ (l ∷ [])) p′
     only (inl u) = elses u
     only (inr u) = none-not-some u
 
@@ -242,12 +304,14 @@ any-next (in-first c qs b xs) d rs (good-in-first g hs r row e o) gs f l p′ t 
     go (inl u) = statement-next (in-first c qs b xs) d rs (good-in-first g hs r row e o) gs l p′ u
     go (inr u) = only (took-one (indent (depthOf c) (elseIn c qs b xs rs)) [] l p′ u)
 any-next (in-second c qs b xs q) d rs (good-in-second g hs r row e o gq) gs f l p′ t =
-    go (took-one (indent (suc (depthOf c)) (statementLine (stateOf (in-second c qs b xs q) rs))) (afterIn c (((rawsBytes qs ++ (b ∷ xs)) ++ sized (rawsBytes q)) ++ sized (rawsBytes rs))) l p′ t)
+    go (took-one (indent (suc (depthOf c)) (statementLine (stateOf (in-second c qs b xs q) rs)))
+    (afterIn c (((rawsBytes qs ++ (b ∷ xs)) ++ sized (rawsBytes q)) ++ sized (rawsBytes rs))) l p′ t)
     (λ fit u. any-next c (suc d) (snoc qs (fork b xs q rs)) g (snoc-good (scopeOf c) (suc d) qs (fork b xs q rs) hs (good-fork r row e o gq gs)) fit l p′ u)
   where
     go : (takes (indent (suc (depthOf c)) (statementLine (stateOf (in-second c qs b xs q) rs))) l ≡ some p′)
         ⊎ (takesOne (afterIn c (((rawsBytes qs ++ (b ∷ xs)) ++ sized (rawsBytes q)) ++ sized (rawsBytes rs))) l ≡ some p′)
-        → (least (stateOf c (snoc qs (fork b xs q rs))) ≤ 4096 → takesOne (lines (sofar (stateOf c (snoc qs (fork b xs q rs))))) l ≡ some p′ → Next (linesOf c (snoc qs (fork b xs q rs)) ++ (l ∷ [])) p′)
+        → (least (stateOf c (snoc qs (fork b xs q rs))) ≤ 4096 → takesOne (lines (sofar (stateOf c (snoc qs (fork b xs q rs))))) l ≡ some p′
+        → Next (linesOf c (snoc qs (fork b xs q rs)) ++ (l ∷ [])) p′)
         → Next (linesOf (in-second c qs b xs q) rs ++ (l ∷ [])) p′
     go (inl u) rec = statement-next (in-second c qs b xs q) d rs (good-in-second g hs r row e o gq) gs l p′ u
     go (inr u) rec =
@@ -257,7 +321,8 @@ any-next (in-second c qs b xs q) d rs (good-in-second g hs r row e o gq) gs f l 
         (rec (omega arith) (ap (λ (z : List ℕ). takesOne (afterIn c z) l) (sym (fork-bytes qs b xs q rs)) ∙ u))
 
 -- all lines
-pub all-next : (ls : List Line) (c : Ctx) (d : ℕ) (rs : Raws) → GoodCtx d c → Goods (scopeOf c) d rs → (p : Sofar) → p ≡ stateOf c rs → least p ≤ 4096 → (σ : State) → run (sofar p) ls ≡ some σ
+pub all-next : (ls : List Line) (c : Ctx) (d : ℕ) (rs : Raws) → GoodCtx d c → Goods (scopeOf c) d rs → (p : Sofar) → p ≡ stateOf c rs
+    → least p ≤ 4096 → (σ : State) → run (sofar p) ls ≡ some σ
     → (q : Sofar) × (σ ≡ sofar q) × Next (linesOf c rs ++ ls) q
 all-next [] c d rs g gs p e f σ h = (p, (let z : some (sofar p) ≡ some σ = h in cc), (c, d, rs, g, gs, e, sym (append-nil (linesOf c rs)), f))
 all-next (l ∷ ls) c d rs g gs p e f σ h =

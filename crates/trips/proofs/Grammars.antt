@@ -41,7 +41,8 @@ pub place-found : (w : Text) (vs : List Text) (i : ℕ) → place w vs ≡ some 
 place-found w [] i h = none-not-some h
 place-found w (v ∷ vs) i h = go (sameList eqb w v) refl (place w vs) refl h (λ j e. place-found w vs j e)
   where
-    go : (b : Bool) → sameList eqb w v ≡ b → (o : Option ℕ) → place w vs ≡ o → elim b [ true ↦ some 0 | false ↦ elim o [ none ↦ none | some j ↦ some (suc j) ] ] ≡ some i
+    go : (b : Bool) → sameList eqb w v ≡ b → (o : Option ℕ) → place w vs ≡ o
+        → elim b [ true ↦ some 0 | false ↦ elim o [ none ↦ none | some j ↦ some (suc j) ] ] ≡ some i
         → ((j : ℕ) → place w vs ≡ some j → (getD vs j [] ≡ w) × (j < length vs)) → (getD (v ∷ vs) i [] ≡ w) × (i < length (v ∷ vs))
     go true e o f k rec =
         let z : 0 ≡ i = cc in
@@ -118,7 +119,8 @@ module _ {A : Type 0} where
   Proper (stop e) = Unit {0}
   Proper (ask e vs k) = (i : ℕ) → i < length vs → (place (getD vs i []) vs ≡ some i) × Clean (getD vs i []) × Proper (k i)
 
-  pub takes-next : (e : Option A) (vs : List Text) (k : ℕ → Grammar A) (w : Text) (ws : List Text) (i : ℕ) → place w vs ≡ some i → takes (ask e vs k) (w ∷ ws) ≡ takes (k i) ws
+  pub takes-next : (e : Option A) (vs : List Text) (k : ℕ → Grammar A) (w : Text) (ws : List Text) (i : ℕ) → place w vs ≡ some i
+      → takes (ask e vs k) (w ∷ ws) ≡ takes (k i) ws
   takes-next e vs k w ws i h = ap (λ (o : Option ℕ). elim o [ none ↦ none | some j ↦ takes (k j) ws ]) h
 
   -- a line that is taken: its first word is one of those that may stand next
@@ -126,7 +128,8 @@ module _ {A : Type 0} where
       → (i : ℕ) × (place w vs ≡ some i) × (takes (k i) ws ≡ some a)
   took e vs k w ws a h = go (place w vs) refl h
     where
-      go : (o : Option ℕ) → place w vs ≡ o → elim o [ none ↦ none | some j ↦ takes (k j) ws ] ≡ some a → (i : ℕ) × (place w vs ≡ some i) × (takes (k i) ws ≡ some a)
+      go : (o : Option ℕ) → place w vs ≡ o → elim o [ none ↦ none | some j ↦ takes (k j) ws ] ≡ some a
+          → (i : ℕ) × (place w vs ≡ some i) × (takes (k i) ws ≡ some a)
       go none f r = none-not-some r
       go (some i) f r = (i, f, r)
 
@@ -148,7 +151,8 @@ module _ {A : Type 0} where
   live-takes (ask e vs k) p h = go (isSome e) refl h (λ i q v. live-takes (k i) q v)
     where
       go : (b : Bool) → isSome e ≡ b → elim b [ true ↦ true | false ↦ someBelow (length vs) λ i. live (k i) ] ≡ true
-          → ((i : ℕ) → Proper (k i) → live (k i) ≡ true → (ws : List Text) × (a : A) × (takes (k i) ws ≡ some a)) → (ws : List Text) × (a : A) × (takes (ask e vs k) ws ≡ some a)
+          → ((i : ℕ) → Proper (k i) → live (k i) ≡ true → (ws : List Text) × (a : A) × (takes (k i) ws ≡ some a))
+          → (ws : List Text) × (a : A) × (takes (ask e vs k) ws ≡ some a)
       go true f r rec = let q : (a : A) × (e ≡ some a) = is-some e f in ([], q .0, q .1)
       go false f r rec =
           let q : (i : ℕ) × (i < length vs) × (live (k i) ≡ true) = below-some (length vs) (λ i. live (k i)) r in
@@ -164,7 +168,8 @@ module _ {A : Type 0} where
       let s = some-below (length vs) (λ i. live (k i)) (r .0) (place-found w vs (r .0) (r .1) .1) (takes-live (k (r .0)) ws a (r .2)) in
       go (isSome e) s
     where
-      go : (b : Bool) → someBelow (length vs) (λ i. live (k i)) ≡ true → elim b [ true ↦ true | false ↦ someBelow (length vs) λ i. live (k i) ] ≡ true
+      go : (b : Bool) → someBelow (length vs) (λ i. live (k i)) ≡ true
+          → elim b [ true ↦ true | false ↦ someBelow (length vs) λ i. live (k i) ] ≡ true
       go true s = refl
       go false s = s
 
@@ -186,7 +191,8 @@ module _ {A : Type 0} where
         t .1,
         z .0 ++ behind space (t .0),
         takes-next e vs k (getD vs i []) (t .0) i (p i (q .1) .0) ∙ t .2,
-        ap (λ (v : Text). v ++ behind space (t .0)) (z .1) ∙ append-assoc u (z .0) (behind space (t .0)) ∙ ap (λ (v : Text). v ++ (z .0 ++ behind space (t .0))) (sym (append-nil u)),
+        ap (λ (v : Text). v ++ behind space (t .0)) (z .1) ∙ append-assoc u (z .0) (behind space (t .0))
+            ∙ ap (λ (v : Text). v ++ (z .0 ++ behind space (t .0))) (sym (append-nil u)),
       )
   starts-begun (ask e vs k) p (w ∷ (x ∷ us)) h = go (place w vs) refl h (λ i q v. starts-begun (k i) q (x ∷ us) v)
     where
@@ -205,7 +211,8 @@ module _ {A : Type 0} where
           )
 
   -- what begins a line that is taken is admitted
-  pub begun-starts : (g : Grammar A) (w : Text) (ws : List Text) (a : A) → takes g (w ∷ ws) ≡ some a → CleanLine (w ∷ ws) → (l y : Text) → join space (w ∷ ws) ≡ l ++ y
+  pub begun-starts : (g : Grammar A) (w : Text) (ws : List Text) (a : A) → takes g (w ∷ ws) ≡ some a → CleanLine (w ∷ ws) → (l y : Text)
+      → join space (w ∷ ws) ≡ l ++ y
       → starts g (split space l) ≡ true
   begun-starts (stop e) w ws a h c l y j = none-not-some h
   begun-starts (ask e vs k) w ws a h c l y j =
@@ -220,16 +227,19 @@ module _ {A : Type 0} where
           let t : (opens l (getD vs i []) && live (k i)) ≡ true = ap (λ (b : Bool). b && live (k i)) o ∙ v in
           ap (starts (ask e vs k)) (split-one space l free) ∙ some-below (length vs) (λ n. opens l (getD vs n []) && live (k n)) i (g .1) t
 
-      goes : (i : ℕ) → place w vs ≡ some i → (l′ : Text) → l ≡ w ++ (space ∷ l′) → starts (k i) (split space l′) ≡ true → starts (ask e vs k) (split space l) ≡ true
+      goes : (i : ℕ) → place w vs ≡ some i → (l′ : Text) → l ≡ w ++ (space ∷ l′) → starts (k i) (split space l′) ≡ true
+          → starts (ask e vs k) (split space l) ≡ true
       goes i f l′ q v =
           let s : split space l ≡ w ∷ split space l′ = ap (split space) q ∙ split-seam space w (c .0 .0) l′ in
           let sh : (p : Text) × (ps : List Text) × (split space l′ ≡ p ∷ ps) = split-shape space l′ in
-          ap (starts (ask e vs k)) (s ∙ ap (λ (t : List Text). w ∷ t) (sh .2)) ∙ ap (λ (o : Option ℕ). elim o [ none ↦ false | some n ↦ starts (k n) (sh .0 ∷ sh .1) ]) f
+          ap (starts (ask e vs k)) (s ∙ ap (λ (t : List Text). w ∷ t) (sh .2))
+          ∙ ap (λ (o : Option ℕ). elim o [ none ↦ false | some n ↦ starts (k n) (sh .0 ∷ sh .1) ]) f
           ∙ ap (starts (k i)) (sym (sh .2)) ∙ v
 
       go : (i : ℕ) → place w vs ≡ some i → (xs : List Text) → takes (k i) xs ≡ some a → CleanLine xs
           → Longer w (behind space xs) l y
-          → ((x : Text) (xs : List Text) → takes (k i) (x ∷ xs) ≡ some a → CleanLine (x ∷ xs) → (l′ : Text) → join space (x ∷ xs) ≡ l′ ++ y → starts (k i) (split space l′) ≡ true)
+          → ((x : Text) (xs : List Text) → takes (k i) (x ∷ xs) ≡ some a → CleanLine (x ∷ xs) → (l′ : Text)
+          → join space (x ∷ xs) ≡ l′ ++ y → starts (k i) (split space l′) ≡ true)
           → starts (ask e vs k) (split space l) ≡ true
       go i f xs t d (inl q) rec = ends i f (takes-live (k i) xs a t) (q .0) (q .1)
       go i f [] t d (inr q) rec = let z : _≡_ {A = ℕ} 0 1 = (let e : [] ≡ q .0 ∷ (q .1 ++ y) = q .3 in cc) in absurd (omega arith)

@@ -50,7 +50,8 @@ weight-indented zero l = omega arith
 weight-indented (suc n) l = let r : weight (indented n l) ≡ n + n + weight l = weight-indented n l in omega arith
 
 -- an indented line that has a word
-length-indented : (n : ℕ) (w : Text) (ws : List Text) (t : Text) → length (join space (indented n (w ∷ ws)) ++ (newline ∷ t)) ≡ n + n + weight (w ∷ ws) + length t
+length-indented : (n : ℕ) (w : Text) (ws : List Text) (t : Text)
+    → length (join space (indented n (w ∷ ws)) ++ (newline ∷ t)) ≡ n + n + weight (w ∷ ws) + length t
 length-indented zero w ws t = length-line w ws t ∙ (let z : weight (w ∷ ws) + length t ≡ 0 + 0 + weight (w ∷ ws) + length t = omega arith in z)
 length-indented (suc n) w ws t = let r = weight-indented n (w ∷ ws) in length-line [] ([] ∷ indented n (w ∷ ws)) t ∙ omega arith
 
@@ -72,7 +73,8 @@ short-gate (w ∷ l) h zero = go (leb (length w) 3) refl h
     go false e k = let z : _≡_ {A = ℕ} 0 1 = cc in absurd (omega arith)
 short-gate (w ∷ l) h (suc i) = go (leb (length w) 3) h (λ k. short-gate l k i)
   where
-    go : (b : Bool) → (b && all (λ w. leb (length w) 3) l) ≡ true → (all (λ w. leb (length w) 3) l ≡ true → length (getD l i []) ≤ 3) → length (getD l i []) ≤ 3
+    go : (b : Bool) → (b && all (λ w. leb (length w) 3) l) ≡ true → (all (λ w. leb (length w) 3) l ≡ true → length (getD l i []) ≤ 3)
+        → length (getD l i []) ≤ 3
     go true k rec = rec k
     go false k rec = let z : _≡_ {A = ℕ} 0 1 = cc in absurd (omega arith)
 
@@ -92,7 +94,8 @@ weight-said [] xs = omega arith
 weight-said (o ∷ os) [] = omega arith
 weight-said (o ∷ os) (x ∷ xs) = go (silent o) (weight-said os xs) (short-spoken o x)
   where
-    go : (b : Bool) → weight (said os xs) ≤ 4 * length xs → length (spoken o x) ≤ 3 → weight (chosen b (said os xs) (spoken o x ∷ said os xs)) ≤ 4 * suc (length xs)
+    go : (b : Bool) → weight (said os xs) ≤ 4 * length xs → length (spoken o x) ≤ 3
+        → weight (chosen b (said os xs) (spoken o x ∷ said os xs)) ≤ 4 * suc (length xs)
     go true h k = omega arith
     go false h k = omega arith
 
@@ -104,7 +107,8 @@ weight-listed : (w : Text) → length w ≤ 4 → (xs : List ℕ) → weight (li
 weight-listed w l [] = omega arith
 weight-listed w l (x ∷ xs) = let h = weight-decimals xs in let k = short-decimal x in omega arith
 
-weight-row : (S : Scope) (b : ℕ) (r : Row) → rowOf b ≡ some r → (xs : List ℕ) → Operands S (r .operands) xs → (weight (rawLine b xs) ≤ 8 + 4 * length xs) × (1 ≤ length xs)
+weight-row : (S : Scope) (b : ℕ) (r : Row) → rowOf b ≡ some r → (xs : List ℕ) → Operands S (r .operands) xs
+    → (weight (rawLine b xs) ≤ 8 + 4 * length xs) × (1 ≤ length xs)
 weight-row S b r e xs o =
     let n : length (nameOf b) ≤ 7 = name-short b r e in
     let w : weight (said (operandsIn (rowOf b)) xs) ≤ 4 * length xs = weight-said (operandsIn (rowOf b)) xs in
@@ -113,7 +117,8 @@ weight-row S b r e xs o =
     (omega arith, omega arith)
 
 mutual
-  raw-short : (S : Scope) (d : ℕ) (r : Raw) → Good S d r → (n : ℕ) → n + d ≤ 8 → (t : List Line) → length (written (rawLines n r ++ t)) ≤ 16 * length (rawBytes r) + length (written t)
+  raw-short : (S : Scope) (d : ℕ) (r : Raw) → Good S d r → (n : ℕ) → n + d ≤ 8 → (t : List Line)
+      → length (written (rawLines n r ++ t)) ≤ 16 * length (rawBytes r) + length (written t)
   raw-short S d (plain b xs) (good-plain r f row m o) n l t =
       let w : (weight (rawLine b xs) ≤ 8 + 4 * length xs) × (1 ≤ length xs) = weight-row S b r row xs o in
       let e = length-indented n (nameOf b) (said (operandsIn (rowOf b)) xs) (written t) in
@@ -143,12 +148,15 @@ mutual
       let e = length-indented n (nameOf b) (said (operandsIn (rowOf b)) xs) (written (rawsLines (suc n) q ++ E)) in
       let l₁ = length-append xs (sized (rawsBytes q) ++ sized (rawsBytes u)) in
       let l₂ = length-sized (sized (rawsBytes q)) (rawsBytes u) in
-      let a = ap (λ (z : List Line). indented n (rawLine b xs) ∷ z) (append-assoc (rawsLines (suc n) q) (indented n (else ∷ []) ∷ rawsLines (suc n) u) t) in
+      let a =
+      ap (λ (z : List Line). indented n (rawLine b xs) ∷ z) (append-assoc (rawsLines (suc n) q) (indented n (else ∷ []) ∷ rawsLines (suc n) u) t) in
       let c = ap (λ (z : List Line). length (written z)) a in
-      let k : length (written (indented n (rawLine b xs) ∷ (rawsLines (suc n) q ++ E))) ≤ 16 * length (rawBytes (fork b xs q u)) + length (written t) = omega (arith, w .0, w .1) in
+      let k : length (written (indented n (rawLine b xs) ∷ (rawsLines (suc n) q ++ E))) ≤ 16 * length (rawBytes (fork b xs q u)) + length (written t) =
+      omega (arith, w .0, w .1) in
       subst (λ (z : ℕ). z ≤ 16 * length (rawBytes (fork b xs q u)) + length (written t)) (sym c) k
 
-  raws-short : (S : Scope) (d : ℕ) (rs : Raws) → Goods S d rs → (n : ℕ) → n + d ≤ 8 → (t : List Line) → length (written (rawsLines n rs ++ t)) ≤ 16 * length (rawsBytes rs) + length (written t)
+  raws-short : (S : Scope) (d : ℕ) (rs : Raws) → Goods S d rs → (n : ℕ) → n + d ≤ 8 → (t : List Line)
+      → length (written (rawsLines n rs ++ t)) ≤ 16 * length (rawsBytes rs) + length (written t)
   raws-short S d end g n l t = omega arith
   raws-short S d (r then rs) (good-then g gs) n l t =
       let i = raw-short S d r g n l (rawsLines n rs ++ t) in
@@ -157,13 +165,16 @@ mutual
       let e : length (rawBytes r ++ rawsBytes rs) ≡ length (rawBytes r) + length (rawsBytes rs) = length-append (rawBytes r) (rawsBytes rs) in
       omega arith
 
-functions-short : (gs : List RawFunction) (hs : List Function) → GoodFunctions hs gs → (i : ℕ) (t : List Line) → length (written (rawFunctions i gs ++ t)) ≤ 16 * length (functionsBytes gs) + length (written t)
+functions-short : (gs : List RawFunction) (hs : List Function) → GoodFunctions hs gs → (i : ℕ) (t : List Line)
+    → length (written (rawFunctions i gs ++ t)) ≤ 16 * length (functionsBytes gs) + length (written t)
 functions-short [] hs g i t = omega arith
 functions-short (f ∷ gs) hs (a-function hk hm hl body rest) i t =
     let a = functions-short gs (hs ++ (headOf (f .k) (f .m) ∷ [])) rest (suc i) t in
     let b = raws-short (record { places = f .k; earlier = hs }) 7 (f .body) body 1 (omega arith) (rawFunctions (suc i) gs ++ t) in
     let c = ap (λ (z : List Line). length (written z)) (append-assoc (rawsLines 1 (f .body)) (rawFunctions (suc i) gs) t) in
-    let e = length-line function (decimal i ∷ locations ∷ decimal (f .k) ∷ arguments ∷ decimal (f .m) ∷ []) (written ((rawsLines 1 (f .body) ++ rawFunctions (suc i) gs) ++ t)) in
+    let e =
+    length-line function (decimal i ∷ locations ∷ decimal (f .k) ∷ arguments ∷ decimal (f .m) ∷ [])
+    (written ((rawsLines 1 (f .body) ++ rawFunctions (suc i) gs) ++ t)) in
     let z = sized-length (rawsBytes (f .body)) (functionsBytes gs) in
     omega (arith, short-decimal i, short-decimal (f .k), short-decimal (f .m))
 

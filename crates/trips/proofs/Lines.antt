@@ -59,7 +59,8 @@ same-line a b ls h w ws e k t q =
     )
 
 -- written lines in front of a text that clean lines are written as are the first of these
-pub written-front : (ls L : List Line) → CleanLines ls → CleanLines L → (t : Text) → written L ≡ written ls ++ t → (more : List Line) × (L ≡ ls ++ more) × (written more ≡ t)
+pub written-front : (ls L : List Line) → CleanLines ls → CleanLines L → (t : Text) → written L ≡ written ls ++ t
+    → (more : List Line) × (L ≡ ls ++ more) × (written more ≡ t)
 written-front [] L h k t e = (L, refl, e)
 written-front (l ∷ ls) [] h k t e = nil-not-mid (join space l) newline (written ls ++ t) (e ∙ append-assoc (join space l) (newline ∷ written ls) t)
 written-front (l ∷ ls) (a ∷ L) h k t e =
@@ -69,7 +70,8 @@ written-front (l ∷ ls) (a ∷ L) h k t e =
 
 pub written-append : (ls ms : List Line) → written (ls ++ ms) ≡ written ls ++ written ms
 written-append [] ms = refl
-written-append (l ∷ ls) ms = ap (λ (t : Text). join space l ++ (newline ∷ t)) (written-append ls ms) ∙ sym (append-assoc (join space l) (newline ∷ written ls) (written ms))
+written-append (l ∷ ls) ms =
+    ap (λ (t : Text). join space l ++ (newline ∷ t)) (written-append ls ms) ∙ sym (append-assoc (join space l) (newline ∷ written ls) (written ms))
 
 -- the text of one line more
 pub written-line : (ls : List Line) (l : Text) (t : Text) → written (ls ++ (split space l ∷ [])) ++ t ≡ written ls ++ (l ++ (newline ∷ t))
@@ -83,7 +85,12 @@ whole (l ∷ ls) = go (whole ls)
   where
     go : Whole (written ls) → Whole (written (l ∷ ls))
     go (inl e) = inr (join space l, ap (λ (t : Text). join space l ++ (newline ∷ t)) e)
-    go (inr r) = inr (join space l ++ (newline ∷ r .0), ap (λ (t : Text). join space l ++ (newline ∷ t)) (r .1) ∙ sym (append-assoc (join space l) (newline ∷ r .0) (newline ∷ [])))
+    go (inr r) =
+        inr (
+          join space l ++ (newline ∷ r .0),
+          ap (λ (t : Text). join space l ++ (newline ∷ t)) (r .1)
+              ∙ sym (append-assoc (join space l) (newline ∷ r .0) (newline ∷ [])),
+        )
 
 pub unbroken : (t : Text) → Free newline t → Unbroken t
 unbroken [] h = tt

@@ -22,7 +22,8 @@ snoc-bytes (t then ts) r = ap (λ (z : List ℕ). rawBytes t ++ z) (snoc-bytes t
 
 pub snoc-lines : (n : ℕ) (rs : Raws) (r : Raw) → rawsLines n (snoc rs r) ≡ rawsLines n rs ++ rawLines n r
 snoc-lines n end r = append-nil (rawLines n r)
-snoc-lines n (t then ts) r = ap (λ (z : List Line). rawLines n t ++ z) (snoc-lines n ts r) ∙ sym (append-assoc (rawLines n t) (rawsLines n ts) (rawLines n r))
+snoc-lines n (t then ts) r =
+    ap (λ (z : List Line). rawLines n t ++ z) (snoc-lines n ts r) ∙ sym (append-assoc (rawLines n t) (rawsLines n ts) (rawLines n r))
 
 pub snoc-good : (S : Scope) (d : ℕ) (rs : Raws) (r : Raw) → Goods S d rs → Good S d r → Goods S d (snoc rs r)
 snoc-good S d end r h g = good-then g good-end
@@ -33,21 +34,32 @@ pub heads-snoc : (fs : List RawFunction) (f : RawFunction) → heads (fs ++ (f �
 heads-snoc [] f = refl
 heads-snoc (g ∷ gs) f = ap (λ (z : List Function). headOf (g .k) (g .m) ∷ z) (heads-snoc gs f)
 
-pub functions-bytes-snoc : (fs : List RawFunction) (f : RawFunction) → functionsBytes (fs ++ (f ∷ [])) ≡ functionsBytes fs ++ (f .k ∷ f .m ∷ sized (rawsBytes (f .body)))
+pub functions-bytes-snoc : (fs : List RawFunction) (f : RawFunction)
+    → functionsBytes (fs ++ (f ∷ [])) ≡ functionsBytes fs ++ (f .k ∷ f .m ∷ sized (rawsBytes (f .body)))
 functions-bytes-snoc [] f = append-nil (f .k ∷ f .m ∷ sized (rawsBytes (f .body)))
 functions-bytes-snoc (g ∷ gs) f =
     ap (λ (z : List ℕ). (g .k ∷ g .m ∷ sized (rawsBytes (g .body))) ++ z) (functions-bytes-snoc gs f)
     ∙ sym (append-assoc (g .k ∷ g .m ∷ sized (rawsBytes (g .body))) (functionsBytes gs) (f .k ∷ f .m ∷ sized (rawsBytes (f .body))))
 
-pub functions-lines-snoc : (i : ℕ) (fs : List RawFunction) (f : RawFunction) → rawFunctions i (fs ++ (f ∷ [])) ≡ rawFunctions i fs ++ (headLine (i + length fs) (f .k) (f .m) ∷ rawsLines 1 (f .body))
-functions-lines-snoc i [] f = ap (λ (j : ℕ). headLine j (f .k) (f .m) ∷ (rawsLines 1 (f .body) ++ [])) (sym (add-zero i)) ∙ ap (λ (z : List Line). headLine (i + 0) (f .k) (f .m) ∷ z) (append-nil (rawsLines 1 (f .body)))
+pub functions-lines-snoc : (i : ℕ) (fs : List RawFunction) (f : RawFunction)
+    → rawFunctions i (fs ++ (f ∷ [])) ≡ rawFunctions i fs ++ (headLine (i + length fs) (f .k) (f .m) ∷ rawsLines 1 (f .body))
+functions-lines-snoc i [] f =
+    ap (λ (j : ℕ). headLine j (f .k) (f .m) ∷ (rawsLines 1 (f .body) ++ [])) (sym (add-zero i))
+    ∙ ap (λ (z : List Line). headLine (i + 0) (f .k) (f .m) ∷ z) (append-nil (rawsLines 1 (f .body)))
 functions-lines-snoc i (g ∷ gs) f =
-    ap (λ (z : List Line). headLine i (g .k) (g .m) ∷ (rawsLines 1 (g .body) ++ z)) (functions-lines-snoc (suc i) gs f ∙ ap (λ (j : ℕ). rawFunctions (suc i) gs ++ (headLine j (f .k) (f .m) ∷ rawsLines 1 (f .body))) (suc-add i (length gs) ∙ sym (add-suc i (length gs))))
-    ∙ ap (λ (z : List Line). headLine i (g .k) (g .m) ∷ z) (sym (append-assoc (rawsLines 1 (g .body)) (rawFunctions (suc i) gs) (headLine (i + suc (length gs)) (f .k) (f .m) ∷ rawsLines 1 (f .body))))
+    ap (λ (z : List Line). headLine i (g .k) (g .m) ∷ (rawsLines 1 (g .body) ++ z))
+    (functions-lines-snoc (suc i) gs f
+    ∙ ap (λ (j : ℕ). rawFunctions (suc i) gs ++ (headLine j (f .k) (f .m) ∷ rawsLines 1 (f .body)))
+    (suc-add i (length gs) ∙ sym (add-suc i (length gs))))
+    ∙ ap (λ (z : List Line). headLine i (g .k) (g .m) ∷ z)
+    (sym (append-assoc (rawsLines 1 (g .body)) (rawFunctions (suc i) gs) (headLine (i + suc (length gs)) (f .k) (f .m) ∷ rawsLines 1 (f .body))))
 
-pub functions-good-snoc : (hs : List Function) (fs : List RawFunction) (f : RawFunction) → GoodFunctions hs fs → f .k ≤ 16 → f .m ≤ 8 → f .m ≤ f .k → Goods (record { places = f .k; earlier = hs ++ heads fs }) 7 (f .body)
+pub functions-good-snoc : (hs : List Function) (fs : List RawFunction) (f : RawFunction) → GoodFunctions hs fs → f .k ≤ 16 → f .m ≤ 8
+    → f .m ≤ f .k → Goods (record { places = f .k; earlier = hs ++ heads fs }) 7 (f .body)
     → GoodFunctions hs (fs ++ (f ∷ []))
-functions-good-snoc hs [] f g i j k b = a-function i j k (subst (λ (z : List Function). Goods (record { places = f .k; earlier = z }) 7 (f .body)) (append-nil hs) b) no-functions
+functions-good-snoc hs [] f g i j k b =
+    a-function i j k (subst (λ (z : List Function). Goods (record { places = f .k; earlier = z }) 7 (f .body)) (append-nil hs) b) no-functions
 functions-good-snoc hs (t ∷ ts) f (a-function p q r s g) i j k b =
     a-function p q r s (functions-good-snoc (hs ++ (headOf (t .k) (t .m) ∷ [])) ts f g i j k
-    (subst (λ (z : List Function). Goods (record { places = f .k; earlier = z }) 7 (f .body)) (sym (append-assoc hs (headOf (t .k) (t .m) ∷ []) (heads ts))) b))
+    (subst (λ (z : List Function). Goods (record { places = f .k; earlier = z }) 7 (f .body))
+    (sym (append-assoc hs (headOf (t .k) (t .m) ∷ []) (heads ts))) b))

@@ -83,13 +83,17 @@ abbrev cleanB : Text → Bool
 cleanB w = all (λ x. not (eqb x space) && not (eqb x newline)) w
 
 clean-by : (w : Text) → T (cleanB w) → Clean w
-clean-by w t = (free space (λ x h. both (not (eqb x space)) (not (eqb x newline)) h .0) w (T→eq (cleanB w) t), free newline (λ x h. both (not (eqb x space)) (not (eqb x newline)) h .1) w (T→eq (cleanB w) t))
+clean-by w t = (
+  free space (λ x h. both (not (eqb x space)) (not (eqb x newline)) h .0) w (T→eq (cleanB w) t),
+  free newline (λ x h. both (not (eqb x space)) (not (eqb x newline)) h .1) w (T→eq (cleanB w) t),
+)
   where
     flip : (b : Bool) → not b ≡ true → b ≡ false
     flip true h = absurd (false≢true h)
     flip false h = refl
 
-    free : (c : ℕ) → ((x : ℕ) → (not (eqb x space) && not (eqb x newline)) ≡ true → not (eqb x c) ≡ true) → (w : Text) → cleanB w ≡ true → Free c w
+    free : (c : ℕ) → ((x : ℕ) → (not (eqb x space) && not (eqb x newline)) ≡ true → not (eqb x c) ≡ true) → (w : Text) → cleanB w ≡ true
+        → Free c w
     free c f [] h = tt
     free c f (x ∷ w) h =
         let b : ((not (eqb x space) && not (eqb x newline)) ≡ true) × (cleanB w ≡ true) = both (not (eqb x space) && not (eqb x newline)) (cleanB w) h in
@@ -110,7 +114,8 @@ pub place-upTo : (N : ℕ) (f : ℕ → Text) → Apart N f → (n j i : ℕ) �
 place-upTo N f h zero j i l k = absurd (not-suc-le-zero k)
 place-upTo N f h (suc n) j zero l k =
     ap (λ (m : ℕ). place (f m) (upTo j (suc n) f)) (add-zero j)
-    ∙ ap (λ (b : Bool). elim b [ true ↦ some 0 | false ↦ elim (place (f j) (upTo (suc j) n f)) [ none ↦ none | some m ↦ some (suc m) ] ]) (word-same (f j))
+    ∙ ap (λ (b : Bool). elim b [ true ↦ some 0 | false ↦ elim (place (f j) (upTo (suc j) n f)) [ none ↦ none | some m ↦ some (suc m) ] ])
+    (word-same (f j))
 place-upTo N f h (suc n) j (suc i) l k =
     let e : j + suc i ≡ suc j + i = omega arith in
     let q = same-no (f (suc j + i)) (f j) (λ z. (let y = h (suc j + i) j (omega arith) (omega arith) z in omega arith)) in
@@ -163,7 +168,8 @@ clean-spoken S CalleeM i h = absurd (not-suc-le-zero h)
 clean-spoken S Nothing i h = absurd (not-suc-le-zero h)
 
 module _ {A : Type 0} where
-  proper-numbered : (n : ℕ) (f : ℕ → Text) → Apart n f → ((i : ℕ) → i < n → Clean (f i)) → (k : ℕ → Grammar A) → ((i : ℕ) → Proper (k i)) → Proper (ask none (upTo 0 n f) k)
+  proper-numbered : (n : ℕ) (f : ℕ → Text) → Apart n f → ((i : ℕ) → i < n → Clean (f i)) → (k : ℕ → Grammar A)
+      → ((i : ℕ) → Proper (k i)) → Proper (ask none (upTo 0 n f) k)
   proper-numbered n f h c k p i l =
       let m : i < n = subst (λ (j : ℕ). i < j) (length-upTo 0 n f) l in
       let e : getD (upTo 0 n f) i [] ≡ f i = getD-upTo-zero n i f [] m in
@@ -187,13 +193,16 @@ module _ {A : Type 0} where
 
     proper-others : (f : ℕ) (os : List Operand) (k : List ℕ → Grammar A) → ((bs : List ℕ) → Proper (k bs)) → Proper (others S f os k)
     proper-others f [] k p = p []
-    proper-others f (o ∷ os) k p = proper-operand f o (λ b. others S f os λ bs. k (b ∷ bs)) λ b. proper-others f os (λ bs. k (b ∷ bs)) λ bs. p (b ∷ bs)
+    proper-others f (o ∷ os) k p =
+        proper-operand f o (λ b. others S f os λ bs. k (b ∷ bs)) λ b. proper-others f os (λ bs. k (b ∷ bs)) λ bs. p (b ∷ bs)
 
     proper-operands : (os : List Operand) (k : List ℕ → Grammar A) → ((bs : List ℕ) → Proper (k bs)) → Proper (operands S os k)
     proper-operands [] k p = p []
-    proper-operands (o ∷ os) k p = proper-operand 0 o (λ b. others S b os λ bs. k (b ∷ bs)) λ b. proper-others b os (λ bs. k (b ∷ bs)) λ bs. p (b ∷ bs)
+    proper-operands (o ∷ os) k p =
+        proper-operand 0 o (λ b. others S b os λ bs. k (b ∷ bs)) λ b. proper-others b os (λ bs. k (b ∷ bs)) λ bs. p (b ∷ bs)
 
-    proper-list : (w : Text) → Clean w → (o : Operand) (n : ℕ) (k : List ℕ → Grammar A) → ((bs : List ℕ) → Proper (k bs)) → Proper (list S w o n k)
+    proper-list : (w : Text) → Clean w → (o : Operand) (n : ℕ) (k : List ℕ → Grammar A) → ((bs : List ℕ) → Proper (k bs))
+        → Proper (list S w o n k)
     proper-list w c o zero k p = p []
     proper-list w c o (suc n) k p = proper-word w (others S 0 (replicate (suc n) o) k) c (proper-others 0 (replicate (suc n) o) k p)
 
@@ -221,18 +230,25 @@ proper-made p (simple f) bs = tt
 proper-made p branches bs = tt
 proper-made p loops bs = tt
 proper-made p calls bs =
-    proper-room p (length bs + getD bs 2 0 + getD bs 3 0) (list (p .scope) at Location (getD bs 2 0) λ ls. list (p .scope) with Slot (getD bs 3 0) λ xs. stop (some (added p (bs ++ (ls ++ xs)))))
-    (proper-list (p .scope) at (clean-by at tt) Location (getD bs 2 0) (λ ls. list (p .scope) with Slot (getD bs 3 0) λ xs. stop (some (added p (bs ++ (ls ++ xs)))))
+    proper-room p (length bs + getD bs 2 0 + getD bs 3 0)
+    (list (p .scope) at Location (getD bs 2 0) λ ls. list (p .scope) with Slot (getD bs 3 0) λ xs. stop (some (added p (bs ++ (ls ++ xs)))))
+    (proper-list (p .scope) at (clean-by at tt) Location (getD bs 2 0)
+    (λ ls. list (p .scope) with Slot (getD bs 3 0) λ xs. stop (some (added p (bs ++ (ls ++ xs)))))
     λ ls. proper-list (p .scope) with (clean-by with tt) Slot (getD bs 3 0) (λ xs. stop (some (added p (bs ++ (ls ++ xs))))) λ xs. tt)
 
 proper-row : (p : Sofar) (b : ℕ) (o : Option Row) → Proper (rowLine p b o)
 proper-row p b none = tt
 proper-row p b (some r) =
     proper-room p (size r + blocksOf (r .meaning)) (deeper p (blocksOf (r .meaning)) (operands (p .scope) (r .operands) λ xs. made p (r .meaning) (b ∷ xs)))
-    (proper-deeper p (blocksOf (r .meaning)) (operands (p .scope) (r .operands) λ xs. made p (r .meaning) (b ∷ xs)) (proper-operands (p .scope) (r .operands) (λ xs. made p (r .meaning) (b ∷ xs)) λ xs. proper-made p (r .meaning) (b ∷ xs)))
+    (proper-deeper p (blocksOf (r .meaning)) (operands (p .scope) (r .operands) λ xs. made p (r .meaning) (b ∷ xs))
+    (proper-operands (p .scope) (r .operands) (λ xs. made p (r .meaning) (b ∷ xs)) λ xs. proper-made p (r .meaning) (b ∷ xs)))
 
 proper-statement : (p : Sofar) → Proper (statementLine p)
-proper-statement p i l = (place-name i l, clean-by (getD names i []) (all-upTo (λ k. cleanB (getD names k [])) 0 (length names) tt i (omega arith) l), proper-row p (suc i) (rowOf (suc i)))
+proper-statement p i l = (
+  place-name i l,
+  clean-by (getD names i []) (all-upTo (λ k. cleanB (getD names k [])) 0 (length names) tt i (omega arith) l),
+  proper-row p (suc i) (rowOf (suc i)),
+)
 
 indent-none : {A : Type 0} (d : ℕ) (g : Grammar A) → takes g [] ≡ none → takes (indent d g) [] ≡ none
 indent-none zero g h = h
@@ -299,7 +315,8 @@ proper-after S a (b ∷ bs) bytes =
   where
     rest : (d : Bool) → AllProper (linesAfter S a bs (b .before ++ sized bytes))
         → AllProper (afterBlock S a b bs bytes d)
-    rest true r = (proper-indent (length bs) (elseLine S a b bs bytes) (offered (proper-else S a b bs bytes)), indent-none (length bs) (elseLine S a b bs bytes) refl, tt)
+    rest true r =
+        (proper-indent (length bs) (elseLine S a b bs bytes) (offered (proper-else S a b bs bytes)), indent-none (length bs) (elseLine S a b bs bytes) refl, tt)
     rest false r = r
 
 pub proper-lines : ProperLines

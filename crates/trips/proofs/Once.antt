@@ -42,13 +42,17 @@ covers : (l a : Text) → OneLine l a → (u rest : Text) → l ++ a ≡ (u ++ (
 covers l a (inr o) u rest e =
     let q : l ≡ u ++ (newline ∷ rest) = sym (append-nil l) ∙ ap (λ (t : Text). l ++ t) (sym (o .1)) ∙ e ∙ append-assoc u (newline ∷ []) rest in
     broken u rest (subst (λ (t : Text). Unbroken t) q (o .0))
-covers l a (inl o) u rest e = go (longer (o .0) (newline ∷ a) u (newline ∷ rest) (sym (append-assoc (o .0) (newline ∷ []) a) ∙ ap (λ (t : Text). t ++ a) (sym (o .2)) ∙ e ∙ append-assoc u (newline ∷ []) rest))
+covers l a (inl o) u rest e =
+    go (longer (o .0) (newline ∷ a) u (newline ∷ rest)
+    (sym (append-assoc (o .0) (newline ∷ []) a) ∙ ap (λ (t : Text). t ++ a) (sym (o .2)) ∙ e ∙ append-assoc u (newline ∷ []) rest))
   where
     same-front : (z : Text) → o .0 ≡ u ++ z → (z : Text) × (u ++ (newline ∷ []) ≡ l ++ z)
     same-front [] q = ([], ap (λ (t : Text). t ++ (newline ∷ [])) (sym (append-nil u) ∙ sym q) ∙ sym (o .2) ∙ sym (append-nil l))
     same-front (c ∷ z) q =
         let k = sym (append-assoc (o .0) (newline ∷ []) a) ∙ ap (λ (t : Text). t ++ a) (sym (o .2)) ∙ e ∙ append-assoc u (newline ∷ []) rest in
-        let m = cancel u ((c ∷ z) ++ (newline ∷ a)) (newline ∷ rest) (sym (append-assoc u (c ∷ z) (newline ∷ a)) ∙ ap (λ (t : Text). t ++ (newline ∷ a)) (sym q) ∙ k) in
+        let m =
+        cancel u ((c ∷ z) ++ (newline ∷ a)) (newline ∷ rest)
+        (sym (append-assoc u (c ∷ z) (newline ∷ a)) ∙ ap (λ (t : Text). t ++ (newline ∷ a)) (sym q) ∙ k) in
         let n : c ≡ newline = cc in
         broken u z (subst (λ (t : Text). Unbroken t) (q ∙ ap (λ (y : ℕ). u ++ (y ∷ z)) n) (o .1))
 
@@ -57,28 +61,35 @@ covers l a (inl o) u rest e = go (longer (o .0) (newline ∷ a) u (newline ∷ r
     go (inr q) =
         let n : newline ≡ q .0 = (let k : newline ∷ a ≡ q .0 ∷ (q .1 ++ (newline ∷ rest)) = q .3 in cc) in (
           q .1 ++ (newline ∷ []),
-          ap (λ (t : Text). t ++ (newline ∷ [])) (q .2 ∙ ap (λ (y : ℕ). o .0 ++ (y ∷ q .1)) (sym n)) ∙ append-assoc (o .0) (newline ∷ q .1) (newline ∷ [])
+          ap (λ (t : Text). t ++ (newline ∷ [])) (q .2 ∙ ap (λ (y : ℕ). o .0 ++ (y ∷ q .1)) (sym n))
+              ∙ append-assoc (o .0) (newline ∷ q .1) (newline ∷ [])
               ∙ sym (append-assoc (o .0) (newline ∷ []) (q .1 ++ (newline ∷ []))) ∙ ap (λ (t : Text). t ++ (q .1 ++ (newline ∷ []))) (sym (o .2)),
         )
 
 -- a later line start begins nothing where an earlier line does not
-later : {X : Type 0} (b l a b′ : Text) → OneLine l a → (Begins (b ++ l) → ⊥) → Whole b′ → Begins b′ → (x : ℕ) (z rest : Text) → b′ ≡ b ++ (x ∷ z) → l ++ a ≡ x ∷ (z ++ rest) → X
+later : {X : Type 0} (b l a b′ : Text) → OneLine l a → (Begins (b ++ l) → ⊥) → Whole b′ → Begins b′ → (x : ℕ) (z rest : Text)
+    → b′ ≡ b ++ (x ∷ z) → l ++ a ≡ x ∷ (z ++ rest) → X
 later b l a b′ o n (inl e) g x z rest p q = none-mid b x z (sym e ∙ p)
 later b l a b′ o n (inr w) g x z rest p q =
     let u : (u : Text) × (x ∷ z ≡ u ++ (newline ∷ [])) = last-newline b x z (w .0) (sym p ∙ w .1) in
     let c : (y : Text) × (u .0 ++ (newline ∷ []) ≡ l ++ y) = covers l a o (u .0) rest (q ∙ ap (λ (t : Text). t ++ rest) (u .1)) in
-    absurd (n (begins-front (b ++ l) (c .0) (subst (λ (t : Text). Begins t) (p ∙ ap (λ (t : Text). b ++ t) (u .1 ∙ c .1) ∙ sym (append-assoc b l (c .0))) g)))
+    absurd (n (begins-front (b ++ l) (c .0)
+    (subst (λ (t : Text). Begins t) (p ∙ ap (λ (t : Text). b ++ t) (u .1 ∙ c .1) ∙ sym (append-assoc b l (c .0))) g)))
 
 one-stop : (t : Text) (x y : ℕ) → Stops t x → Stops t y → x ≡ y
 one-stop t x y (at-end g n) (at-end g′ n′) = refl
-one-stop t x y (at-end g n) (at-line b l a e w o h k) = absurd (k (begins-front (b ++ l) a (subst (λ (s : Text). Begins s) (e ∙ sym (append-assoc b l a)) g)))
-one-stop t x y (at-line b l a e w o h k) (at-end g n) = absurd (k (begins-front (b ++ l) a (subst (λ (s : Text). Begins s) (e ∙ sym (append-assoc b l a)) g)))
+one-stop t x y (at-end g n) (at-line b l a e w o h k) =
+    absurd (k (begins-front (b ++ l) a (subst (λ (s : Text). Begins s) (e ∙ sym (append-assoc b l a)) g)))
+one-stop t x y (at-line b l a e w o h k) (at-end g n) =
+    absurd (k (begins-front (b ++ l) a (subst (λ (s : Text). Begins s) (e ∙ sym (append-assoc b l a)) g)))
 one-stop t x y (at-line b l a e w o h k) (at-line b′ l′ a′ e′ w′ o′ h′ k′) = go (longer b (l ++ a) b′ (l′ ++ a′) (sym e ∙ e′))
   where
     front : (z : Text) → b ≡ b′ ++ z → length b ≡ length b′
     front [] q = ap length (q ∙ append-nil b′)
     front (c ∷ z) q =
-        let m = sym (cancel b′ ((c ∷ z) ++ (l ++ a)) (l′ ++ a′) (sym (append-assoc b′ (c ∷ z) (l ++ a)) ∙ ap (λ (s : Text). s ++ (l ++ a)) (sym q) ∙ sym e ∙ e′)) in
+        let m =
+        sym (cancel b′ ((c ∷ z) ++ (l ++ a)) (l′ ++ a′)
+        (sym (append-assoc b′ (c ∷ z) (l ++ a)) ∙ ap (λ (s : Text). s ++ (l ++ a)) (sym q) ∙ sym e ∙ e′)) in
         later b′ l′ a′ b o′ k′ w h c z (l ++ a) q m
 
     go : Longer b (l ++ a) b′ (l′ ++ a′) → length b ≡ length b′

@@ -35,7 +35,8 @@ use Rattle.trips.proofs.Raw.{no-functions, a-function, GoodProgram, Rea
 use Rattle.trips.proofs.Placed.{At, at-end, at-append, at-upTo, at-all, stub, stubbed, map-snoc, withins, ranged-operands}
 use Rattle.trips.proofs.Readback.{moved, fixed-line, map-places}
 
-holds-choice : {A : Type 0} {P : A → Type 0} (b : Bool) {x y : Check A} → (b ≡ false → Holds P x) → (b ≡ true → Holds P y) → Holds P (elim b [ false ↦ x | true ↦ y ])
+holds-choice : {A : Type 0} {P : A → Type 0} (b : Bool) {x y : Check A} → (b ≡ false → Holds P x) → (b ≡ true → Holds P y)
+    → Holds P (elim b [ false ↦ x | true ↦ y ])
 holds-choice false f g = f refl
 holds-choice true f g = g refl
 
@@ -58,46 +59,62 @@ module _ (s : List ℕ) (bytes : Bytes s) where
   abbrev given : ℕ → Row → List ℕ
   given i r = part (i + 1) (length (r .operands))
 
-  operands-raw : (S : Scope) (i n : ℕ) (os : List Operand) → all isOperand os ≡ true → Holds (λ u. Ranged (stubbed S) (byte s (i + 1)) os (part (i + n) (length os))) (operands s S i n os)
+  operands-raw : (S : Scope) (i n : ℕ) (os : List Operand) → all isOperand os ≡ true
+      → Holds (λ u. Ranged (stubbed S) (byte s (i + 1)) os (part (i + n) (length os))) (operands s S i n os)
   operands-raw S i n [] e = by tt
   operands-raw S i n (o ∷ os) e =
       let b : (isOperand o ≡ true) × (all isOperand os ≡ true) = both (isOperand o) (all isOperand os) e in
       holds-then (holds-need (inRange S (byte s (i + 1)) o (byte s (i + n))) 10 (i + n)) λ u h.
-      holds-map (λ v r. (withins S (byte s (i + 1)) o (byte s (i + n)) (b .0) h, subst (λ (j : ℕ). Ranged (stubbed S) (byte s (i + 1)) os (part j (length os))) (add-suc i n) r)) (operands-raw S i (suc n) os (b .1))
+      holds-map (λ v r. (
+        withins S (byte s (i + 1)) o (byte s (i + n)) (b .0) h,
+        subst
+            (λ (j : ℕ). Ranged (stubbed S) (byte s (i + 1)) os (part j (length os))) (add-suc i n) r,
+      )) (operands-raw S i (suc n) os (b .1))
 
-  ranged-split : (S : Scope) (f : ℕ) (os ps : List Operand) (j : ℕ) → Ranged S f (os ++ ps) (part j (length (os ++ ps))) → Ranged S f os (part j (length os)) × Ranged S f ps (part (j + length os) (length ps))
+  ranged-split : (S : Scope) (f : ℕ) (os ps : List Operand) (j : ℕ) → Ranged S f (os ++ ps) (part j (length (os ++ ps)))
+      → Ranged S f os (part j (length os)) × Ranged S f ps (part (j + length os) (length ps))
   ranged-split S f [] ps j h = (tt, subst (λ (k : ℕ). Ranged S f ps (part k (length ps))) (sym (add-zero j)) h)
   ranged-split S f (o ∷ os) ps j h =
       let r : Ranged S f os (part (suc j) (length os)) × Ranged S f ps (part (suc j + length os) (length ps)) = ranged-split S f os ps (suc j) (h .1) in
       ((h .0, r .0), subst (λ (k : ℕ). Ranged S f ps (part k (length ps))) (suc-add j (length os) ∙ sym (add-suc j (length os))) (r .1))
 
-  all-replicate : (n : ℕ) (o : Operand) → isOperand o ≡ true → (os : List Operand) → all isOperand os ≡ true → all isOperand (replicate n o ++ os) ≡ true
+  all-replicate : (n : ℕ) (o : Operand) → isOperand o ≡ true → (os : List Operand) → all isOperand os ≡ true
+      → all isOperand (replicate n o ++ os) ≡ true
   all-replicate zero o e os h = h
   all-replicate (suc n) o e os h = ap (λ (b : Bool). b && all isOperand (replicate n o ++ os)) e ∙ all-replicate n o e os h
 
-  to-zero : (S : Scope) (o : Operand) → ((f x : ℕ) → Within S f o x → Within S 0 o x) → (n : ℕ) (xs : List ℕ) (f : ℕ) → Ranged S f (replicate n o) xs → Ranged S 0 (replicate n o) xs
+  to-zero : (S : Scope) (o : Operand) → ((f x : ℕ) → Within S f o x → Within S 0 o x) → (n : ℕ) (xs : List ℕ) (f : ℕ)
+      → Ranged S f (replicate n o) xs → Ranged S 0 (replicate n o) xs
   to-zero S o w zero [] f h = tt
   to-zero S o w zero (x ∷ xs) f h = absurd h
   to-zero S o w (suc n) [] f h = absurd h
   to-zero S o w (suc n) (x ∷ xs) f h = (w f x (h .0), to-zero S o w n xs f (h .1))
 
   -- operands of the statement at i
-  first-operands : (S : Scope) (i : ℕ) (os : List Operand) → headSpoken os ≡ true → Ranged (stubbed S) (byte s (i + 1)) os (part (i + 1) (length os)) → Operands (stubbed S) os (part (i + 1) (length os))
+  first-operands : (S : Scope) (i : ℕ) (os : List Operand) → headSpoken os ≡ true → Ranged (stubbed S) (byte s (i + 1)) os (part (i + 1) (length os))
+      → Operands (stubbed S) os (part (i + 1) (length os))
   first-operands S i [] e h = tt
   first-operands S i (o ∷ os) e h = ranged-operands (stubbed S) (o ∷ os) (part (i + 1) (suc (length os))) e h
 
   module _ (sd : Side) (S : Scope) where
     abbrev RawBlock : ℕ → ℕ → ℕ → Read (Block sd) → Type 0
-    RawBlock depths i limit r = (d : ℕ) × (q : Raws) × (depths ≡ suc d) × Goods (stubbed S) d q × At s i (sized (rawsBytes q)) × (r .next ≡ i + 2 + length (rawsBytes q)) × (r .next ≤ limit) × ((n : ℕ) → blockLines s n (r .it) ≡ rawsLines n q)
+    RawBlock depths i limit r =
+        (d : ℕ) × (q : Raws) × (depths ≡ suc d) × Goods (stubbed S) d q × At s i (sized (rawsBytes q)) × (r .next ≡ i + 2 + length (rawsBytes q))
+        × (r .next ≤ limit) × ((n : ℕ) → blockLines s n (r .it) ≡ rawsLines n q)
 
     abbrev RawStatement : ℕ → ℕ → ℕ → Read (Statement sd) → Type 0
-    RawStatement d i e t = (r : Raw) × Good (stubbed S) d r × At s i (rawBytes r) × (t .next ≡ i + length (rawBytes r)) × (t .next ≤ e) × ((n : ℕ) → statementLines s n (t .it) ≡ rawLines n r)
+    RawStatement d i e t =
+        (r : Raw) × Good (stubbed S) d r × At s i (rawBytes r) × (t .next ≡ i + length (rawBytes r)) × (t .next ≤ e)
+        × ((n : ℕ) → statementLines s n (t .it) ≡ rawLines n r)
 
     abbrev RawStatements : ℕ → ℕ → ℕ → Statements sd → Type 0
-    RawStatements d i e ts = (q : Raws) × Goods (stubbed S) d q × At s i (rawsBytes q) × (i + length (rawsBytes q) ≡ e) × ((n : ℕ) → statementsLines s n ts ≡ rawsLines n q)
+    RawStatements d i e ts =
+        (q : Raws) × Goods (stubbed S) d q × At s i (rawsBytes q) × (i + length (rawsBytes q) ≡ e)
+        × ((n : ℕ) → statementsLines s n ts ≡ rawsLines n q)
 
     -- the fixed part at i, in front of other bytes
-    module _ (i : ℕ) (r : Row) (row : rowOf (byte s i) ≡ some r) (fits : i + size r ≤ length s) (ops : Operands (stubbed S) (r .operands) (given i r)) where
+    module _ (i : ℕ) (r : Row) (row : rowOf (byte s i) ≡ some r) (fits : i + size r ≤ length s)
+        (ops : Operands (stubbed S) (r .operands) (given i r)) where
       xs-length : length (given i r) ≡ length (r .operands)
       xs-length = length-upTo (i + 1) (length (r .operands)) (byte s)
 
@@ -105,8 +122,12 @@ module _ (s : List ℕ) (bytes : Bytes s) where
       fixed-at rest a =
           let e : i + 1 ≡ suc i = omega arith in
           let n : ℕ = length (r .operands) in
-          let f : i + size r ≡ suc i + length (given i r) = omega (arith, xs-length) in
-          (refl, omega arith, at-append s (given i r) rest (suc i) (moved s (i + 1) (suc i) (given i r) e (at-upTo s n (i + 1) (omega arith))) (moved s (i + size r) (suc i + length (given i r)) rest f a))
+          let f : i + size r ≡ suc i + length (given i r) = omega (arith, xs-length) in (
+            refl,
+            omega arith,
+            at-append s (given i r) rest (suc i) (moved s (i + 1) (suc i) (given i r) e (at-upTo s n (i + 1) (omega arith)))
+                (moved s (i + size r) (suc i + length (given i r)) rest f a),
+          )
 
       fixed-size : (rest : List ℕ) → i + size r + length rest ≡ i + length (byte s i ∷ (given i r ++ rest))
       fixed-size rest = omega (arith, xs-length, length-append (given i r) rest)
@@ -120,7 +141,8 @@ module _ (s : List ℕ) (bytes : Bytes s) where
         (omega arith, omega arith, (ap (byte s) (sym f) ∙ c, omega arith, moved s (i + 2) (suc (suc i)) bs g a))
 
     module _ (d : ℕ) (inner : (i limit : ℕ) → limit ≤ length s → Holds (RawBlock d i limit) (readBlock s sd S d i limit)) where
-      meant-raw : (i e : ℕ) (r : Row) → rowOf (byte s i) ≡ some r → e ≤ length s → i + size r ≤ e → Operands (stubbed S) (r .operands) (given i r) → (m : Meaning) → r .meaning ≡ m
+      meant-raw : (i e : ℕ) (r : Row) → rowOf (byte s i) ≡ some r → e ≤ length s → i + size r ≤ e
+          → Operands (stubbed S) (r .operands) (given i r) → (m : Meaning) → r .meaning ≡ m
           → Holds (RawStatement d i e) (meant s sd S (readBlock s sd S d) m i (i + size r) e)
       meant-raw i e r row w l o (simple f) m =
           let l′ : i + size r ≤ length s = omega arith in
@@ -128,7 +150,15 @@ module _ (s : List ℕ) (bytes : Bytes s) where
           let a′ = subst (λ (z : List ℕ). At s i (byte s i ∷ z)) (append-nil (given i r)) a in
           let lx : length (given i r) ≡ length (r .operands) = xs-length i r row l′ o in
           let nx : i + size r ≡ i + suc (length (given i r)) = omega arith in
-          by (plain (byte s i) (given i r), good-plain r f row m o, a′, nx, l, λ n. ap (λ (z : Line). indented n z ∷ []) (fixed-line s sd S (byte s i) r row (given i r) o i [] a))
+          by (
+            plain (byte s i) (given i r),
+            good-plain r f row m o,
+            a′,
+            nx,
+            l,
+            λ n. ap (λ (z : Line). indented n z ∷ [])
+                (fixed-line s sd S (byte s i) r row (given i r) o i [] a),
+          )
       meant-raw i e r row w l o loops m =
           holds-bind (inner (i + size r) e w) λ b u.
           let l′ : i + size r ≤ length s = omega arith in
@@ -141,7 +171,8 @@ module _ (s : List ℕ) (bytes : Bytes s) where
             a,
             nx,
             u .6,
-            λ n. ap (λ (z : Line). indented n z ∷ blockLines s (suc n) (b .it)) (fixed-line s sd S (byte s i) r row (given i r) o i (sized (rawsBytes (u .1))) a)
+            λ n. ap (λ (z : Line). indented n z ∷ blockLines s (suc n) (b .it))
+                (fixed-line s sd S (byte s i) r row (given i r) o i (sized (rawsBytes (u .1))) a)
                 ∙ ap (λ (z : List Line). indented n (rawLine (byte s i) (given i r)) ∷ z) (u .7 (suc n)),
           )
       meant-raw i e r row w l o branches m =
@@ -151,33 +182,46 @@ module _ (s : List ℕ) (bytes : Bytes s) where
           let bs : List ℕ = sized (rawsBytes (u .1)) ++ sized (rawsBytes (v .1)) in
           let de : u .0 ≡ v .0 = (let p : d ≡ suc (u .0) = u .2 in let q : d ≡ suc (v .0) = v .2 in omega arith) in
           let pj : b .next ≡ i + size r + length (sized (rawsBytes (u .1))) = omega (arith, u .5) in
-          let ab = at-append s (sized (rawsBytes (u .1))) (sized (rawsBytes (v .1))) (i + size r) (u .4) (moved s (b .next) (i + size r + length (sized (rawsBytes (u .1)))) (sized (rawsBytes (v .1))) pj (v .4)) in
+          let ab =
+          at-append s (sized (rawsBytes (u .1))) (sized (rawsBytes (v .1))) (i + size r) (u .4)
+          (moved s (b .next) (i + size r + length (sized (rawsBytes (u .1)))) (sized (rawsBytes (v .1))) pj (v .4)) in
           let a = fixed-at i r row l′ o bs ab in
           let z = fixed-size i r row l′ o bs in
           let lz = length-sized (sized (rawsBytes (u .1))) (rawsBytes (v .1)) in
           let nx : c .next ≡ i + length (byte s i ∷ (given i r ++ bs)) = omega (arith, u .5, v .5) in
           by (
             fork (byte s i) (given i r) (u .1) (v .1),
-            subst (λ (k : ℕ). Good (stubbed S) k (fork (byte s i) (given i r) (u .1) (v .1))) (sym (u .2)) (good-fork r row m o (u .3) (subst (λ (k : ℕ). Goods (stubbed S) k (v .1)) (sym de) (v .3))),
+            subst (λ (k : ℕ). Good (stubbed S) k (fork (byte s i) (given i r) (u .1) (v .1))) (sym (u .2))
+                (good-fork r row m o (u .3) (subst (λ (k : ℕ). Goods (stubbed S) k (v .1)) (sym de) (v .3))),
             a,
             nx,
             v .6,
-            λ n. ap (λ (z : Line). indented n z ∷ (blockLines s (suc n) (b .it) ++ (indented n (else ∷ []) ∷ blockLines s (suc n) (c .it)))) (fixed-line s sd S (byte s i) r row (given i r) o i bs a)
-                ∙ ap (λ (z : List Line). indented n (rawLine (byte s i) (given i r)) ∷ (z ++ (indented n (else ∷ []) ∷ blockLines s (suc n) (c .it)))) (u .7 (suc n))
-                ∙ ap (λ (z : List Line). indented n (rawLine (byte s i) (given i r)) ∷ (rawsLines (suc n) (u .1) ++ (indented n (else ∷ []) ∷ z))) (v .7 (suc n)),
+            λ n. ap (λ (z : Line). indented n z ∷ (blockLines s (suc n) (b .it) ++ (indented n (else ∷ []) ∷ blockLines s (suc n) (c .it))))
+                (fixed-line s sd S (byte s i) r row (given i r) o i bs a)
+                ∙ ap (λ (z : List Line). indented n (rawLine (byte s i) (given i r)) ∷ (z ++ (indented n (else ∷ []) ∷ blockLines s (suc n) (c .it))))
+                (u .7 (suc n))
+                ∙ ap (λ (z : List Line). indented n (rawLine (byte s i) (given i r)) ∷ (rawsLines (suc n) (u .1) ++ (indented n (else ∷ []) ∷ z)))
+                (v .7 (suc n)),
           )
       meant-raw i e r row w l o calls m =
           let k : ℕ = byte s (i + 2) in
           let j : ℕ = byte s (i + 3) in
           holds-then (holds-need (leb (i + size r + byte s (i + 2) + byte s (i + 3)) e) 8 i) λ u c.
           holds-then (operands-raw S i 4 (replicate (byte s (i + 2)) Location ++ replicate (byte s (i + 3)) Slot)
-          (all-replicate (byte s (i + 2)) Location refl (replicate (byte s (i + 3)) Slot) (ap (all isOperand) (sym (append-nil (replicate (byte s (i + 3)) Slot))) ∙ all-replicate (byte s (i + 3)) Slot refl [] refl))) λ v t.
+          (all-replicate (byte s (i + 2)) Location refl (replicate (byte s (i + 3)) Slot)
+          (ap (all isOperand) (sym (append-nil (replicate (byte s (i + 3)) Slot))) ∙ all-replicate (byte s (i + 3)) Slot refl [] refl))) λ v t.
           by (called-raw i e r row w l o m (at-most (i + size r + byte s (i + 2) + byte s (i + 3)) e c) t)
         where
-          called-raw : (i e : ℕ) (r : Row) → rowOf (byte s i) ≡ some r → e ≤ length s → i + size r ≤ e → Operands (stubbed S) (r .operands) (given i r) → r .meaning ≡ calls
+          called-raw : (i e : ℕ) (r : Row) → rowOf (byte s i) ≡ some r → e ≤ length s → i + size r ≤ e
+              → Operands (stubbed S) (r .operands) (given i r) → r .meaning ≡ calls
               → i + size r + byte s (i + 2) + byte s (i + 3) ≤ e
-              → Ranged (stubbed S) (byte s (i + 1)) (replicate (byte s (i + 2)) Location ++ replicate (byte s (i + 3)) Slot) (part (i + 4) (length (replicate (byte s (i + 2)) Location ++ replicate (byte s (i + 3)) Slot)))
-              → RawStatement d i e (record { it = call i (byte s (i + 1)) (upTo (i + size r) (byte s (i + 2)) λ n. record { no = byte s n }) (upTo (i + size r + byte s (i + 2)) (byte s (i + 3)) λ n. byte s n); next = i + size r + byte s (i + 2) + byte s (i + 3) })
+              → Ranged (stubbed S) (byte s (i + 1)) (replicate (byte s (i + 2)) Location ++ replicate (byte s (i + 3)) Slot)
+              (part (i + 4) (length (replicate (byte s (i + 2)) Location ++ replicate (byte s (i + 3)) Slot)))
+              → RawStatement d i e (record {
+                it = call i (byte s (i + 1)) (upTo (i + size r) (byte s (i + 2)) λ n. record { no = byte s n })
+                    (upTo (i + size r + byte s (i + 2)) (byte s (i + 3)) λ n. byte s n);
+                next = i + size r + byte s (i + 2) + byte s (i + 3);
+              })
           called-raw i e r row w l o m c t =
               let k : ℕ = byte s (i + 2) in
               let j : ℕ = byte s (i + 3) in
@@ -196,14 +240,19 @@ module _ (s : List ℕ) (bytes : Bytes s) where
               let le = ap (λ (n : ℕ). part (i + 4) n) lr ∙ ap (λ (n : ℕ). part n k) i₄ in
               let pe : i + 4 + length (replicate k Location) ≡ i + size r + byte s (i + 2) = omega arith in
               let me = ap (λ (n : ℕ). part (i + 4 + length (replicate k Location)) n) mr ∙ ap (λ (n : ℕ). part n j) pe in
-              let hl = to-zero (stubbed S) Location (λ f x h. h) k ls (byte s (i + 1)) (subst (λ (z : List ℕ). Ranged (stubbed S) (byte s (i + 1)) (replicate k Location) z) le (R .0)) in
-              let hm = to-zero (stubbed S) Slot (λ f x h. h) j ms (byte s (i + 1)) (subst (λ (z : List ℕ). Ranged (stubbed S) (byte s (i + 1)) (replicate j Slot) z) me (R .1)) in
+              let hl =
+              to-zero (stubbed S) Location (λ f x h. h) k ls (byte s (i + 1))
+              (subst (λ (z : List ℕ). Ranged (stubbed S) (byte s (i + 1)) (replicate k Location) z) le (R .0)) in
+              let hm =
+              to-zero (stubbed S) Slot (λ f x h. h) j ms (byte s (i + 1))
+              (subst (λ (z : List ℕ). Ranged (stubbed S) (byte s (i + 1)) (replicate j Slot) z) me (R .1)) in
               let hl′ = subst (λ (n : ℕ). Ranged (stubbed S) 0 (replicate n Location) ls) (sym K) hl in
               let hm′ = subst (λ (n : ℕ). Ranged (stubbed S) 0 (replicate n Slot) ms) (sym J) hm in
               let ll : length ls ≡ byte s (i + 2) = length-upTo (i + size r) k (byte s) in
               let lm = length-upTo (i + size r + byte s (i + 2)) j (byte s) in
               let ab = at-append s ls ms (i + size r) (at-upTo s k (i + size r) (omega arith))
-              (moved s (i + size r + byte s (i + 2)) (i + size r + length ls) ms (ap (λ (n : ℕ). i + size r + n) (sym ll)) (at-upTo s j (i + size r + byte s (i + 2)) (omega arith))) in
+              (moved s (i + size r + byte s (i + 2)) (i + size r + length ls) ms (ap (λ (n : ℕ). i + size r + n) (sym ll))
+              (at-upTo s j (i + size r + byte s (i + 2)) (omega arith))) in
               let rest : List ℕ = part (i + size r) k ++ part (i + size r + byte s (i + 2)) j in
               let a = fixed-at i r row l′ o rest ab in
               let z = fixed-size i r row l′ o rest in
@@ -214,9 +263,11 @@ module _ (s : List ℕ) (bytes : Bytes s) where
                 a,
                 nx,
                 c,
-                λ n. ap (λ (z : Line). indented n (z ++ (listed at (map (λ (l : Place sd). l .no) (upTo (i + size r) k λ n. record { no = byte s n })) ++ listed with ms)) ∷ [])
+                λ n. ap (λ (z : Line). indented n
+                    (z ++ (listed at (map (λ (l : Place sd). l .no) (upTo (i + size r) k λ n. record { no = byte s n })) ++ listed with ms)) ∷ [])
                     (fixed-line s sd S (byte s i) r row (given i r) o i rest a)
-                    ∙ ap (λ (z : List ℕ). indented n (rawLine (byte s i) (given i r) ++ (listed at z ++ listed with ms)) ∷ []) (map-places s sd S (i + size r) k),
+                    ∙ ap (λ (z : List ℕ). indented n (rawLine (byte s i) (given i r) ++ (listed at z ++ listed with ms)) ∷ [])
+                    (map-places s sd S (i + size r) k),
               )
 
       statement-raw : (i e : ℕ) → e ≤ length s → Holds (RawStatement d i e) (statement s sd S (readBlock s sd S d) i e)
@@ -232,16 +283,25 @@ module _ (s : List ℕ) (bytes : Bytes s) where
       some-more (fork b xs q t) = omega arith
       some-more (loop b xs q) = omega arith
 
-      statements-raw : (more i e : ℕ) → e ≤ length s → i ≤ e → e - i ≤ more → Holds (RawStatements d i e) (statements s sd S (readBlock s sd S d) more i e)
+      statements-raw : (more i e : ℕ) → e ≤ length s → i ≤ e → e - i ≤ more
+          → Holds (RawStatements d i e) (statements s sd S (readBlock s sd S d) more i e)
       statements-raw zero i e w l k = by (end, good-end, omega arith, omega arith, λ n. refl)
       statements-raw (suc more) i e w l k =
           holds-choice (ltb i e) (λ h. let z : e ≤ i = not-below i e h in by (end, good-end, omega arith, omega arith, λ n. refl)) λ h.
           holds-bind (statement-raw i e w) λ t u.
           let p : 1 ≤ length (rawBytes (u .0)) = some-more (u .0) in
           holds-bind (statements-raw more (t .next) e w (u .4) (omega (arith, u .3))) λ ts v.
-          let a = at-append s (rawBytes (u .0)) (rawsBytes (v .0)) i (u .2) (moved s (t .next) (i + length (rawBytes (u .0))) (rawsBytes (v .0)) (u .3) (v .2)) in
+          let a =
+          at-append s (rawBytes (u .0)) (rawsBytes (v .0)) i (u .2) (moved s (t .next) (i + length (rawBytes (u .0))) (rawsBytes (v .0)) (u .3) (v .2)) in
           let z : i + length (rawBytes (u .0) ++ rawsBytes (v .0)) ≡ e = omega (arith, length-append (rawBytes (u .0)) (rawsBytes (v .0)), u .3, v .3) in
-          by (u .0 then v .0, good-then (u .1) (v .1), a, z, λ n. ap (λ (z : List Line). z ++ statementsLines s n ts) (u .5 n) ∙ ap (λ (z : List Line). rawLines n (u .0) ++ z) (v .4 n))
+          by (
+            u .0 then v .0,
+            good-then (u .1) (v .1),
+            a,
+            z,
+            λ n. ap (λ (z : List Line). z ++ statementsLines s n ts) (u .5 n)
+                ∙ ap (λ (z : List Line). rawLines n (u .0) ++ z) (v .4 n),
+          )
 
     block-raw : (depths i limit : ℕ) → limit ≤ length s → Holds (RawBlock depths i limit) (readBlock s sd S depths i limit)
     block-raw zero i limit w = holds-then (holds-need (leb (i + 2) limit) 8 i) λ u h. not-ok
@@ -256,7 +316,9 @@ module _ (s : List ℕ) (bytes : Bytes s) where
 
   -- functions
   abbrev RawFunctions : ℕ → List Function → ℕ → Read (List Function) → Type 0
-  RawFunctions n fs i r = (gs : List RawFunction) × (rs : List Function) × (r .it ≡ fs ++ rs) × (length gs ≡ n) × GoodFunctions (map stub fs) gs × (map stub rs ≡ heads gs) × At s i (functionsBytes gs) × (r .next ≡ i + length (functionsBytes gs))
+  RawFunctions n fs i r =
+      (gs : List RawFunction) × (rs : List Function) × (r .it ≡ fs ++ rs) × (length gs ≡ n) × GoodFunctions (map stub fs) gs
+      × (map stub rs ≡ heads gs) × At s i (functionsBytes gs) × (r .next ≡ i + length (functionsBytes gs))
       × ((j : ℕ) → functionsLines s j rs ≡ rawFunctions j gs)
 
   header-raw : (i k m : ℕ) → Holds (λ h. (h .locations ≡ k) × (h .arguments ≡ m) × (k ≤ 16) × (m ≤ 8) × (m ≤ k)) (functionHeader i k m)
@@ -273,8 +335,10 @@ module _ (s : List ℕ) (bytes : Bytes s) where
       holds-bind (block-raw parameter (record { places = H .locations; earlier = fs }) 8 (i + 2) (length s) (omega arith)) λ b v.
       holds-map (λ r w. finish H c b v r w) (functions-raw n (b .next) (fs ++ (record { k = H .locations; m = H .arguments; body = b .it } ∷ [])) (v .6))
     where
-      finish : (H : FunctionHeader) → (H .locations ≡ byte s i) × (H .arguments ≡ byte s (i + 1)) × (byte s i ≤ 16) × (byte s (i + 1) ≤ 8) × (byte s (i + 1) ≤ byte s i) → (b : Read (Block parameter))
-          → RawBlock parameter (record { places = H .locations; earlier = fs }) 8 (i + 2) (length s) b → (r : Read (List Function)) → RawFunctions n (fs ++ (record { k = H .locations; m = H .arguments; body = b .it } ∷ [])) (b .next) r
+      finish : (H : FunctionHeader) → (H .locations ≡ byte s i) × (H .arguments ≡ byte s (i + 1)) × (byte s i ≤ 16) × (byte s (i + 1) ≤ 8)
+          × (byte s (i + 1) ≤ byte s i) → (b : Read (Block parameter))
+          → RawBlock parameter (record { places = H .locations; earlier = fs }) 8 (i + 2) (length s) b → (r : Read (List Function))
+          → RawFunctions n (fs ++ (record { k = H .locations; m = H .arguments; body = b .it } ∷ [])) (b .next) r
           → RawFunctions (suc n) fs i r
       finish H c b v r w =
           let d7 : v .0 ≡ 7 = (let e : 8 ≡ suc (v .0) = v .2 in omega arith) in
@@ -290,10 +354,14 @@ module _ (s : List ℕ) (bytes : Bytes s) where
           let e₂ : i + 2 ≡ suc (suc i) = omega arith in
           let e₁ : i + 1 ≡ suc i = omega arith in
           let le : i + 2 + length sz ≤ length s = at-end s sz (i + 2) (v .4) in
-          let a : At s i (functionsBytes (record { k = H .locations; m = H .arguments; body = v .1 } ∷ w .0)) =
-          (sym (c .0), omega arith, (ap (byte s) (sym e₁) ∙ sym (c .1), omega arith, moved s (i + 2) (suc (suc i)) (sized (rawsBytes (v .1)) ++ functionsBytes (w .0)) e₂ a₂)) in
+          let a : At s i (functionsBytes (record { k = H .locations; m = H .arguments; body = v .1 } ∷ w .0)) = (
+            sym (c .0),
+            omega arith,
+            (ap (byte s) (sym e₁) ∙ sym (c .1), omega arith, moved s (i + 2) (suc (suc i)) (sized (rawsBytes (v .1)) ++ functionsBytes (w .0)) e₂ a₂),
+          ) in
           let lz = sized-length (rawsBytes (v .1)) (functionsBytes (w .0)) in
-          let nx : r .next ≡ i + length (functionsBytes (record { k = H .locations; m = H .arguments; body = v .1 } ∷ w .0)) = omega (arith, w .7, v .5) in (
+          let nx : r .next ≡ i + length (functionsBytes (record { k = H .locations; m = H .arguments; body = v .1 } ∷ w .0)) =
+          omega (arith, w .7, v .5) in (
             record { k = H .locations; m = H .arguments; body = v .1 } ∷ w .0,
             record { k = H .locations; m = H .arguments; body = b .it } ∷ w .1,
             w .2 ∙ append-assoc fs (record { k = H .locations; m = H .arguments; body = b .it } ∷ []) (w .1),
@@ -313,8 +381,10 @@ module _ (s : List ℕ) (bytes : Bytes s) where
   header-few : (f : ℕ) → Holds (λ h. (h .functions ≡ f) × (f ≤ 15)) (programHeader f)
   header-few f = holds-then (holds-need (leb f 15) 4 5) λ u a. by (refl, at-most f 15 a)
 
-  whole : (n : ℕ) → n ≡ byte s 5 → n ≤ 15 → 8 ≤ length s → length s ≤ 4096 → hasMark s 0x53 ≡ true → word s 3 ≡ 1 → (fs : Read (List Function)) → RawFunctions n [] 6 fs → (b : Read (Block device))
-      → RawBlock device (record { places = 256; earlier = fs .it }) 8 (fs .next) (length s) b → b .next ≡ length s → RawProgramOf (record { functions = fs .it; main = b .it })
+  whole : (n : ℕ) → n ≡ byte s 5 → n ≤ 15 → 8 ≤ length s → length s ≤ 4096 → hasMark s 0x53 ≡ true → word s 3 ≡ 1
+      → (fs : Read (List Function)) → RawFunctions n [] 6 fs → (b : Read (Block device))
+      → RawBlock device (record { places = 256; earlier = fs .it }) 8 (fs .next) (length s) b → b .next ≡ length s
+      → RawProgramOf (record { functions = fs .it; main = b .it })
   whole n en few l₁ l₂ mark version fs w b v last =
       let q : RawProgram = record { functions = w .0; main = v .1 } in
       let d7 : v .0 ≡ 7 = (let e : 8 ≡ suc (v .0) = v .2 in omega arith) in
@@ -328,15 +398,19 @@ module _ (s : List ℕ) (bytes : Bytes s) where
       let c₅ : byte s 5 ≡ length (w .0) = sym en ∙ sym (w .3) in
       let F : List ℕ = functionsBytes (w .0) in
       let ab = at-append s F (sized (rawsBytes (v .1))) 6 (w .6) (moved s (fs .next) (6 + length F) (sized (rawsBytes (v .1))) (w .7) (v .4)) in
-      let a : At s 0 (programBytes q) = (c₀, omega arith, (c₁, omega arith, (c₂, omega arith, (c₃, omega arith, (c₄, omega arith, (c₅, omega arith, ab)))))) in
+      let a : At s 0 (programBytes q) =
+      (c₀, omega arith, (c₁, omega arith, (c₂, omega arith, (c₃, omega arith, (c₄, omega arith, (c₅, omega arith, ab)))))) in
       let lp = length-sized F (rawsBytes (v .1)) in
       let lq : length (programBytes q) ≡ length s = omega (arith, w .7, v .5, last) in
       let hs : map stub (fs .it) ≡ heads (w .0) = ap (map stub) (w .2) ∙ w .5 in
-      let gm = subst (λ (z : List Function). Goods (record { places = 256; earlier = z }) 7 (v .1)) hs (subst (λ (k : ℕ). Goods (record { places = 256; earlier = map stub (fs .it) }) k (v .1)) d7 (v .3)) in (
+      let gm =
+      subst (λ (z : List Function). Goods (record { places = 256; earlier = z }) 7 (v .1)) hs
+      (subst (λ (k : ℕ). Goods (record { places = 256; earlier = map stub (fs .it) }) k (v .1)) d7 (v .3)) in (
         record { functions = w .0; main = v .1 },
         record { few = omega (arith, w .3); functions = w .4; main = gm; short = omega arith },
         at-all s (programBytes q) a lq,
-        sym (ap (λ (z : List Function). (names.program ∷ decimal 1 ∷ []) ∷ (functionsLines s 0 z ++ ((names.main ∷ []) ∷ blockLines s 1 (b .it)))) (w .2)
+        sym (ap (λ (z : List Function). (names.program ∷ decimal 1 ∷ []) ∷ (functionsLines s 0 z ++ ((names.main ∷ []) ∷ blockLines s 1 (b .it))))
+            (w .2)
             ∙ ap (λ (z : List Line). (names.program ∷ decimal 1 ∷ []) ∷ (z ++ ((names.main ∷ []) ∷ blockLines s 1 (b .it)))) (w .8 0)
             ∙ ap (λ (z : List Line). (names.program ∷ decimal 1 ∷ []) ∷ (rawFunctions 0 (w .0) ++ ((names.main ∷ []) ∷ z))) (v .7 1)),
       )
@@ -360,7 +434,8 @@ module _ (s : List ℕ) (bytes : Bytes s) where
       holds-bind (functions-raw (h .functions) 6 [] (omega arith)) λ fs g.
       holds-bind (block-raw device (record { places = 256; earlier = fs .it }) 8 (fs .next) (length s) (omega arith)) λ b v.
       holds-then (holds-need (eqb (b .next) (length s)) 8 (b .next)) λ u₅ a₅.
-      by (whole (h .functions) (c .0) (omega (arith, c .0, c .1)) l₁ (at-most (length s) 4096 a₂) a₃ (eqb-true (word s 3) 1 a₄) fs g b v (eqb-true (b .next) (length s) a₅))
+      by (whole (h .functions) (c .0) (omega (arith, c .0, c .1)) l₁ (at-most (length s) 4096 a₂) a₃ (eqb-true (word s 3) 1 a₄) fs g b v
+      (eqb-true (b .next) (length s) a₅))
 
 pub reads : Reads
 reads s p y h = holds-at (program-raw s y) h

@@ -40,7 +40,8 @@ module _ (s : List ℕ) where
 
   pub at-append : (xs ys : List ℕ) (i : ℕ) → At s i xs → At s (i + length xs) ys → At s i (xs ++ ys)
   at-append [] ys i h k = subst (λ (j : ℕ). At s j ys) (add-zero i) k
-  at-append (x ∷ xs) ys i h k = (h .0, h .1, at-append xs ys (suc i) (h .2) (subst (λ (j : ℕ). At s j ys) (add-suc i (length xs) ∙ sym (suc-add i (length xs))) k))
+  at-append (x ∷ xs) ys i h k =
+      (h .0, h .1, at-append xs ys (suc i) (h .2) (subst (λ (j : ℕ). At s j ys) (add-suc i (length xs) ∙ sym (suc-add i (length xs))) k))
 
   pub at-byte : (xs : List ℕ) (i n : ℕ) → At s i xs → n < length xs → byte s (i + n) ≡ getD xs n 0
   at-byte [] i n h l = absurd (not-suc-le-zero l)
@@ -63,8 +64,11 @@ at-whole [] pre = omega (arith, length-append pre [])
 at-whole (x ∷ s) pre =
     let l : length (pre ++ (x ∷ s)) ≡ length pre + suc (length s) = length-append pre (x ∷ s) in
     let e : length (pre ++ (x ∷ [])) ≡ suc (length pre) = omega (arith, length-append pre (x ∷ [])) in
-    let r : At ((pre ++ (x ∷ [])) ++ s) (length (pre ++ (x ∷ []))) s = at-whole s (pre ++ (x ∷ [])) in
-    (getD-append-seam pre x s 0, omega arith, subst (λ (z : List ℕ). At z (suc (length pre)) s) (append-assoc pre (x ∷ []) s) (subst (λ (j : ℕ). At ((pre ++ (x ∷ [])) ++ s) j s) e r))
+    let r : At ((pre ++ (x ∷ [])) ++ s) (length (pre ++ (x ∷ []))) s = at-whole s (pre ++ (x ∷ [])) in (
+      getD-append-seam pre x s 0,
+      omega arith,
+      subst (λ (z : List ℕ). At z (suc (length pre)) s) (append-assoc pre (x ∷ []) s) (subst (λ (j : ℕ). At ((pre ++ (x ∷ [])) ++ s) j s) e r),
+    )
 
 -- a length word
 pub word-at : (s : List ℕ) (i : ℕ) (bs rest : List ℕ) → At s i (sized bs ++ rest) → word s i ≡ length bs
@@ -95,7 +99,8 @@ ranges S f Location x h = T→eq (ltb x (S .places)) (lt→ltb x (S .places) h)
 ranges S f Gate x h = T→eq (ltb x 4) (lt→ltb x 4 h)
 ranges S f Basis x h = T→eq (ltb x 2) (lt→ltb x 2 h)
 ranges S f Value x h = T→eq (ltb x 2) (lt→ltb x 2 h)
-ranges S f Callee x h = let l : x < length (S .earlier) = subst (λ (n : ℕ). x < n) (length-map (S .earlier) stub) h in T→eq (ltb x (length (S .earlier))) (lt→ltb x (length (S .earlier)) l)
+ranges S f Callee x h = let l : x < length (S .earlier) =
+    subst (λ (n : ℕ). x < n) (length-map (S .earlier) stub) h in T→eq (ltb x (length (S .earlier))) (lt→ltb x (length (S .earlier)) l)
 ranges S f CalleeK x h =
     let e : syntax.function (S .earlier) f .k ≡ x = ap (λ (g : Function). g .k) (sym (stub-at (S .earlier) f)) ∙ h in
     ap (λ (y : ℕ). eqb x y) e ∙ T→eq (eqb x x) (eqb-refl x)
@@ -110,9 +115,14 @@ withins S f Location x i h = ltb→lt x (S .places) (eq→T (ltb x (S .places)) 
 withins S f Gate x i h = ltb→lt x 4 (eq→T (ltb x 4) h)
 withins S f Basis x i h = ltb→lt x 2 (eq→T (ltb x 2) h)
 withins S f Value x i h = ltb→lt x 2 (eq→T (ltb x 2) h)
-withins S f Callee x i h = subst (λ (n : ℕ). x < n) (sym (length-map (S .earlier) stub)) (ltb→lt x (length (S .earlier)) (eq→T (ltb x (length (S .earlier))) h))
-withins S f CalleeK x i h = ap (λ (g : Function). g .k) (stub-at (S .earlier) f) ∙ sym (eqb→eq x (syntax.function (S .earlier) f .k) (eq→T (eqb x (syntax.function (S .earlier) f .k)) h))
-withins S f CalleeM x i h = ap (λ (g : Function). g .m) (stub-at (S .earlier) f) ∙ sym (eqb→eq x (syntax.function (S .earlier) f .m) (eq→T (eqb x (syntax.function (S .earlier) f .m)) h))
+withins S f Callee x i h =
+    subst (λ (n : ℕ). x < n) (sym (length-map (S .earlier) stub)) (ltb→lt x (length (S .earlier)) (eq→T (ltb x (length (S .earlier))) h))
+withins S f CalleeK x i h =
+    ap (λ (g : Function). g .k) (stub-at (S .earlier) f)
+    ∙ sym (eqb→eq x (syntax.function (S .earlier) f .k) (eq→T (eqb x (syntax.function (S .earlier) f .k)) h))
+withins S f CalleeM x i h =
+    ap (λ (g : Function). g .m) (stub-at (S .earlier) f)
+    ∙ sym (eqb→eq x (syntax.function (S .earlier) f .m) (eq→T (eqb x (syntax.function (S .earlier) f .m)) h))
 withins S f Nothing x i h = absurd (false≢true i)
 
 -- the first operand does not ask for itself
@@ -146,4 +156,5 @@ words-said s [] (x ∷ xs) i h e = refl
 words-said s (o ∷ os) [] i h e = absurd (omega arith)
 words-said s (o ∷ os) (x ∷ xs) i h e =
     let q : length xs ≡ length os = omega arith in
-    ap (λ (z : Line). chosen (silent o) z (spoken o (byte s i) ∷ z)) (words-said s os xs (suc i) (h .2) q) ∙ ap (λ (y : ℕ). chosen (silent o) (said os xs) (spoken o y ∷ said os xs)) (h .0)
+    ap (λ (z : Line). chosen (silent o) z (spoken o (byte s i) ∷ z)) (words-said s os xs (suc i) (h .2) q)
+    ∙ ap (λ (y : ℕ). chosen (silent o) (said os xs) (spoken o y ∷ said os xs)) (h .0)

@@ -74,7 +74,9 @@ ctxLines (in-function fs k m) = firstLines fs ++ (headLine (length fs) k m ∷ [
 ctxLines (in-main fs) = firstLines fs ++ ((main ∷ []) ∷ [])
 ctxLines (in-loop c rs b xs) = (ctxLines c ++ rawsLines (depthOf c) rs) ++ (indented (depthOf c) (rawLine b xs) ∷ [])
 ctxLines (in-first c rs b xs) = (ctxLines c ++ rawsLines (depthOf c) rs) ++ (indented (depthOf c) (rawLine b xs) ∷ [])
-ctxLines (in-second c rs b xs q) = (ctxLines c ++ rawsLines (depthOf c) rs) ++ (indented (depthOf c) (rawLine b xs) ∷ (rawsLines (suc (depthOf c)) q ++ (indented (depthOf c) (else ∷ []) ∷ [])))
+ctxLines (in-second c rs b xs q) =
+    (ctxLines c ++ rawsLines (depthOf c) rs)
+    ++ (indented (depthOf c) (rawLine b xs) ∷ (rawsLines (suc (depthOf c)) q ++ (indented (depthOf c) (else ∷ []) ∷ [])))
 
 -- the lines that may follow in c, once the block inside has ended; the else of a first block
 abbrev pub afterIn : Ctx → List ℕ → List (Grammar Sofar)
@@ -87,11 +89,15 @@ abbrev pub linesOf : Ctx → Raws → List Line
 linesOf c rs = ctxLines c ++ rawsLines (depthOf c) rs
 
 pub data GoodCtx : ℕ → Ctx → Type 0 where
-  good-function : {fs : List RawFunction} {k m : ℕ} → GoodFunctions [] fs → length fs < 15 → k ≤ 16 → m ≤ 8 → m ≤ k → GoodCtx 7 (in-function fs k m)
+  good-function : {fs : List RawFunction} {k m : ℕ} → GoodFunctions [] fs → length fs < 15 → k ≤ 16 → m ≤ 8 → m ≤ k
+      → GoodCtx 7 (in-function fs k m)
   good-main : {fs : List RawFunction} → GoodFunctions [] fs → length fs ≤ 15 → GoodCtx 7 (in-main fs)
-  good-in-loop : {d b : ℕ} {c : Ctx} {rs : Raws} {xs : List ℕ} → GoodCtx (suc d) c → Goods (scopeOf c) (suc d) rs → (r : Row) → rowOf b ≡ some r → r .meaning ≡ loops → Operands (scopeOf c) (r .operands) xs → GoodCtx d (in-loop c rs b xs)
-  good-in-first : {d b : ℕ} {c : Ctx} {rs : Raws} {xs : List ℕ} → GoodCtx (suc d) c → Goods (scopeOf c) (suc d) rs → (r : Row) → rowOf b ≡ some r → r .meaning ≡ branches → Operands (scopeOf c) (r .operands) xs → GoodCtx d (in-first c rs b xs)
-  good-in-second : {d b : ℕ} {c : Ctx} {rs q : Raws} {xs : List ℕ} → GoodCtx (suc d) c → Goods (scopeOf c) (suc d) rs → (r : Row) → rowOf b ≡ some r → r .meaning ≡ branches → Operands (scopeOf c) (r .operands) xs
+  good-in-loop : {d b : ℕ} {c : Ctx} {rs : Raws} {xs : List ℕ} → GoodCtx (suc d) c → Goods (scopeOf c) (suc d) rs → (r : Row) → rowOf b ≡ some r
+      → r .meaning ≡ loops → Operands (scopeOf c) (r .operands) xs → GoodCtx d (in-loop c rs b xs)
+  good-in-first : {d b : ℕ} {c : Ctx} {rs : Raws} {xs : List ℕ} → GoodCtx (suc d) c → Goods (scopeOf c) (suc d) rs → (r : Row) → rowOf b ≡ some r
+      → r .meaning ≡ branches → Operands (scopeOf c) (r .operands) xs → GoodCtx d (in-first c rs b xs)
+  good-in-second : {d b : ℕ} {c : Ctx} {rs q : Raws} {xs : List ℕ} → GoodCtx (suc d) c → Goods (scopeOf c) (suc d) rs → (r : Row)
+      → rowOf b ≡ some r → r .meaning ≡ branches → Operands (scopeOf c) (r .operands) xs
       → Goods (scopeOf c) d q → GoodCtx d (in-second c rs b xs q)
 
 pub depths : (c : Ctx) (d : ℕ) → GoodCtx d c → length (outerOf c) + d ≡ 7
@@ -104,14 +110,17 @@ depths (in-second c rs b xs q) d (good-in-second g h r e f i j) = let z : length
 pub loop-bytes : (rs : Raws) (b : ℕ) (xs : List ℕ) (q : Raws) → (rawsBytes rs ++ (b ∷ xs)) ++ sized (rawsBytes q) ≡ rawsBytes (snoc rs (loop b xs q))
 loop-bytes rs b xs q = append-assoc (rawsBytes rs) (b ∷ xs) (sized (rawsBytes q)) ∙ sym (snoc-bytes rs (loop b xs q))
 
-pub fork-bytes : (rs : Raws) (b : ℕ) (xs : List ℕ) (q t : Raws) → ((rawsBytes rs ++ (b ∷ xs)) ++ sized (rawsBytes q)) ++ sized (rawsBytes t) ≡ rawsBytes (snoc rs (fork b xs q t))
+pub fork-bytes : (rs : Raws) (b : ℕ) (xs : List ℕ) (q t : Raws)
+    → ((rawsBytes rs ++ (b ∷ xs)) ++ sized (rawsBytes q)) ++ sized (rawsBytes t) ≡ rawsBytes (snoc rs (fork b xs q t))
 fork-bytes rs b xs q t =
-    append-assoc (rawsBytes rs ++ (b ∷ xs)) (sized (rawsBytes q)) (sized (rawsBytes t)) ∙ append-assoc (rawsBytes rs) (b ∷ xs) (sized (rawsBytes q) ++ sized (rawsBytes t)) ∙ sym (snoc-bytes rs (fork b xs q t))
+    append-assoc (rawsBytes rs ++ (b ∷ xs)) (sized (rawsBytes q)) (sized (rawsBytes t))
+    ∙ append-assoc (rawsBytes rs) (b ∷ xs) (sized (rawsBytes q) ++ sized (rawsBytes t)) ∙ sym (snoc-bytes rs (fork b xs q t))
 
 pub loop-lines : (c : Ctx) (rs : Raws) (b : ℕ) (xs : List ℕ) (q : Raws) → linesOf c (snoc rs (loop b xs q)) ≡ linesOf (in-loop c rs b xs) q
 loop-lines c rs b xs q =
     let l : Line = indented (depthOf c) (rawLine b xs) in
-    ap (λ (z : List Line). ctxLines c ++ z) (snoc-lines (depthOf c) rs (loop b xs q)) ∙ sym (append-assoc (ctxLines c) (rawsLines (depthOf c) rs) (l ∷ rawsLines (suc (depthOf c)) q))
+    ap (λ (z : List Line). ctxLines c ++ z) (snoc-lines (depthOf c) rs (loop b xs q))
+    ∙ sym (append-assoc (ctxLines c) (rawsLines (depthOf c) rs) (l ∷ rawsLines (suc (depthOf c)) q))
     ∙ sym (append-assoc (ctxLines c ++ rawsLines (depthOf c) rs) (l ∷ []) (rawsLines (suc (depthOf c)) q))
 
 pub fork-lines : (c : Ctx) (rs : Raws) (b : ℕ) (xs : List ℕ) (q t : Raws) → linesOf c (snoc rs (fork b xs q t)) ≡ linesOf (in-second c rs b xs q) t
@@ -120,11 +129,13 @@ fork-lines c rs b xs q t =
     let m : Line = indented (depthOf c) (else ∷ []) in
     let Q : List Line = rawsLines (suc (depthOf c)) q in
     let U : List Line = rawsLines (suc (depthOf c)) t in
-    ap (λ (z : List Line). ctxLines c ++ z) (snoc-lines (depthOf c) rs (fork b xs q t)) ∙ sym (append-assoc (ctxLines c) (rawsLines (depthOf c) rs) (l ∷ (Q ++ (m ∷ U))))
+    ap (λ (z : List Line). ctxLines c ++ z) (snoc-lines (depthOf c) rs (fork b xs q t))
+    ∙ sym (append-assoc (ctxLines c) (rawsLines (depthOf c) rs) (l ∷ (Q ++ (m ∷ U))))
     ∙ ap (λ (z : List Line). (ctxLines c ++ rawsLines (depthOf c) rs) ++ (l ∷ z)) (sym (append-assoc Q (m ∷ []) U))
     ∙ sym (append-assoc (ctxLines c ++ rawsLines (depthOf c) rs) (l ∷ (Q ++ (m ∷ []))) U)
 
-pub first-lines : (c : Ctx) (rs : Raws) (b : ℕ) (xs : List ℕ) (q : Raws) → linesOf (in-second c rs b xs q) end ≡ linesOf (in-first c rs b xs) q ++ (indented (depthOf c) (else ∷ []) ∷ [])
+pub first-lines : (c : Ctx) (rs : Raws) (b : ℕ) (xs : List ℕ) (q : Raws)
+    → linesOf (in-second c rs b xs q) end ≡ linesOf (in-first c rs b xs) q ++ (indented (depthOf c) (else ∷ []) ∷ [])
 first-lines c rs b xs q =
     let l : Line = indented (depthOf c) (rawLine b xs) in
     let m : Line = indented (depthOf c) (else ∷ []) in
@@ -138,8 +149,12 @@ withBody fs k m rs = fs ++ (record { k = k; m = m; body = rs } ∷ [])
 
 pub body-lines : (fs : List RawFunction) (k m : ℕ) (rs : Raws) → firstLines (withBody fs k m rs) ≡ linesOf (in-function fs k m) rs
 body-lines fs k m rs =
-    ap (λ (z : List Line). (program ∷ decimal 1 ∷ []) ∷ z) (functions-lines-snoc 0 fs (record { k = k; m = m; body = rs }) ∙ ap (λ (i : ℕ). rawFunctions 0 fs ++ (headLine i k m ∷ rawsLines 1 rs)) (zero-add (length fs)))
+    ap (λ (z : List Line). (program ∷ decimal 1 ∷ []) ∷ z)
+    (functions-lines-snoc 0 fs (record { k = k; m = m; body = rs })
+    ∙ ap (λ (i : ℕ). rawFunctions 0 fs ++ (headLine i k m ∷ rawsLines 1 rs)) (zero-add (length fs)))
     ∙ sym (append-assoc (firstLines fs) (headLine (length fs) k m ∷ []) (rawsLines 1 rs))
 
-pub body-bytes : (fs : List RawFunction) (k m : ℕ) (rs : Raws) → (functionsBytes fs ++ (k ∷ m ∷ [])) ++ sized (rawsBytes rs) ≡ functionsBytes (withBody fs k m rs)
-body-bytes fs k m rs = append-assoc (functionsBytes fs) (k ∷ m ∷ []) (sized (rawsBytes rs)) ∙ sym (functions-bytes-snoc fs (record { k = k; m = m; body = rs }))
+pub body-bytes : (fs : List RawFunction) (k m : ℕ) (rs : Raws)
+    → (functionsBytes fs ++ (k ∷ m ∷ [])) ++ sized (rawsBytes rs) ≡ functionsBytes (withBody fs k m rs)
+body-bytes fs k m rs =
+    append-assoc (functionsBytes fs) (k ∷ m ∷ []) (sized (rawsBytes rs)) ∙ sym (functions-bytes-snoc fs (record { k = k; m = m; body = rs }))

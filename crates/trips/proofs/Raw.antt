@@ -119,7 +119,8 @@ chosen-append false w us vs = refl
 
 -- The law, for one operand that is written, for any operand, for operands in a row.
 module _ {A : Type 0} (S : Scope) where
-  asked : (o : Operand) (k : ℕ → Grammar A) (x : ℕ) → x < count S o → (ws : List Text) → takes (ask none (wordsFor S o) k) (spoken o x ∷ ws) ≡ takes (k x) ws
+  asked : (o : Operand) (k : ℕ → Grammar A) (x : ℕ) → x < count S o → (ws : List Text)
+      → takes (ask none (wordsFor S o) k) (spoken o x ∷ ws) ≡ takes (k x) ws
   asked o k x l ws = takes-next none (wordsFor S o) k (spoken o x) ws x (place-numbered (count S o) (spoken o) (apart-spoken S o) x l)
 
   abbrev Heard : ℕ → Operand → (ℕ → Grammar A) → List Text → A → Type 0
@@ -134,7 +135,8 @@ module _ {A : Type 0} (S : Scope) where
       let l : r .0 < count S o = subst (λ (n : ℕ). r .0 < n) (length-upTo 0 (count S o) (spoken o)) (f .1) in
       (r .0, ws, ap (λ (v : Text). v ∷ ws) (sym (f .0) ∙ getD-upTo-zero (count S o) (r .0) (spoken o) [] l), l, r .2)
 
-  pub takes-operand : (f : ℕ) (o : Operand) (k : ℕ → Grammar A) (x : ℕ) → Within S f o x → (ws : List Text) → takes (operand S f o k) (chosen (silent o) ws (spoken o x ∷ ws)) ≡ takes (k x) ws
+  pub takes-operand : (f : ℕ) (o : Operand) (k : ℕ → Grammar A) (x : ℕ) → Within S f o x → (ws : List Text)
+      → takes (operand S f o k) (chosen (silent o) ws (spoken o x ∷ ws)) ≡ takes (k x) ws
   takes-operand f Slot k x h ws = asked Slot k x h ws
   takes-operand f Location k x h ws = asked Location k x h ws
   takes-operand f Gate k x h ws = asked Gate k x h ws
@@ -156,7 +158,8 @@ module _ {A : Type 0} (S : Scope) where
   took-operand f CalleeM k ws a h = (syntax.function (S .earlier) f .m, ws, refl, refl, h)
   took-operand f Nothing k ws a h = (0, ws, refl, refl, h)
 
-  pub takes-others : (f : ℕ) (os : List Operand) (k : List ℕ → Grammar A) (xs : List ℕ) → Ranged S f os xs → (ws : List Text) → takes (others S f os k) (said os xs ++ ws) ≡ takes (k xs) ws
+  pub takes-others : (f : ℕ) (os : List Operand) (k : List ℕ → Grammar A) (xs : List ℕ) → Ranged S f os xs → (ws : List Text)
+      → takes (others S f os k) (said os xs ++ ws) ≡ takes (k xs) ws
   takes-others f [] k [] h ws = refl
   takes-others f [] k (x ∷ xs) h ws = absurd h
   takes-others f (o ∷ os) k [] h ws = absurd h
@@ -167,14 +170,22 @@ module _ {A : Type 0} (S : Scope) where
   abbrev HeardAll : ℕ → List Operand → (List ℕ → Grammar A) → List Text → A → Type 0
   HeardAll f os k ws a = (xs : List ℕ) × (vs : List Text) × (ws ≡ said os xs ++ vs) × Ranged S f os xs × (takes (k xs) vs ≡ some a)
 
-  pub took-others : (f : ℕ) (os : List Operand) (k : List ℕ → Grammar A) (ws : List Text) (a : A) → takes (others S f os k) ws ≡ some a → HeardAll f os k ws a
+  pub took-others : (f : ℕ) (os : List Operand) (k : List ℕ → Grammar A) (ws : List Text) (a : A) → takes (others S f os k) ws ≡ some a
+      → HeardAll f os k ws a
   took-others f [] k ws a h = ([], ws, refl, tt, h)
   took-others f (o ∷ os) k ws a h =
       let r : Heard f o (λ b. others S f os λ bs. k (b ∷ bs)) ws a = took-operand f o (λ b. others S f os λ bs. k (b ∷ bs)) ws a h in
-      let q : HeardAll f os (λ bs. k (r .0 ∷ bs)) (r .1) a = took-others f os (λ bs. k (r .0 ∷ bs)) (r .1) a (r .4) in
-      (r .0 ∷ q .0, q .1, r .2 ∙ ap (λ (v : List Text). chosen (silent o) v (spoken o (r .0) ∷ v)) (q .2) ∙ sym (chosen-append (silent o) (spoken o (r .0)) (said os (q .0)) (q .1)), (r .3, q .3), q .4)
+      let q : HeardAll f os (λ bs. k (r .0 ∷ bs)) (r .1) a = took-others f os (λ bs. k (r .0 ∷ bs)) (r .1) a (r .4) in (
+        r .0 ∷ q .0,
+        q .1,
+        r .2 ∙ ap (λ (v : List Text). chosen (silent o) v (spoken o (r .0) ∷ v)) (q .2)
+            ∙ sym (chosen-append (silent o) (spoken o (r .0)) (said os (q .0)) (q .1)),
+        (r .3, q .3),
+        q .4,
+      )
 
-  pub takes-operands : (os : List Operand) (k : List ℕ → Grammar A) (xs : List ℕ) → Operands S os xs → (ws : List Text) → takes (operands S os k) (said os xs ++ ws) ≡ takes (k xs) ws
+  pub takes-operands : (os : List Operand) (k : List ℕ → Grammar A) (xs : List ℕ) → Operands S os xs → (ws : List Text)
+      → takes (operands S os k) (said os xs ++ ws) ≡ takes (k xs) ws
   takes-operands [] k [] h ws = refl
   takes-operands [] k (x ∷ xs) h ws = absurd h
   takes-operands (o ∷ os) k [] h ws = absurd h
@@ -189,11 +200,18 @@ module _ {A : Type 0} (S : Scope) where
   took-operands [] k ws a h = ([], ws, refl, tt, h)
   took-operands (o ∷ os) k ws a h =
       let r : Heard 0 o (λ b. others S b os λ bs. k (b ∷ bs)) ws a = took-operand 0 o (λ b. others S b os λ bs. k (b ∷ bs)) ws a h in
-      let q : HeardAll (r .0) os (λ bs. k (r .0 ∷ bs)) (r .1) a = took-others (r .0) os (λ bs. k (r .0 ∷ bs)) (r .1) a (r .4) in
-      (r .0 ∷ q .0, q .1, r .2 ∙ ap (λ (v : List Text). chosen (silent o) v (spoken o (r .0) ∷ v)) (q .2) ∙ sym (chosen-append (silent o) (spoken o (r .0)) (said os (q .0)) (q .1)), (r .3, q .3), q .4)
+      let q : HeardAll (r .0) os (λ bs. k (r .0 ∷ bs)) (r .1) a = took-others (r .0) os (λ bs. k (r .0 ∷ bs)) (r .1) a (r .4) in (
+        r .0 ∷ q .0,
+        q .1,
+        r .2 ∙ ap (λ (v : List Text). chosen (silent o) v (spoken o (r .0) ∷ v)) (q .2)
+            ∙ sym (chosen-append (silent o) (spoken o (r .0)) (said os (q .0)) (q .1)),
+        (r .3, q .3),
+        q .4,
+      )
 
 -- operands of one kind that is written in decimal
-pub said-alike : (S : Scope) (f : ℕ) (o : Operand) → silent o ≡ false → ((x : ℕ) → spoken o x ≡ decimal x) → (n : ℕ) (xs : List ℕ) → Ranged S f (replicate n o) xs → said (replicate n o) xs ≡ map decimal xs
+pub said-alike : (S : Scope) (f : ℕ) (o : Operand) → silent o ≡ false → ((x : ℕ) → spoken o x ≡ decimal x) → (n : ℕ) (xs : List ℕ)
+    → Ranged S f (replicate n o) xs → said (replicate n o) xs ≡ map decimal xs
 said-alike S f o e d zero [] h = refl
 said-alike S f o e d zero (x ∷ xs) h = absurd h
 said-alike S f o e d (suc n) [] h = absurd h
@@ -202,12 +220,14 @@ said-alike S f o e d (suc n) (x ∷ xs) h =
     ∙ ap (λ (w : Text). w ∷ said (replicate n o) xs) (d x) ∙ ap (λ (r : List Text). decimal x ∷ r) (said-alike S f o e d n xs (h .1))
 
 module _ {A : Type 0} (S : Scope) (w : Text) (o : Operand) (e : silent o ≡ false) (d : (x : ℕ) → spoken o x ≡ decimal x) where
-  pub takes-list : (n : ℕ) (k : List ℕ → Grammar A) (xs : List ℕ) → Ranged S 0 (replicate n o) xs → (ws : List Text) → takes (list S w o n k) (listed w xs ++ ws) ≡ takes (k xs) ws
+  pub takes-list : (n : ℕ) (k : List ℕ → Grammar A) (xs : List ℕ) → Ranged S 0 (replicate n o) xs → (ws : List Text)
+      → takes (list S w o n k) (listed w xs ++ ws) ≡ takes (k xs) ws
   takes-list zero k [] h ws = refl
   takes-list zero k (x ∷ xs) h ws = absurd h
   takes-list (suc n) k [] h ws = absurd h
   takes-list (suc n) k (x ∷ xs) h ws =
-      takes-next none (w ∷ []) (λ i. others S 0 (replicate (suc n) o) k) w (map decimal (x ∷ xs) ++ ws) 0 (ap (λ (b : Bool). elim b [ true ↦ some 0 | false ↦ none ]) (word-same w))
+      takes-next none (w ∷ []) (λ i. others S 0 (replicate (suc n) o) k) w (map decimal (x ∷ xs) ++ ws) 0
+      (ap (λ (b : Bool). elim b [ true ↦ some 0 | false ↦ none ]) (word-same w))
       ∙ ap (λ (l : List Text). takes (others S 0 (replicate (suc n) o) k) (l ++ ws)) (sym (said-alike S 0 o e d (suc n) (x ∷ xs) h))
       ∙ takes-others S 0 (replicate (suc n) o) k (x ∷ xs) h ws
 
@@ -224,19 +244,30 @@ module _ {A : Type 0} (S : Scope) (w : Text) (o : Operand) (e : silent o ≡ fal
       let q : HeardAll S 0 (replicate (suc n) o) k ws a = took-others S 0 (replicate (suc n) o) k ws a (r .2) in
       go (q .0) (q .1) (q .2) (q .3) (q .4) (ap (λ (i : ℕ). getD (w ∷ []) i []) z ∙ f .0)
     where
-      go : (xs : List ℕ) (vs : List Text) → ws ≡ said (replicate (suc n) o) xs ++ vs → Ranged S 0 (replicate (suc n) o) xs → takes (k xs) vs ≡ some a → w ≡ v → Listed (suc n) k (v ∷ ws) a
+      go : (xs : List ℕ) (vs : List Text) → ws ≡ said (replicate (suc n) o) xs ++ vs → Ranged S 0 (replicate (suc n) o) xs
+          → takes (k xs) vs ≡ some a → w ≡ v → Listed (suc n) k (v ∷ ws) a
       go [] vs p q t g = absurd q
-      go (x ∷ xs) vs p q t g =
-          (x ∷ xs, vs, ap (λ (u : Text). u ∷ ws) (sym g) ∙ ap (λ (l : List Text). w ∷ l) (p ∙ ap (λ (l : List Text). l ++ vs) (said-alike S 0 o e d (suc n) (x ∷ xs) q)), q, t)
+      go (x ∷ xs) vs p q t g = (
+        x ∷ xs,
+        vs,
+        ap (λ (u : Text). u ∷ ws) (sym g)
+            ∙ ap (λ (l : List Text). w ∷ l) (p ∙ ap (λ (l : List Text). l ++ vs) (said-alike S 0 o e d (suc n) (x ∷ xs) q)),
+        q,
+        t,
+      )
 
 -- Good trees in a scope, with so many depths left for the blocks inside
 mutual
   pub data Good (S : Scope) : ℕ → Raw → Type 0 where
-    good-plain : {d b : ℕ} {xs : List ℕ} (r : Row) (f : (s : Side) → (ℕ → ℕ) → Op s) → rowOf b ≡ some r → r .meaning ≡ simple f → Operands S (r .operands) xs → Good S d (plain b xs)
-    good-called : {d b : ℕ} {xs ls ms : List ℕ} (r : Row) → rowOf b ≡ some r → r .meaning ≡ calls → Operands S (r .operands) xs → Ranged S 0 (replicate (getD xs 1 0) Location) ls
+    good-plain : {d b : ℕ} {xs : List ℕ} (r : Row) (f : (s : Side) → (ℕ → ℕ) → Op s) → rowOf b ≡ some r → r .meaning ≡ simple f
+        → Operands S (r .operands) xs → Good S d (plain b xs)
+    good-called : {d b : ℕ} {xs ls ms : List ℕ} (r : Row) → rowOf b ≡ some r → r .meaning ≡ calls → Operands S (r .operands) xs
+        → Ranged S 0 (replicate (getD xs 1 0) Location) ls
         → Ranged S 0 (replicate (getD xs 2 0) Slot) ms → Good S d (called b xs ls ms)
-    good-fork : {d b : ℕ} {xs : List ℕ} {q t : Raws} (r : Row) → rowOf b ≡ some r → r .meaning ≡ branches → Operands S (r .operands) xs → Goods S d q → Goods S d t → Good S (suc d) (fork b xs q t)
-    good-loop : {d b : ℕ} {xs : List ℕ} {q : Raws} (r : Row) → rowOf b ≡ some r → r .meaning ≡ loops → Operands S (r .operands) xs → Goods S d q → Good S (suc d) (loop b xs q)
+    good-fork : {d b : ℕ} {xs : List ℕ} {q t : Raws} (r : Row) → rowOf b ≡ some r → r .meaning ≡ branches → Operands S (r .operands) xs
+        → Goods S d q → Goods S d t → Good S (suc d) (fork b xs q t)
+    good-loop : {d b : ℕ} {xs : List ℕ} {q : Raws} (r : Row) → rowOf b ≡ some r → r .meaning ≡ loops → Operands S (r .operands) xs → Goods S d q
+        → Good S (suc d) (loop b xs q)
 
   pub data Goods (S : Scope) : ℕ → Raws → Type 0 where
     good-end : {d : ℕ} → Goods S d end
@@ -276,7 +307,8 @@ rawProgramLines p = (program ∷ decimal 1 ∷ []) ∷ (rawFunctions 0 (p .funct
 -- functions after those whose heads are fs
 pub data GoodFunctions : List Function → List RawFunction → Type 0 where
   no-functions : {fs : List Function} → GoodFunctions fs []
-  a-function : {fs : List Function} {f : RawFunction} {gs : List RawFunction} → f .k ≤ 16 → f .m ≤ 8 → f .m ≤ f .k → Goods (record { places = f .k; earlier = fs }) 7 (f .body)
+  a-function : {fs : List Function} {f : RawFunction} {gs : List RawFunction} → f .k ≤ 16 → f .m ≤ 8 → f .m ≤ f .k
+      → Goods (record { places = f .k; earlier = fs }) 7 (f .body)
       → GoodFunctions (fs ++ (headOf (f .k) (f .m) ∷ [])) gs → GoodFunctions fs (f ∷ gs)
 
 pub record GoodProgram (p : RawProgram) : Type 0 where
@@ -287,17 +319,22 @@ pub record GoodProgram (p : RawProgram) : Type 0 where
 
 -- The four bridges between readable files, raw trees and the reader's states.
 abbrev pub Reads : Type 0
-Reads = (s : List ℕ) (p : Program) → Bytes s → readProgram s ≡ ok p → (q : RawProgram) × GoodProgram q × (programBytes q ≡ s) × (rawProgramLines q ≡ programLines s p)
+Reads =
+    (s : List ℕ) (p : Program) → Bytes s → readProgram s ≡ ok p
+    → (q : RawProgram) × GoodProgram q × (programBytes q ≡ s) × (rawProgramLines q ≡ programLines s p)
 
 abbrev pub ReadsBack : Type 0
-ReadsBack = (q : RawProgram) → GoodProgram q → (p : Program) × (readProgram (programBytes q) ≡ ok p) × (programLines (programBytes q) p ≡ rawProgramLines q) × Bytes (programBytes q)
+ReadsBack =
+    (q : RawProgram) → GoodProgram q → (p : Program) × (readProgram (programBytes q) ≡ ok p) × (programLines (programBytes q) p ≡ rawProgramLines q)
+    × Bytes (programBytes q)
 
 abbrev pub Runs : Type 0
 Runs = (q : RawProgram) → GoodProgram q → (σ : State) × (run fresh (rawProgramLines q) ≡ some σ) × (file σ ≡ some (programBytes q))
 
 abbrev pub RunsBack : Type 0
 RunsBack = (ls : List Line) (σ : State) → run fresh ls ≡ some σ
-    → (q : RawProgram) × (more : List Line) × GoodProgram q × (rawProgramLines q ≡ ls ++ more) × ((z : List ℕ) → file σ ≡ some z → (z ≡ programBytes q) × (more ≡ []))
+    → (q : RawProgram) × (more : List Line) × GoodProgram q × (rawProgramLines q ≡ ls ++ more)
+    × ((z : List ℕ) → file σ ≡ some z → (z ≡ programBytes q) × (more ≡ []))
 
 pub forth : Reads → Runs → Forth
 forth reads runs s p y h =

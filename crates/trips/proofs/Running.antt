@@ -41,12 +41,14 @@ takes-indent zero g l = refl
 takes-indent (suc n) g l = takes-indent n g l
 
 -- a line that is less deep
-pub not-so-deep : {A : Type 0} (k m : ℕ) → m ≤ k → (g : Grammar A) (x : ℕ) (w : Text) (ws : List Text) → takes (indent (suc k) g) (indented m ((x ∷ w) ∷ ws)) ≡ none
+pub not-so-deep : {A : Type 0} (k m : ℕ) → m ≤ k → (g : Grammar A) (x : ℕ) (w : Text) (ws : List Text)
+    → takes (indent (suc k) g) (indented m ((x ∷ w) ∷ ws)) ≡ none
 not-so-deep k zero h g x w ws = refl
 not-so-deep zero (suc m) h g x w ws = absurd (not-suc-le-zero h)
 not-so-deep (suc k) (suc m) h g x w ws = not-so-deep k m (le-of-suc-le-suc h) g x w ws
 
-pub name-taken : (p : Sofar) (b : ℕ) (r : Row) → rowOf b ≡ some r → (ws : List Text) → takes (statementLine p) (nameOf b ∷ ws) ≡ takes (rowLine p b (some r)) ws
+pub name-taken : (p : Sofar) (b : ℕ) (r : Row) → rowOf b ≡ some r → (ws : List Text)
+    → takes (statementLine p) (nameOf b ∷ ws) ≡ takes (rowLine p b (some r)) ws
 name-taken p zero r h ws = none-not-some h
 name-taken p (suc i) r h ws =
     let l : i < length table = omega (arith, byte-of-row (suc i) r h .1, byte-of-row (suc i) r h .2) in
@@ -59,7 +61,9 @@ roomy {A} p n g h = ap {B = Grammar A} (λ (b : Bool). elim b [ true ↦ g | fal
 
 pub not-deepest : {A : Type 0} (p : Sofar) (n : ℕ) (g : Grammar A) → length (p .open-blocks) < 8 → deeper p n g ≡ g
 not-deepest p zero g h = refl
-not-deepest {A} p (suc n) g h = ap {B = Grammar A} (λ (b : Bool). elim b [ true ↦ g | false ↦ dead ]) (T→eq (ltb (length (p .open-blocks)) 8) (lt→ltb (length (p .open-blocks)) 8 h))
+not-deepest {A} p (suc n) g h =
+    ap {B = Grammar A} (λ (b : Bool). elim b [ true ↦ g | false ↦ dead ])
+    (T→eq (ltb (length (p .open-blocks)) 8) (lt→ltb (length (p .open-blocks)) 8 h))
 
 -- a statement's line, up to what its row's meaning makes of it
 module _ (p : Sofar) (b : ℕ) (r : Row) (m : Meaning) (row : rowOf b ≡ some r) (means : r .meaning ≡ m) (fits : least p + (size r + blocksOf m) ≤ 4096)
@@ -77,15 +81,18 @@ module _ (p : Sofar) (b : ℕ) (r : Row) (m : Meaning) (row : rowOf b ≡ some r
 -- a state that is another once its innermost blocks have ended
 pub data Closes (q : Sofar) : Sofar → Type 0 where
   same : Closes q q
-  closed : (S : Scope) (a : Option (List Function)) (b : Opened) (bs : List Opened) (bytes : List ℕ) → Closes q (state S a (b ∷ bs) bytes) → b .due ≡ false
+  closed : (S : Scope) (a : Option (List Function)) (b : Opened) (bs : List Opened) (bytes : List ℕ) → Closes q (state S a (b ∷ bs) bytes)
+      → b .due ≡ false
       → {p : Sofar} → p ≡ state S a bs (b .before ++ sized bytes) → Closes q p
 
 first-line : (S : Scope) (a : Option (List Function)) (b : Opened) (bs : List Opened) (bytes : List ℕ) (l : Line) (p : Sofar)
-    → takes (indent (suc (length bs)) (statementLine (state S a (b ∷ bs) bytes))) l ≡ some p → takesOne (lines (sofar (state S a (b ∷ bs) bytes))) l ≡ some p
+    → takes (indent (suc (length bs)) (statementLine (state S a (b ∷ bs) bytes))) l ≡ some p
+    → takesOne (lines (sofar (state S a (b ∷ bs) bytes))) l ≡ some p
 first-line S a b bs bytes l p h =
     ap (λ (o : Option Sofar). elim o [ none ↦ takesOne (afterBlock S a b bs bytes (b .due)) l | some a ↦ some a ]) h
 
-later-line : (S : Scope) (a : Option (List Function)) (b : Opened) (bs : List Opened) (bytes : List ℕ) (m : ℕ) → m ≤ length bs → (x : ℕ) (w : Text) (ws : List Text)
+later-line : (S : Scope) (a : Option (List Function)) (b : Opened) (bs : List Opened) (bytes : List ℕ) (m : ℕ) → m ≤ length bs
+    → (x : ℕ) (w : Text) (ws : List Text)
     → takesOne (lines (sofar (state S a (b ∷ bs) bytes))) (indented m ((x ∷ w) ∷ ws))
     ≡ takesOne (afterBlock S a b bs bytes (b .due)) (indented m ((x ∷ w) ∷ ws))
 later-line S a b bs bytes m h x w ws =
@@ -107,7 +114,8 @@ closes-file q p same = refl
 closes-file q p (closed S a b bs bytes c e e′) =
     let E : Bool → Option (List ℕ) = λ d. elim d [ true ↦ none | false ↦ ended bs (b .before ++ sized bytes) ] in
     closes-file q (state S a (b ∷ bs) bytes) c
-    ∙ ap {B = Option (List ℕ)} (λ (d : Bool). elim a [ some fs ↦ none | none ↦ elim (E d) [ none ↦ none | some z ↦ some (header (length (S .earlier)) ++ z) ] ]) e
+    ∙ ap {B = Option (List ℕ)} (λ
+    (d : Bool). elim a [ some fs ↦ none | none ↦ elim (E d) [ none ↦ none | some z ↦ some (header (length (S .earlier)) ++ z) ] ]) e
     ∙ ap (λ (r : Sofar). file (sofar r)) (sym e′)
 
 closes-run : (q p : Sofar) → Closes q p → (m : ℕ) → m ≤ length (p .open-blocks) → (x : ℕ) (w : Text) (ws : List Text) (ls : List Line)
@@ -119,20 +127,31 @@ abbrev Ran : Sofar → List Line → Sofar → Type 0
 Ran p ls p′ = (q : Sofar) × (run (sofar p) ls ≡ some (sofar q)) × Closes q p′
 
 -- a tree's first line is at its depth
-starts-at : (n : ℕ) (S : Scope) (d : ℕ) (r : Raw) → Good S d r → (x : ℕ) × (w : Text) × (ws : List Text) × (ls : List Line) × (rawLines n r ≡ indented n ((x ∷ w) ∷ ws) ∷ ls)
+starts-at : (n : ℕ) (S : Scope) (d : ℕ) (r : Raw) → Good S d r
+    → (x : ℕ) × (w : Text) × (ws : List Text) × (ls : List Line) × (rawLines n r ≡ indented n ((x ∷ w) ∷ ws) ∷ ls)
 starts-at n S d (plain b xs) (good-plain r f row e h) =
     let N : (x : ℕ) × (w : Text) × (nameOf b ≡ x ∷ w) = name-filled b r row in
     (N .0, N .1, said (operandsIn (rowOf b)) xs, [], ap (λ (v : Text). indented n (v ∷ said (operandsIn (rowOf b)) xs) ∷ []) (N .2))
 starts-at n S d (called b xs ls ms) (good-called r row e h i j) =
-    let N : (x : ℕ) × (w : Text) × (nameOf b ≡ x ∷ w) = name-filled b r row in
-    (N .0, N .1, said (operandsIn (rowOf b)) xs ++ (listed at ls ++ listed with ms), [], ap (λ (v : Text). indented n (v ∷ (said (operandsIn (rowOf b)) xs ++ (listed at ls ++ listed with ms))) ∷ []) (N .2))
+    let N : (x : ℕ) × (w : Text) × (nameOf b ≡ x ∷ w) = name-filled b r row in (
+      N .0,
+      N .1,
+      said (operandsIn (rowOf b)) xs ++ (listed at ls ++ listed with ms),
+      [],
+      ap (λ (v : Text). indented n (v ∷ (said (operandsIn (rowOf b)) xs ++ (listed at ls ++ listed with ms))) ∷ []) (N .2),
+    )
 starts-at n S (suc d) (fork b xs q t) (good-fork r row e h i j) =
     let N : (x : ℕ) × (w : Text) × (nameOf b ≡ x ∷ w) = name-filled b r row in
     let L : List Line = rawsLines (suc n) q ++ (indented n (else ∷ []) ∷ rawsLines (suc n) t) in
     (N .0, N .1, said (operandsIn (rowOf b)) xs, L, ap (λ (v : Text). indented n (v ∷ said (operandsIn (rowOf b)) xs) ∷ L) (N .2))
 starts-at n S (suc d) (loop b xs q) (good-loop r row e h i) =
-    let N : (x : ℕ) × (w : Text) × (nameOf b ≡ x ∷ w) = name-filled b r row in
-    (N .0, N .1, said (operandsIn (rowOf b)) xs, rawsLines (suc n) q, ap (λ (v : Text). indented n (v ∷ said (operandsIn (rowOf b)) xs) ∷ rawsLines (suc n) q) (N .2))
+    let N : (x : ℕ) × (w : Text) × (nameOf b ≡ x ∷ w) = name-filled b r row in (
+      N .0,
+      N .1,
+      said (operandsIn (rowOf b)) xs,
+      rawsLines (suc n) q,
+      ap (λ (v : Text). indented n (v ∷ said (operandsIn (rowOf b)) xs) ∷ rawsLines (suc n) q) (N .2),
+    )
 
 -- what follows a state follows the state that it is
 on-from : (S : Scope) (d : ℕ) (rs : Raws) → Goods S d rs → (q p : Sofar) → Closes q p → (n : ℕ) → n ≤ length (p .open-blocks) → (p′ : Sofar)
@@ -140,7 +159,9 @@ on-from : (S : Scope) (d : ℕ) (rs : Raws) → Goods S d rs → (q p : Sofar) �
 on-from S d end g q p c n h p′ e r = (q, refl, subst (λ (x : Sofar). Closes q x) (sym (e refl)) c)
 on-from S d (t then rs) (good-then g gs) q p c n h p′ e r =
     let s : (x : ℕ) × (w : Text) × (ws : List Text) × (ls : List Line) × (rawLines n t ≡ indented n ((x ∷ w) ∷ ws) ∷ ls) = starts-at n S d t g in
-    let z = ap (λ (l : List Line). run (sofar q) (l ++ rawsLines n rs)) (s .4) ∙ closes-run q p c n h (s .0) (s .1) (s .2) (s .3 ++ rawsLines n rs) ∙ ap (λ (l : List Line). run (sofar p) (l ++ rawsLines n rs)) (sym (s .4)) in
+    let z =
+    ap (λ (l : List Line). run (sofar q) (l ++ rawsLines n rs)) (s .4) ∙ closes-run q p c n h (s .0) (s .1) (s .2) (s .3 ++ rawsLines n rs)
+    ∙ ap (λ (l : List Line). run (sofar p) (l ++ rawsLines n rs)) (sym (s .4)) in
     (r .0, z ∙ r .1, r .2)
 
 pub size-xs : (S : Scope) (r : Row) (xs : List ℕ) → Operands S (r .operands) xs → size r ≡ suc (length xs)
@@ -150,14 +171,20 @@ one-step : (p q : Sofar) (l : Line) → takesOne (lines (sofar p)) l ≡ some q 
 one-step p q l h = run-next (sofar p) l [] q h
 
 mutual
-  run-raw : (S : Scope) (a : Option (List Function)) (d : ℕ) (r : Raw) → Good S d r → (b : Opened) (bs : List Opened) (bytes : List ℕ) → length bs + d ≡ 7
-      → least (state S a (b ∷ bs) bytes) + length (rawBytes r) ≤ 4096 → Ran (state S a (b ∷ bs) bytes) (rawLines (suc (length bs)) r) (state S a (b ∷ bs) (bytes ++ rawBytes r))
+  run-raw : (S : Scope) (a : Option (List Function)) (d : ℕ) (r : Raw) → Good S d r → (b : Opened) (bs : List Opened) (bytes : List ℕ)
+      → length bs + d ≡ 7
+      → least (state S a (b ∷ bs) bytes) + length (rawBytes r) ≤ 4096
+      → Ran (state S a (b ∷ bs) bytes) (rawLines (suc (length bs)) r) (state S a (b ∷ bs) (bytes ++ rawBytes r))
   run-raw S a d (plain c xs) (good-plain r f row e h) b bs bytes n l =
       let p : Sofar = state S a (b ∷ bs) bytes in
       let z : size r ≡ suc (length xs) = size-xs S r xs h in
       let t = ap (λ (w : Line). takes (indent (suc (length bs)) (statementLine p)) (indented (suc (length bs)) w)) (sym (append-nil (rawLine c xs)))
-      ∙ line-taken p c r (simple f) row e (omega arith) (λ g. refl) xs h (suc (length bs)) [] in
-      (added p (c ∷ xs), one-step p (added p (c ∷ xs)) (indented (suc (length bs)) (rawLine c xs)) (first-line S a b bs bytes (indented (suc (length bs)) (rawLine c xs)) (added p (c ∷ xs)) t), same)
+      ∙ line-taken p c r (simple f) row e (omega arith) (λ g. refl) xs h (suc (length bs)) [] in (
+        added p (c ∷ xs),
+        one-step p (added p (c ∷ xs)) (indented (suc (length bs)) (rawLine c xs))
+            (first-line S a b bs bytes (indented (suc (length bs)) (rawLine c xs)) (added p (c ∷ xs)) t),
+        same,
+      )
   run-raw S a d (called c xs ls ms) (good-called r row e h i j) b bs bytes n l =
       let p : Sofar = state S a (b ∷ bs) bytes in
       let z : size r ≡ suc (length xs) = size-xs S r xs h in
@@ -175,8 +202,12 @@ mutual
       ∙ ap (λ (g : Grammar Sofar). takes g w) (roomy p (suc (length xs) + getD xs 1 0 + getD xs 2 0) (list S at Location (getD xs 1 0) g₁) (omega arith))
       ∙ takes-list S at Location refl (λ x. refl) (getD xs 1 0) g₁ ls i (listed with ms)
       ∙ ap (takes (g₁ ls)) (sym (append-nil (listed with ms)))
-      ∙ takes-list S with Slot refl (λ x. refl) (getD xs 2 0) (g₂ ls) ms j [] in
-      (p′, one-step p p′ (indented (suc (length bs)) (rawLine c xs ++ w)) (first-line S a b bs bytes (indented (suc (length bs)) (rawLine c xs ++ w)) p′ t), same)
+      ∙ takes-list S with Slot refl (λ x. refl) (getD xs 2 0) (g₂ ls) ms j [] in (
+        p′,
+        one-step p p′ (indented (suc (length bs)) (rawLine c xs ++ w))
+            (first-line S a b bs bytes (indented (suc (length bs)) (rawLine c xs ++ w)) p′ t),
+        same,
+      )
   run-raw S a (suc d) (fork c xs q t) (good-fork r row e h i j) b bs bytes n l =
       let p : Sofar = state S a (b ∷ bs) bytes in
       let z : size r ≡ suc (length xs) = size-xs S r xs h in
@@ -192,17 +223,25 @@ mutual
       let line = ap (λ (w : Line). takes (indent (suc (length bs)) (statementLine p)) (indented (suc (length bs)) w)) (sym (append-nil (rawLine c xs)))
       ∙ line-taken p c r branches row e (omega arith) (λ g. not-deepest p 4 g (omega arith)) xs h (suc (length bs)) [] in
       let R = run-raws S a d q i B₁ (b ∷ bs) [] (omega arith) (omega arith) in
-      let els = closes-takes (R .0) (state S a (B₁ ∷ (b ∷ bs)) (rawsBytes q)) (R .2) (suc (length bs)) (omega arith) 0x65 (0x6C ∷ 0x73 ∷ 0x65 ∷ []) []
+      let els =
+      closes-takes (R .0) (state S a (B₁ ∷ (b ∷ bs)) (rawsBytes q)) (R .2) (suc (length bs)) (omega arith) 0x65 (0x6C ∷ 0x73 ∷ 0x65 ∷ []) []
       ∙ later-line S a B₁ (b ∷ bs) (rawsBytes q) (suc (length bs)) (omega arith) 0x65 (0x6C ∷ 0x73 ∷ 0x65 ∷ []) []
-      ∙ ap (λ (o : Option Sofar). elim o [ none ↦ none | some x ↦ some x ]) (takes-indent (suc (length bs)) (elseLine S a B₁ (b ∷ bs) (rawsBytes q)) (else ∷ [])) in
+      ∙ ap (λ (o : Option Sofar). elim o [ none ↦ none | some x ↦ some x ])
+      (takes-indent (suc (length bs)) (elseLine S a B₁ (b ∷ bs) (rawsBytes q)) (else ∷ [])) in
       let Q = run-raws S a d t j B₂ (b ∷ bs) [] (omega arith) (omega arith) in
-      let s = run-next (sofar p) (indented (suc (length bs)) (rawLine c xs)) (rawsLines (suc (suc (length bs))) q ++ (indented (suc (length bs)) (else ∷ []) ∷ rawsLines (suc (suc (length bs))) t)) p₁ (first-line S a b bs bytes (indented (suc (length bs)) (rawLine c xs)) p₁ line)
-      ∙ run-on (sofar p₁) (sofar (R .0)) (rawsLines (suc (suc (length bs))) q) (indented (suc (length bs)) (else ∷ []) ∷ rawsLines (suc (suc (length bs))) t) (R .1)
+      let s =
+      run-next (sofar p) (indented (suc (length bs)) (rawLine c xs))
+      (rawsLines (suc (suc (length bs))) q ++ (indented (suc (length bs)) (else ∷ []) ∷ rawsLines (suc (suc (length bs))) t)) p₁
+      (first-line S a b bs bytes (indented (suc (length bs)) (rawLine c xs)) p₁ line)
+      ∙ run-on (sofar p₁) (sofar (R .0)) (rawsLines (suc (suc (length bs))) q)
+      (indented (suc (length bs)) (else ∷ []) ∷ rawsLines (suc (suc (length bs))) t) (R .1)
       ∙ run-next (sofar (R .0)) (indented (suc (length bs)) (else ∷ [])) (rawsLines (suc (suc (length bs))) t) p₂ els ∙ Q .1 in (
         Q .0,
         s,
         closed S a B₂ (b ∷ bs) tb (Q .2) refl
-            (ap (state S a (b ∷ bs)) (sym (append-assoc bytes (c ∷ xs) (sized (rawsBytes q) ++ sized tb)) ∙ sym (append-assoc (bytes ++ (c ∷ xs)) (sized (rawsBytes q)) (sized tb)))),
+            (ap (state S a (b ∷ bs))
+            (sym (append-assoc bytes (c ∷ xs) (sized (rawsBytes q) ++ sized tb))
+            ∙ sym (append-assoc (bytes ++ (c ∷ xs)) (sized (rawsBytes q)) (sized tb)))),
       )
   run-raw S a (suc d) (loop c xs q) (good-loop r row e h i) b bs bytes n l =
       let p : Sofar = state S a (b ∷ bs) bytes in
@@ -214,19 +253,27 @@ mutual
       let t = ap (λ (w : Line). takes (indent (suc (length bs)) (statementLine p)) (indented (suc (length bs)) w)) (sym (append-nil (rawLine c xs)))
       ∙ line-taken p c r loops row e (omega arith) (λ g. not-deepest p 2 g (omega arith)) xs h (suc (length bs)) [] in
       let R = run-raws S a d q i B (b ∷ bs) [] (omega arith) (omega arith) in
-      let s = run-next (sofar p) (indented (suc (length bs)) (rawLine c xs)) (rawsLines (suc (suc (length bs))) q) p₁ (first-line S a b bs bytes (indented (suc (length bs)) (rawLine c xs)) p₁ t) ∙ R .1 in
+      let s =
+      run-next (sofar p) (indented (suc (length bs)) (rawLine c xs)) (rawsLines (suc (suc (length bs))) q) p₁
+      (first-line S a b bs bytes (indented (suc (length bs)) (rawLine c xs)) p₁ t) ∙ R .1 in
       (R .0, s, closed S a B (b ∷ bs) (rawsBytes q) (R .2) refl (ap (state S a (b ∷ bs)) (sym (append-assoc bytes (c ∷ xs) (sized (rawsBytes q))))))
 
-  run-raws : (S : Scope) (a : Option (List Function)) (d : ℕ) (rs : Raws) → Goods S d rs → (b : Opened) (bs : List Opened) (bytes : List ℕ) → length bs + d ≡ 7
-      → least (state S a (b ∷ bs) bytes) + length (rawsBytes rs) ≤ 4096 → Ran (state S a (b ∷ bs) bytes) (rawsLines (suc (length bs)) rs) (state S a (b ∷ bs) (bytes ++ rawsBytes rs))
-  run-raws S a d end g b bs bytes n l = (state S a (b ∷ bs) bytes, refl, subst (λ (z : List ℕ). Closes (state S a (b ∷ bs) bytes) (state S a (b ∷ bs) z)) (sym (append-nil bytes)) same)
+  run-raws : (S : Scope) (a : Option (List Function)) (d : ℕ) (rs : Raws) → Goods S d rs → (b : Opened) (bs : List Opened) (bytes : List ℕ)
+      → length bs + d ≡ 7
+      → least (state S a (b ∷ bs) bytes) + length (rawsBytes rs) ≤ 4096
+      → Ran (state S a (b ∷ bs) bytes) (rawsLines (suc (length bs)) rs) (state S a (b ∷ bs) (bytes ++ rawsBytes rs))
+  run-raws S a d end g b bs bytes n l =
+      (state S a (b ∷ bs) bytes, refl, subst (λ (z : List ℕ). Closes (state S a (b ∷ bs) bytes) (state S a (b ∷ bs) z)) (sym (append-nil bytes)) same)
   run-raws S a d (r then rs) (good-then g gs) b bs bytes n l =
       let la : length (rawBytes r ++ rawsBytes rs) ≡ length (rawBytes r) + length (rawsBytes rs) = length-append (rawBytes r) (rawsBytes rs) in
       let lb : length (bytes ++ rawBytes r) ≡ length bytes + length (rawBytes r) = length-append bytes (rawBytes r) in
       let R = run-raw S a d r g b bs bytes n (omega arith) in
       let Q = run-raws S a d rs gs b bs (bytes ++ rawBytes r) n (omega arith) in
-      let P = on-from S d rs gs (R .0) (state S a (b ∷ bs) (bytes ++ rawBytes r)) (R .2) (suc (length bs)) (omega arith) (state S a (b ∷ bs) ((bytes ++ rawBytes r) ++ rawsBytes rs))
-      (λ e. ap (λ (z : Raws). state S a (b ∷ bs) ((bytes ++ rawBytes r) ++ rawsBytes z)) e ∙ ap (state S a (b ∷ bs)) (append-nil (bytes ++ rawBytes r))) Q in (
+      let P =
+      on-from S d rs gs (R .0) (state S a (b ∷ bs) (bytes ++ rawBytes r)) (R .2) (suc (length bs)) (omega arith)
+      (state S a (b ∷ bs) ((bytes ++ rawBytes r) ++ rawsBytes rs))
+      (λ e. ap (λ (z : Raws). state S a (b ∷ bs) ((bytes ++ rawBytes r) ++ rawsBytes z)) e
+      ∙ ap (state S a (b ∷ bs)) (append-nil (bytes ++ rawBytes r))) Q in (
         P .0,
         run-on (sofar (state S a (b ∷ bs) bytes)) (sofar (R .0)) (rawLines (suc (length bs)) r) (rawsLines (suc (length bs)) rs) (R .1) ∙ P .1,
         subst (λ (z : List ℕ). Closes (P .0) (state S a (b ∷ bs) z)) (append-assoc bytes (rawBytes r) (rawsBytes rs)) (P .2),
@@ -240,7 +287,8 @@ least-8 k m h l = go (leb k 8)
     go true = omega arith
     go false = omega arith
 
-takes-number : {A : Type 0} (n : ℕ) (g : ℕ → Grammar A) (x : ℕ) → x < n → (ws : List Text) → takes (ask none (upTo 0 n decimal) g) (decimal x ∷ ws) ≡ takes (g x) ws
+takes-number : {A : Type 0} (n : ℕ) (g : ℕ → Grammar A) (x : ℕ) → x < n → (ws : List Text)
+    → takes (ask none (upTo 0 n decimal) g) (decimal x ∷ ws) ≡ takes (g x) ws
 takes-number n g x h ws = takes-next none (upTo 0 n decimal) g (decimal x) ws x (place-numbered n decimal (apart-decimal n) x h)
 
 function-taken : (fs : List Function) (F : List ℕ) (k m : ℕ) → k ≤ 16 → m ≤ 8 → m ≤ k
@@ -253,10 +301,12 @@ function-taken fs F k m hk hm l =
     ∙ takes-number 17 (λ k. word arguments (g₃ k)) k (omega arith) (arguments ∷ decimal m ∷ [])
     ∙ takes-number (M k) (λ m. stop (some (functionBegun fs F k m))) m (least-8 k m hm l) []
 
-top-function : (S : Scope) (fs : List Function) (F : List ℕ) (l : Line) (p : Sofar) → 12 + length F ≤ 4096 → length fs < 15 → takes (functionLine fs F) l ≡ some p
+top-function : (S : Scope) (fs : List Function) (F : List ℕ) (l : Line) (p : Sofar) → 12 + length F ≤ 4096 → length fs < 15
+    → takes (functionLine fs F) l ≡ some p
     → takesOne (lines (sofar (state S (some fs) [] F))) l ≡ some p
 top-function S fs F l p h k t =
-    ap {B = Option Sofar} (λ (b : Bool). takesOne (topWith fs F b (ltb (length fs) 15)) l) (T→eq (leb (12 + length F) 4096) (le→leb (12 + length F) 4096 h))
+    ap {B = Option Sofar} (λ (b : Bool). takesOne (topWith fs F b (ltb (length fs) 15)) l)
+    (T→eq (leb (12 + length F) 4096) (le→leb (12 + length F) 4096 h))
     ∙ ap {B = Option Sofar} (λ (b : Bool). takesOne (topWith fs F true b) l) (T→eq (ltb (length fs) 15) (lt→ltb (length fs) 15 k))
     ∙ ap (λ (o : Option Sofar). elim o [ none ↦ takesOne (mainLine fs F ∷ []) l | some a ↦ some a ]) t
 
@@ -271,10 +321,16 @@ top-main S fs F = go (leb (12 + length F) 4096) (ltb (length fs) 15)
 abbrev RanFunctions : Sofar → List Line → List Function → List ℕ → Type 0
 RanFunctions p ls fs F = (S : Scope) × (q : Sofar) × (run (sofar p) ls ≡ some (sofar q)) × Closes q (state S (some fs) [] F)
 
-run-functions : (gs : List RawFunction) (fs : List Function) → GoodFunctions fs gs → (S : Scope) (F : List ℕ) (p : Sofar) → Closes p (state S (some fs) [] F) → length fs + length gs ≤ 15
+run-functions : (gs : List RawFunction) (fs : List Function) → GoodFunctions fs gs → (S : Scope) (F : List ℕ) (p : Sofar)
+    → Closes p (state S (some fs) [] F) → length fs + length gs ≤ 15
     → 8 + length F + length (functionsBytes gs) ≤ 4096 → RanFunctions p (rawFunctions (length fs) gs) (fs ++ heads gs) (F ++ functionsBytes gs)
-run-functions [] fs g S F p c n l =
-    (S, p, refl, subst (λ (z : List ℕ). Closes p (state S (some (fs ++ [])) [] z)) (sym (append-nil F)) (subst (λ (z : List Function). Closes p (state S (some z) [] F)) (sym (append-nil fs)) c))
+run-functions [] fs g S F p c n l = (
+  S,
+  p,
+  refl,
+  subst (λ (z : List ℕ). Closes p (state S (some (fs ++ [])) [] z)) (sym (append-nil F))
+      (subst (λ (z : List Function). Closes p (state S (some z) [] F)) (sym (append-nil fs)) c),
+)
 run-functions (f ∷ gs) fs (a-function hk hm hl body rest) S F p c n l =
     let k : ℕ = f .k in
     let m : ℕ = f .m in
@@ -288,7 +344,9 @@ run-functions (f ∷ gs) fs (a-function hk hm hl body rest) S F p c n l =
     let l₂ = length-sized (F ++ (f .k ∷ f .m ∷ [])) bb in
     let l₃ = sized-length bb (functionsBytes gs) in
     let line : Line = headLine (length fs) k m in
-    let s₁ = closes-takes p (state S (some fs) [] F) c 0 (omega arith) 0x66 (0x75 ∷ 0x6E ∷ 0x63 ∷ 0x74 ∷ 0x69 ∷ 0x6F ∷ 0x6E ∷ []) (decimal (length fs) ∷ locations ∷ decimal k ∷ arguments ∷ decimal m ∷ [])
+    let s₁ =
+    closes-takes p (state S (some fs) [] F) c 0 (omega arith) 0x66 (0x75 ∷ 0x6E ∷ 0x63 ∷ 0x74 ∷ 0x69 ∷ 0x6F ∷ 0x6E ∷ [])
+    (decimal (length fs) ∷ locations ∷ decimal k ∷ arguments ∷ decimal m ∷ [])
     ∙ top-function S fs F line (functionBegun fs F k m) (omega arith) (omega arith) (function-taken fs F k m hk hm hl) in
     let R = run-raws T (some fs′) 7 (f .body) body B [] [] (omega arith) (omega arith) in
     let C : Closes (R .0) (state T (some fs′) [] F′) = closed T (some fs′) B [] bb (R .2) refl refl in
@@ -301,7 +359,8 @@ run-functions (f ∷ gs) fs (a-function hk hm hl body rest) S F p c n l =
           ∙ ap (λ (j : ℕ). run (sofar (R .0)) (rawFunctions j gs)) (sym i) ∙ Q .2,
       subst (λ (z : List ℕ). Closes (Q .1) (state (Q .0) (some (fs ++ (headOf k m ∷ heads gs))) [] z))
           (append-assoc (F ++ (f .k ∷ f .m ∷ [])) (sized bb) (functionsBytes gs) ∙ append-assoc F (f .k ∷ f .m ∷ []) (sized bb ++ functionsBytes gs))
-          (subst (λ (z : List Function). Closes (Q .1) (state (Q .0) (some z) [] (F′ ++ functionsBytes gs))) (append-assoc fs (headOf k m ∷ []) (heads gs)) (Q .3)),
+          (subst (λ (z : List Function). Closes (Q .1) (state (Q .0) (some z) [] (F′ ++ functionsBytes gs))) (append-assoc fs (headOf k m ∷ []) (heads gs))
+          (Q .3)),
     )
 
 pub length-heads : (gs : List RawFunction) → length (heads gs) ≡ length gs

@@ -82,11 +82,15 @@ module _ (S : Scope) (sm : Small S) where
         let ly = length-sized (sized (rawsBytes q)) (rawsBytes t) in (
           row-byte b r row,
           bytes-append xs (sized (rawsBytes q) ++ sized (rawsBytes t)) (operands-bytes S sm (r .operands) xs o)
-              (bytes-append (sized (rawsBytes q)) (sized (rawsBytes t)) (bytes-sized (rawsBytes q) (omega arith) (raws-bytes d q gq (omega arith))) (bytes-sized (rawsBytes t) (omega arith) (raws-bytes d t gt (omega arith)))),
+              (bytes-append (sized (rawsBytes q)) (sized (rawsBytes t)) (bytes-sized (rawsBytes q) (omega arith) (raws-bytes d q gq (omega arith)))
+              (bytes-sized (rawsBytes t) (omega arith) (raws-bytes d t gt (omega arith)))),
         )
     raw-bytes (suc d) (loop b xs q) (good-loop r row m o gq) l =
-        let lx : length (xs ++ sized (rawsBytes q)) ≡ length xs + suc (suc (length (rawsBytes q))) = length-sized xs (rawsBytes q) in
-        (row-byte b r row, bytes-append xs (sized (rawsBytes q)) (operands-bytes S sm (r .operands) xs o) (bytes-sized (rawsBytes q) (omega arith) (raws-bytes d q gq (omega arith))))
+        let lx : length (xs ++ sized (rawsBytes q)) ≡ length xs + suc (suc (length (rawsBytes q))) = length-sized xs (rawsBytes q) in (
+          row-byte b r row,
+          bytes-append xs (sized (rawsBytes q)) (operands-bytes S sm (r .operands) xs o)
+              (bytes-sized (rawsBytes q) (omega arith) (raws-bytes d q gq (omega arith))),
+        )
 
     pub raws-bytes : (d : ℕ) (rs : Raws) → Goods S d rs → length (rawsBytes rs) < 65536 → Bytes (rawsBytes rs)
     raws-bytes d end g l = tt
@@ -94,7 +98,8 @@ module _ (S : Scope) (sm : Small S) where
         let lx : length (rawBytes r ++ rawsBytes rs) ≡ length (rawBytes r) + length (rawsBytes rs) = length-append (rawBytes r) (rawsBytes rs) in
         bytes-append (rawBytes r) (rawsBytes rs) (raw-bytes d r g (omega arith)) (raws-bytes d rs gs (omega arith))
 
-pub functions-bytes : (gs : List RawFunction) (hs : List Function) → GoodFunctions hs gs → SmallHeads hs → length hs + length gs ≤ 256 → length (functionsBytes gs) < 65536 → Bytes (functionsBytes gs) × SmallHeads (hs ++ heads gs)
+pub functions-bytes : (gs : List RawFunction) (hs : List Function) → GoodFunctions hs gs → SmallHeads hs → length hs + length gs ≤ 256
+    → length (functionsBytes gs) < 65536 → Bytes (functionsBytes gs) × SmallHeads (hs ++ heads gs)
 functions-bytes [] hs g s n l = (tt, subst (λ (z : List Function). SmallHeads z) (sym (append-nil hs)) s)
 functions-bytes (f ∷ gs) hs (a-function hk hm hl body rest) s n l =
     let lx = sized-length (rawsBytes (f .body)) (functionsBytes gs) in

@@ -32,8 +32,11 @@ module _ (c : ℕ) where
     where
       go : (b : Bool) → eqb x c ≡ b → (q : List Text) → (p : Text) × (ps : List Text) × (q ≡ p ∷ ps) → join c q ≡ t
           → join c (elim b [ true ↦ [] ∷ q | false ↦ onto x q ]) ≡ x ∷ t
-      go true e q h i = ap (behind c) (h .2) ∙ ap (λ (y : ℕ). y ∷ join c (h .0 ∷ h .1)) (sym (eqb→eq x c (eq→T (eqb x c) e))) ∙ ap (λ (r : List Text). x ∷ join c r) (sym (h .2)) ∙ ap (λ (r : Text). x ∷ r) i
-      go false e q h i = ap (λ (r : List Text). join c (onto x r)) (h .2) ∙ ap (λ (r : List Text). x ∷ join c r) (sym (h .2)) ∙ ap (λ (r : Text). x ∷ r) i
+      go true e q h i =
+          ap (behind c) (h .2) ∙ ap (λ (y : ℕ). y ∷ join c (h .0 ∷ h .1)) (sym (eqb→eq x c (eq→T (eqb x c) e)))
+          ∙ ap (λ (r : List Text). x ∷ join c r) (sym (h .2)) ∙ ap (λ (r : Text). x ∷ r) i
+      go false e q h i =
+          ap (λ (r : List Text). join c (onto x r)) (h .2) ∙ ap (λ (r : List Text). x ∷ join c r) (sym (h .2)) ∙ ap (λ (r : Text). x ∷ r) i
 
   -- the parts of a split have no separator
   pub split-free : (t : Text) → AllFree c (split c t)

@@ -22,7 +22,8 @@ use Rattle.trips.proofs.Raw.{said, rawLine, Operands, took-operands}
 
 -- What a line that was taken is.
 module _ {A : Type 0} where
-  pub took-word : (w : Text) (g : Grammar A) (ws : List Text) (a : A) → takes (word w g) ws ≡ some a → (vs : List Text) × (ws ≡ w ∷ vs) × (takes g vs ≡ some a)
+  pub took-word : (w : Text) (g : Grammar A) (ws : List Text) (a : A) → takes (word w g) ws ≡ some a
+      → (vs : List Text) × (ws ≡ w ∷ vs) × (takes g vs ≡ some a)
   took-word w g [] a h = none-not-some h
   took-word w g (v ∷ ws) a h =
       let r : (i : ℕ) × (place v (w ∷ []) ≡ some i) × (takes g ws ≡ some a) = took none (w ∷ []) (λ i. g) v ws a h in
@@ -31,7 +32,8 @@ module _ {A : Type 0} where
       let e : w ≡ v = ap (λ (i : ℕ). getD (w ∷ []) i []) z ∙ f .0 in
       (ws, ap (λ (u : Text). u ∷ ws) (sym e), r .2)
 
-  pub took-indent : (n : ℕ) (g : Grammar A) (l : Line) (a : A) → takes (indent n g) l ≡ some a → (k : Line) × (l ≡ indented n k) × (takes g k ≡ some a)
+  pub took-indent : (n : ℕ) (g : Grammar A) (l : Line) (a : A) → takes (indent n g) l ≡ some a
+      → (k : Line) × (l ≡ indented n k) × (takes g k ≡ some a)
   took-indent zero g l a h = (l, refl, h)
   took-indent (suc n) g l a h =
       let r : (vs : List Text) × (l ≡ [] ∷ vs) × (takes (word [] (indent n g)) vs ≡ some a) = took-word [] (word [] (indent n g)) l a h in
@@ -56,24 +58,31 @@ module _ {A : Type 0} where
   took-dead [] a h = none-not-some h
   took-dead (w ∷ ws) a h = none-not-some h
 
-  pub took-room : (p : Sofar) (n : ℕ) (g : Grammar A) (ws : List Text) (a : A) → takes (room p n g) ws ≡ some a → (least p + n ≤ 4096) × (takes g ws ≡ some a)
+  pub took-room : (p : Sofar) (n : ℕ) (g : Grammar A) (ws : List Text) (a : A) → takes (room p n g) ws ≡ some a
+      → (least p + n ≤ 4096) × (takes g ws ≡ some a)
   took-room p n g ws a h = go (leb (least p + n) 4096) refl h
     where
-      go : (b : Bool) → leb (least p + n) 4096 ≡ b → takes {A = A} (elim b [ true ↦ g | false ↦ dead ]) ws ≡ some a → (least p + n ≤ 4096) × (takes g ws ≡ some a)
+      go : (b : Bool) → leb (least p + n) 4096 ≡ b → takes {A = A} (elim b [ true ↦ g | false ↦ dead ]) ws ≡ some a
+          → (least p + n ≤ 4096) × (takes g ws ≡ some a)
       go true e k = (leb→le (least p + n) 4096 (eq→T (leb (least p + n) 4096) e), k)
       go false e k = took-dead ws a k
 
-  pub took-deeper : (p : Sofar) (n : ℕ) (g : Grammar A) (ws : List Text) (a : A) → takes (deeper p (suc n) g) ws ≡ some a → (length (p .open-blocks) < 8) × (takes g ws ≡ some a)
+  pub took-deeper : (p : Sofar) (n : ℕ) (g : Grammar A) (ws : List Text) (a : A) → takes (deeper p (suc n) g) ws ≡ some a
+      → (length (p .open-blocks) < 8) × (takes g ws ≡ some a)
   took-deeper p n g ws a h = go (ltb (length (p .open-blocks)) 8) refl h
     where
-      go : (b : Bool) → ltb (length (p .open-blocks)) 8 ≡ b → takes {A = A} (elim b [ true ↦ g | false ↦ dead ]) ws ≡ some a → (length (p .open-blocks) < 8) × (takes g ws ≡ some a)
+      go : (b : Bool) → ltb (length (p .open-blocks)) 8 ≡ b → takes {A = A} (elim b [ true ↦ g | false ↦ dead ]) ws ≡ some a
+          → (length (p .open-blocks) < 8) × (takes g ws ≡ some a)
       go true e k = (ltb→lt (length (p .open-blocks)) 8 (eq→T (ltb (length (p .open-blocks)) 8) e), k)
       go false e k = took-dead ws a k
 
 -- A statement's line: its row, its operands, and what the meaning makes of it.
 abbrev pub Stated : Sofar → List Text → Sofar → Type 0
-Stated p ws q = (b : ℕ) × (r : Row) × (xs : List ℕ) × (vs : List Text) × (rowOf b ≡ some r) × (ws ≡ rawLine b xs ++ vs) × Operands (p .scope) (r .operands) xs
-    × (least p + (size r + blocksOf (r .meaning)) ≤ 4096) × (takes (deeper p (blocksOf (r .meaning)) (operands (p .scope) (r .operands) λ xs. made p (r .meaning) (b ∷ xs))) (said (r .operands) xs ++ vs) ≡ some q)
+Stated p ws q =
+    (b : ℕ) × (r : Row) × (xs : List ℕ) × (vs : List Text) × (rowOf b ≡ some r) × (ws ≡ rawLine b xs ++ vs) × Operands (p .scope) (r .operands) xs
+    × (least p + (size r + blocksOf (r .meaning)) ≤ 4096)
+    × (takes (deeper p (blocksOf (r .meaning)) (operands (p .scope) (r .operands) λ xs. made p (r .meaning) (b ∷ xs))) (said (r .operands) xs ++ vs)
+    ≡ some q)
     × (takes (made p (r .meaning) (b ∷ xs)) vs ≡ some q)
 
 under-deeper : (p : Sofar) (n : ℕ) (g : Grammar Sofar) (ws : List Text) (a : Sofar) → takes (deeper p n g) ws ≡ some a → takes g ws ≡ some a
@@ -87,25 +96,30 @@ stated p (w ∷ ws) q h =
     let f : (getD names (r .0) [] ≡ w) × (r .0 < length names) = place-found w names (r .0) (r .1) in
     go (r .0) (f .0) (rowOf (suc (r .0))) refl (r .2)
   where
-    go : (i : ℕ) → getD names i [] ≡ w → (o : Option Row) → rowOf (suc i) ≡ o → takes (rowLine p (suc i) o) ws ≡ some q → Stated p (w ∷ ws) q
+    go : (i : ℕ) → getD names i [] ≡ w → (o : Option Row) → rowOf (suc i) ≡ o → takes (rowLine p (suc i) o) ws ≡ some q
+        → Stated p (w ∷ ws) q
     go i e none f k = took-dead ws q k
     go i e (some r) f k =
         let G : Grammar Sofar = operands (p .scope) (r .operands) λ xs. made p (r .meaning) (suc i ∷ xs) in
         let R = took-room p (size r + blocksOf (r .meaning)) (deeper p (blocksOf (r .meaning)) G) ws q k in
-        let O = took-operands (p .scope) (r .operands) (λ xs. made p (r .meaning) (suc i ∷ xs)) ws q (under-deeper p (blocksOf (r .meaning)) G ws q (R .1)) in (
+        let O =
+        took-operands (p .scope) (r .operands) (λ xs. made p (r .meaning) (suc i ∷ xs)) ws q (under-deeper p (blocksOf (r .meaning)) G ws q (R .1)) in (
           suc i,
           r,
           O .0,
           O .1,
           f,
-          ap (λ (v : Text). v ∷ ws) (sym e ∙ sym (name-at i)) ∙ ap (λ (l : List Text). nameOf (suc i) ∷ l) (O .2) ∙ ap (λ (o : Option Row). nameOf (suc i) ∷ (said (operandsIn o) (O .0) ++ O .1)) (sym f),
+          ap (λ (v : Text). v ∷ ws) (sym e ∙ sym (name-at i)) ∙ ap (λ (l : List Text). nameOf (suc i) ∷ l) (O .2)
+              ∙ ap (λ (o : Option Row). nameOf (suc i) ∷ (said (operandsIn o) (O .0) ++ O .1)) (sym f),
           O .3,
           R .0,
-          subst (λ (l : List Text). takes (deeper p (blocksOf (r .meaning)) (operands (p .scope) (r .operands) λ xs. made p (r .meaning) (suc i ∷ xs))) l ≡ some q) (O .2) (R .1),
+          subst (λ (l : List Text). takes (deeper p (blocksOf (r .meaning)) (operands (p .scope) (r .operands) λ xs. made p (r .meaning) (suc i ∷ xs))) l
+              ≡ some q) (O .2) (R .1),
           O .4,
         )
 
-pub took-one : (g : Grammar Sofar) (gs : List (Grammar Sofar)) (l : Line) (p : Sofar) → takesOne (g ∷ gs) l ≡ some p → (takes g l ≡ some p) ⊎ (takesOne gs l ≡ some p)
+pub took-one : (g : Grammar Sofar) (gs : List (Grammar Sofar)) (l : Line) (p : Sofar) → takesOne (g ∷ gs) l ≡ some p
+    → (takes g l ≡ some p) ⊎ (takesOne gs l ≡ some p)
 took-one g gs l p h = go (takes g l) h
   where
     go : (o : Option Sofar) → elim o [ none ↦ takesOne gs l | some a ↦ some a ] ≡ some p → (o ≡ some p) ⊎ (takesOne gs l ≡ some p)

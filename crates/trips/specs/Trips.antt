@@ -52,7 +52,8 @@ OneLine line after = ((u : Text) × Unbroken u × (line ≡ u ++ (newline ∷ []
 
 -- (d) where 27 stands: at the first line with which the text so far begins no listing; at the text's end if it begins one and is none
 pub data Stops (t : Text) : ℕ → Type 0 where
-  at-line : (before line after : Text) → t ≡ before ++ (line ++ after) → Whole before → OneLine line after → Begins before → (Begins (before ++ line) → ⊥) → Stops t (length before)
+  at-line : (before line after : Text) → t ≡ before ++ (line ++ after) → Whole before → OneLine line after → Begins before
+      → (Begins (before ++ line) → ⊥) → Stops t (length before)
   at-end : Begins t → ((s : List ℕ) → Bytes s → listing s ≡ ok t → ⊥) → Stops t (length t)
 
 abbrev pub Refuses : Type 0

@@ -99,8 +99,9 @@ ranges S f Location x h = T→eq (ltb x (S .places)) (lt→ltb x (S .places) h)
 ranges S f Gate x h = T→eq (ltb x 4) (lt→ltb x 4 h)
 ranges S f Basis x h = T→eq (ltb x 2) (lt→ltb x 2 h)
 ranges S f Value x h = T→eq (ltb x 2) (lt→ltb x 2 h)
-ranges S f Callee x h = let l : x < length (S .earlier) =
-    subst (λ (n : ℕ). x < n) (length-map (S .earlier) stub) h in T→eq (ltb x (length (S .earlier))) (lt→ltb x (length (S .earlier)) l)
+ranges S f Callee x h =
+    let l : x < length (S .earlier) = subst (λ (n : ℕ). x < n) (length-map (S .earlier) stub) h in
+    T→eq (ltb x (length (S .earlier))) (lt→ltb x (length (S .earlier)) l)
 ranges S f CalleeK x h =
     let e : syntax.function (S .earlier) f .k ≡ x = ap (λ (g : Function). g .k) (sym (stub-at (S .earlier) f)) ∙ h in
     ap (λ (y : ℕ). eqb x y) e ∙ T→eq (eqb x x) (eqb-refl x)

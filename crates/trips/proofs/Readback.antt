@@ -130,27 +130,23 @@ module _ (s : List ℕ) where
     some-bytes (fork b xs q t) = omega arith
     some-bytes (loop b xs q) = omega arith
 
+    -- the block at i of w bytes, from its statements
+    abbrev blockOf : ℕ → ℕ → Check (Statements sd) → Check (Read (Block sd))
+    blockOf i w m = m >>= λ b. ok (record { it = block i b; next = i + 2 + w })
+
     block-is : (d : ℕ) (rs : Raws) (i limit : ℕ) → At s i (sized (rawsBytes rs)) → i + 2 + length (rawsBytes rs) ≤ limit
         → ReadMany d (length (rawsBytes rs)) (i + 2) (i + 2 + length (rawsBytes rs)) rs → ReadBlock d i limit rs
     unfolding _>>=_ _>>_
     block-is d rs i limit a f r =
         let n : ℕ = length (rawsBytes rs) in
         let c : byte s (i + 1) ≡ length (rawsBytes rs) % 256 = ap (byte s) (add-suc i 0 ∙ ap suc (add-zero i)) ∙ a .2 .0 in
-        let w : word s i ≡ length (rawsBytes rs) = omega (arith, a .0, c) in
-        let B : ℕ → Check (Read (Block sd)) =
-        λ w. need (leb (i + 2) limit) 8 i
-        >> (need (leb (i + 2 + w) limit) 8 i
-        >> (statements s sd S (readBlock s sd S d) w (i + 2) (i + 2 + w) >>= λ b. ok (record { it = block i b; next = i + 2 + w }))) in (
+        let w : word s i ≡ n = omega (arith, a .0, c) in
+        let B : ℕ → Check (Statements sd) = λ w. statements s sd S (readBlock s sd S d) w (i + 2) (i + 2 + w) in (
           block i (r .0),
-          ap B w
-              ∙ ap (λ (b : Bool). need b 8 i
-              >> (need (leb (i + 2 + length (rawsBytes rs)) limit) 8 i
-              >> (statements s sd S (readBlock s sd S d) n (i + 2) (i + 2 + length (rawsBytes rs)) >>= λ b. ok
-              (record { it = block i b; next = i + 2 + length (rawsBytes rs) })))) (leb-yes (i + 2) limit (omega arith))
-              ∙ ap (λ (b : Bool). need b 8 i
-              >> (statements s sd S (readBlock s sd S d) n (i + 2) (i + 2 + length (rawsBytes rs)) >>= λ b. ok
-              (record { it = block i b; next = i + 2 + length (rawsBytes rs) }))) (leb-yes (i + 2 + length (rawsBytes rs)) limit f)
-              ∙ ap (λ (m : Check (Statements sd)). m >>= λ b. ok (record { it = block i b; next = i + 2 + length (rawsBytes rs) })) (r .1),
+          ap (λ (w : ℕ). need (leb (i + 2) limit) 8 i >> (need (leb (i + 2 + w) limit) 8 i >> blockOf i w (B w))) w
+              ∙ ap (λ (b : Bool). need b 8 i >> (need (leb (i + 2 + n) limit) 8 i >> blockOf i n (B n))) (leb-yes (i + 2) limit (omega arith))
+              ∙ ap (λ (b : Bool). need b 8 i >> blockOf i n (B n)) (leb-yes (i + 2 + n) limit f)
+              ∙ ap (blockOf i n) (r .1),
           r .2,
         )
 
@@ -195,48 +191,50 @@ module _ (s : List ℕ) where
           let z : size r ≡ suc (length xs) = size-xs (stubbed S) r xs o in
           let z₃ : length (r .operands) ≡ 3 = row-calls b r row m in
           let zx : length xs ≡ 3 = operands-length (stubbed S) (r .operands) xs o ∙ z₃ in
-          let p : ℕ = i + size r in
-          let lk = ranged-length (stubbed S) 0 (replicate (getD xs 1 0) Location) ls hl ∙ length-replicate (getD xs 1 0) Location in
-          let lm : length ms ≡ getD xs 2 0 = ranged-length (stubbed S) 0 (replicate (getD xs 2 0) Slot) ms hm ∙ length-replicate (getD xs 2 0) Slot in
+          let lk = ranged-length (stubbed S) 0 (replicate K Location) ls hl ∙ length-replicate K Location in
+          let lm : length ms ≡ M = ranged-length (stubbed S) 0 (replicate M Slot) ms hm ∙ length-replicate M Slot in
           let lx : length (xs ++ (ls ++ ms)) ≡ length xs + length (ls ++ ms) = length-append xs (ls ++ ms) in
           let ly : length (ls ++ ms) ≡ length ls + length ms = length-append ls ms in
           let ax : At s (suc i) xs = at-left s xs (ls ++ ms) (suc i) (a .2) in
           let i₂ : i + 2 ≡ suc i + 1 = omega arith in
           let i₃ : i + 3 ≡ suc i + 2 = omega arith in
-          let ek : byte s (i + 2) ≡ getD xs 1 0 = ap (byte s) i₂ ∙ at-byte s xs (suc i) 1 ax (omega arith) in
-          let em : byte s (i + 3) ≡ getD xs 2 0 = ap (byte s) i₃ ∙ at-byte s xs (suc i) 2 ax (omega arith) in
+          let ek : byte s (i + 2) ≡ K = ap (byte s) i₂ ∙ at-byte s xs (suc i) 1 ax (omega arith) in
+          let em : byte s (i + 3) ≡ M = ap (byte s) i₃ ∙ at-byte s xs (suc i) 2 ax (omega arith) in
           let ar : At s (i + size r) (ls ++ ms) = fixed-rest b r row xs o i (ls ++ ms) a in
           let i₄ : i + size r ≡ i + 4 = omega arith in
           let al : At s (i + size r) ls = at-left s ls ms (i + size r) ar in
-          let am = moved (i + size r + length ls) (i + size r + getD xs 1 0) ms (ap (λ (n : ℕ). i + size r + n) lk) (at-right s ls ms (i + size r) ar) in
-          let ops = operands-ok S (replicate (getD xs 1 0) Location ++ replicate (getD xs 2 0) Slot) (ls ++ ms) i 4 (byte s (i + 1)) refl
-          (ranged-append (stubbed S) (byte s (i + 1)) (replicate (getD xs 1 0) Location) (replicate (getD xs 2 0) Slot) ls ms
-          (ranged-f Location (λ f x h. h) (getD xs 1 0) ls (byte s (i + 1)) hl) (ranged-f Slot (λ f x h. h) (getD xs 2 0) ms (byte s (i + 1)) hm))
+          let am = moved (i + size r + length ls) (i + size r + K) ms (ap (λ (n : ℕ). i + size r + n) lk) (at-right s ls ms (i + size r) ar) in
+          let ops = operands-ok S (replicate K Location ++ replicate M Slot) (ls ++ ms) i 4 (byte s (i + 1)) refl
+          (ranged-append (stubbed S) (byte s (i + 1)) (replicate K Location) (replicate M Slot) ls ms
+          (ranged-f Location (λ f x h. h) K ls (byte s (i + 1)) hl) (ranged-f Slot (λ f x h. h) M ms (byte s (i + 1)) hm))
           (moved (i + size r) (i + 4) (ls ++ ms) i₄ ar) in
+          let T : ℕ → ℕ → Read (Statement sd) = λ K M. record { it = Called K M; next = i + size r + K + M } in
           let C : ℕ → ℕ → Check (Read (Statement sd)) =
-          λ K M. need (leb (i + size r + K + M) e) 8 i
-          >> (operands s S i 4 (replicate K Location ++ replicate M Slot) >> ok (record { it = Called K M; next = i + size r + K + M })) in
-          let fit : i + size r + getD xs 1 0 + getD xs 2 0 ≤ e = omega arith in
-          let nx : i + size r + getD xs 1 0 + getD xs 2 0 ≡ i + suc (length (xs ++ (ls ++ ms))) = omega arith in
-          let ul = map-places (i + size r) (getD xs 1 0) ∙ ap (λ (n : ℕ). upTo (i + size r) n (byte s)) (sym lk) ∙ upTo-at s ls (i + size r) al in
-          let um = ap (λ (n : ℕ). upTo (i + size r + getD xs 1 0) n (byte s)) (sym lm) ∙ upTo-at s ms (i + size r + getD xs 1 0) am in (
+          λ K M. need (leb (i + size r + K + M) e) 8 i >> (operands s S i 4 (replicate K Location ++ replicate M Slot) >> ok (T K M)) in
+          let P : List ℕ = map (λ (l : Place sd). l .no) (upTo (i + size r) K λ n. record { no = byte s n }) in
+          let N : List ℕ = upTo (i + size r + K) M (byte s) in
+          let fit : i + size r + K + M ≤ e = omega arith in
+          let nx : i + size r + K + M ≡ i + suc (length (xs ++ (ls ++ ms))) = omega arith in
+          let ul = map-places (i + size r) K ∙ ap (λ (n : ℕ). upTo (i + size r) n (byte s)) (sym lk) ∙ upTo-at s ls (i + size r) al in
+          let um = ap (λ (n : ℕ). upTo (i + size r + K) n (byte s)) (sym lm) ∙ upTo-at s ms (i + size r + K) am in (
             statement-is inner i e r (fixed-row b r row xs o i (ls ++ ms) a) (omega arith) (fixed-ops b r row xs o i (ls ++ ms) a)
                 ∙ ap (λ (m : Meaning). meant s sd S inner m i (i + size r) e) m
-                ∙ ap (λ (k : ℕ). C k (byte s (i + 3))) ek ∙ ap (λ (k : ℕ). C (getD xs 1 0) k) em
-                ∙ ap (λ (b : Bool). need b 8 i
-                >> (operands s S i 4 (replicate (getD xs 1 0) Location ++ replicate (getD xs 2 0) Slot) >> ok
-                (record { it = Called (getD xs 1 0) (getD xs 2 0); next = i + size r + getD xs 1 0 + getD xs 2 0 })))
-                (leb-yes (i + size r + getD xs 1 0 + getD xs 2 0) e fit)
-                ∙ ap (λ (q : Check (Unit {0})). q >> ok
-                (record { it = Called (getD xs 1 0) (getD xs 2 0); next = i + size r + getD xs 1 0 + getD xs 2 0 })) ops
-                ∙ ap (λ (p : ℕ). ok (record { it = Called (getD xs 1 0) (getD xs 2 0); next = p })) nx,
-            λ n. ap (λ (w : Line). indented n
-                (w ++ (listed at (map (λ (l : Place sd). l .no) (upTo (i + size r) (getD xs 1 0) λ n. record { no = byte s n })) ++ listed with
-                (upTo (i + size r + getD xs 1 0) (getD xs 2 0) (byte s)))) ∷ []) (fixed-line b r row xs o i (ls ++ ms) a)
-                ∙ ap (λ (w : List ℕ). indented n (rawLine b xs ++ (listed at w ++ listed with (upTo (i + size r + getD xs 1 0) (getD xs 2 0) (byte s))))
-                ∷ []) ul
+                ∙ ap (λ (k : ℕ). C k (byte s (i + 3))) ek ∙ ap (λ (k : ℕ). C K k) em
+                ∙ ap (λ (b : Bool). need b 8 i >> (operands s S i 4 (replicate K Location ++ replicate M Slot) >> ok (T K M)))
+                (leb-yes (i + size r + K + M) e fit)
+                ∙ ap (λ (q : Check (Unit {0})). q >> ok (T K M)) ops
+                ∙ ap (λ (p : ℕ). ok (record { it = Called K M; next = p })) nx,
+            λ n. ap (λ (w : Line). indented n (w ++ (listed at P ++ listed with N)) ∷ []) (fixed-line b r row xs o i (ls ++ ms) a)
+                ∙ ap (λ (w : List ℕ). indented n (rawLine b xs ++ (listed at w ++ listed with N)) ∷ []) ul
                 ∙ ap (λ (w : List ℕ). indented n (rawLine b xs ++ (listed at ls ++ listed with w)) ∷ []) um,
           )
+
+    -- the statements behind the first; the statements at i, of which there are some or none
+    abbrev further : ℕ → ℕ → ℕ → Read (Statement sd) → Check (Statements sd)
+    further d more e t = statements s sd S (readBlock s sd S d) more (t .next) e >>= λ rest. ok (t .it ⨾ rest)
+
+    abbrev someOrNone : ℕ → ℕ → ℕ → ℕ → Bool → Check (Statements sd)
+    someOrNone d more i e b = elim b [ false ↦ ok done | true ↦ statement s sd S (readBlock s sd S d) i e >>= further d more e ]
 
     mutual
       unfolding _>>=_ _>>_
@@ -306,12 +304,7 @@ module _ (s : List ℕ) where
       read-raws d end g zero i e l q a = (done, refl, λ n. refl)
       read-raws d end g (suc more) i e l q a = (
         done,
-        ap (λ (b : Bool). elim b as
-            (λ x. Check (Statements sd)) [
-              | false ↦ ok done
-              | true ↦ statement s sd S (readBlock s sd S d) i e >>= λ t. statements s sd S
-                  (readBlock s sd S d) more (t .next) e >>= λ rest. ok (t .it ⨾ rest)
-            ]) (ltb-no i e (omega arith)),
+        ap (someOrNone d more i e) (ltb-no i e (omega arith)),
         λ n. refl,
       )
       read-raws d (r then rs) g zero i e l q a = let b = some-bytes r in let c = length-append (rawBytes r) (rawsBytes rs) in absurd (omega arith)
@@ -321,14 +314,8 @@ module _ (s : List ℕ) where
           let R : ReadOne d i e r = read-raw d r g i e (at-left s (rawBytes r) (rawsBytes rs) i a) (omega arith) in
           let Q = read-raws d rs gs more (i + length (rawBytes r)) e (omega arith) (omega arith) (at-right s (rawBytes r) (rawsBytes rs) i a) in (
             R .0 ⨾ Q .0,
-            ap (λ (b : Bool). elim b as
-                (λ x. Check (Statements sd)) [
-                  | false ↦ ok done
-                  | true ↦ statement s sd S (readBlock s sd S d) i e >>= λ t. statements s sd S
-                      (readBlock s sd S d) more (t .next) e >>= λ rest. ok (t .it ⨾ rest)
-                ]) (ltb-yes i e (omega arith))
-                ∙ ap (λ (m : Check (Read (Statement sd))). m >>= λ t. statements s sd S (readBlock s sd S d) more (t .next) e >>= λ rest. ok
-                (t .it ⨾ rest)) (R .1)
+            ap (someOrNone d more i e) (ltb-yes i e (omega arith))
+                ∙ ap (λ (m : Check (Read (Statement sd))). m >>= further d more e) (R .1)
                 ∙ ap (λ (m : Check (Statements sd)). m >>= λ rest. ok (R .0 ⨾ rest)) (Q .1),
             λ n. ap (λ (w : List Line). w ++ statementsLines s n (Q .0)) (R .2 n) ∙ ap (λ (w : List Line). rawLines n r ++ w) (Q .2 n),
           )

@@ -6,7 +6,7 @@ use mathlib.Core.Option.{none, some}
 use mathlib.Core.Path.{_≡_, refl, sym, ap, subst, _∙_}
 use native.Mathlib.Omega.{arith}
 use Prim.Native.Nat.{ℕ, zero, suc, _+_, _<_, _≤_}
-use lib.Dec.{ltb, leb, leb→le, ltb→lt, nleb→lt}
+use lib.Dec.{ltb, leb, nleb→lt}
 use lib.ListN.{getD, length, length-append, length-replicate, replicate}
 use Rattle.rules.specs.declared.statements.Operand.the-variants.{Slot, Location}
 use Rattle.rules.specs.Basics.{upTo}
@@ -18,7 +18,7 @@ use Rattle.rules.specs.Listing.{headLine, Line, indented, listed}
 use Rattle.rules.specs.Grammar.{Grammar, stop, ask, word, takes, takesOne}
 use Rattle.rules.specs.Unlisting.{Sofar, State, sofar, sized, least, deeper, added, opened, operands, list, made, blocksOf, statementLine, indent}
 use Rattle.rules.specs.Unlisting.{functionLine, mainLine, topLines, lines, functionBegun, mainBegun}
-use Rattle.rules.proofs.Tests.{eq→T}
+use Rattle.rules.proofs.Tests.{eq→T, at-most, below}
 use Rattle.trips.proofs.Grammars.{none-not-some}
 use Rattle.trips.proofs.Reading.{run, ran}
 use Rattle.trips.proofs.Offered.{topWith}
@@ -149,7 +149,7 @@ at-most-8 : (k m : ℕ) → m < suc (elim (leb k 8) [ true ↦ k | false ↦ 8 ]
 at-most-8 k m h = go (leb k 8) refl h
   where
     go : (b : Bool) → leb k 8 ≡ b → m < suc (elim b [ true ↦ k | false ↦ 8 ]) → (m ≤ 8) × (m ≤ k)
-    go true e l = let z : k ≤ 8 = leb→le k 8 (eq→T (leb k 8) e) in (omega arith, omega arith)
+    go true e l = let z : k ≤ 8 = at-most k 8 e in (omega arith, omega arith)
     go false e l = let z : 8 < k = nleb→lt k 8 (eq→T (not (leb k 8)) (ap not e)) in (omega arith, omega arith)
 
 function-next : (fs : List RawFunction) → GoodFunctions [] fs → length fs < 15 → 12 + length (functionsBytes fs) ≤ 4096 → (l : Line) (p′ : Sofar)
@@ -224,8 +224,8 @@ top-next fs g n f l p′ h = go (leb (12 + length (functionsBytes fs)) 4096) ref
         → takesOne (topWith (heads fs) (functionsBytes fs) a b) l ≡ some p′
         → Next (firstLines fs ++ (l ∷ [])) p′
     go true a true b k =
-        let u : length (heads fs) < 15 = ltb→lt (length (heads fs)) 15 (eq→T (ltb (length (heads fs)) 15) b) in
-        let v = leb→le (12 + length (functionsBytes fs)) 4096 (eq→T (leb (12 + length (functionsBytes fs)) 4096) a) in
+        let u : length (heads fs) < 15 = below (length (heads fs)) 15 b in
+        let v = at-most (12 + length (functionsBytes fs)) 4096 a in
         either (omega (arith, length-heads fs)) v
         (took-one (functionLine (heads fs) (functionsBytes fs)) (mainLine (heads fs) (functionsBytes fs) ∷ []) l p′ k)
     go true a false b k = mains k

@@ -7,12 +7,12 @@ use mathlib.Core.Path.{_≡_, refl, sym, ap, subst, _∙_}
 use native.Mathlib.Nat.{le-of-suc-le-suc, not-suc-le-zero}
 use native.Mathlib.Omega.{arith}
 use Prim.Native.Nat.{ℕ, zero, suc, _<_}
-use lib.Dec.{eqb, eqb→eq, eqb-refl}
+use lib.Dec.{eqb}
 use lib.ListN.{getD, length}
 use Rattle.rules.specs.Basics.{sameList}
 use Rattle.rules.specs.Words.{Text, space, newline, split, behind, join, opens, place}
 use Rattle.rules.specs.Grammar.{Grammar, stop, ask, isSome, someBelow, takes, live, starts}
-use Rattle.rules.proofs.Tests.{T→eq, eq→T}
+use Rattle.rules.proofs.Tests.{eqb-same, eqb-true}
 use Rattle.trips.proofs.Texts.{Free, split-shape, split-seam, split-one}
 
 pub none-not-some : {A X : Type 0} {a : A} → none ≡ some a → X
@@ -29,13 +29,13 @@ same-word [] (y ∷ v) h = absurd (false≢true h)
 same-word (x ∷ w) [] h = absurd (false≢true h)
 same-word (x ∷ w) (y ∷ v) h =
     let b : (eqb x y ≡ true) × (sameList eqb w v ≡ true) = both (eqb x y) (sameList eqb w v) h in
-    let e : x ≡ y = eqb→eq x y (eq→T (eqb x y) (b .0)) in
+    let e : x ≡ y = eqb-true x y (b .0) in
     let f : w ≡ v = same-word w v (b .1) in
     cc
 
 pub word-same : (w : Text) → sameList eqb w w ≡ true
 word-same [] = refl
-word-same (x ∷ w) = ap (λ (b : Bool). b && sameList eqb w w) (T→eq (eqb x x) (eqb-refl x)) ∙ word-same w
+word-same (x ∷ w) = ap (λ (b : Bool). b && sameList eqb w w) (eqb-same x) ∙ word-same w
 
 pub place-found : (w : Text) (vs : List Text) (i : ℕ) → place w vs ≡ some i → (getD vs i [] ≡ w) × (i < length vs)
 place-found w [] i h = none-not-some h
@@ -78,13 +78,13 @@ opens-more [] t h = (t, refl)
 opens-more (x ∷ u) [] h = absurd (false≢true h)
 opens-more (x ∷ u) (y ∷ t) h =
     let b : (eqb x y ≡ true) × (opens u t ≡ true) = both (eqb x y) (opens u t) h in
-    let e : x ≡ y = eqb→eq x y (eq→T (eqb x y) (b .0)) in
+    let e : x ≡ y = eqb-true x y (b .0) in
     let r : (z : Text) × (t ≡ u ++ z) = opens-more u t (b .1) in
     (r .0, ap (λ (s : Text). y ∷ s) (r .1) ∙ ap (λ (a : ℕ). a ∷ (u ++ r .0)) (sym e))
 
 pub opens-all : (u z : Text) → opens u (u ++ z) ≡ true
 opens-all [] z = refl
-opens-all (x ∷ u) z = ap (λ (b : Bool). b && opens u (u ++ z)) (T→eq (eqb x x) (eqb-refl x)) ∙ opens-all u z
+opens-all (x ∷ u) z = ap (λ (b : Bool). b && opens u (u ++ z)) (eqb-same x) ∙ opens-all u z
 
 -- of two ways to part a text, one has the longer front
 abbrev pub Longer : Text → Text → Text → Text → Type 0

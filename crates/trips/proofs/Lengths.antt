@@ -5,7 +5,7 @@ use mathlib.Core.Option.{some}
 use mathlib.Core.Path.{_≡_, refl, sym, ap, subst, _∙_}
 use native.Mathlib.Omega.{arith}
 use Prim.Native.Nat.{ℕ, zero, suc, _+_, _*_, _≤_}
-use lib.Dec.{ltb, leb, leb→le}
+use lib.Dec.{ltb, leb}
 use lib.ListN.{getD, length, length-append}
 use Rattle.answers.specs.Check.{ok}
 use Rattle.rules.specs.declared.statements.Operand.{Operand}
@@ -16,9 +16,9 @@ use Rattle.rules.specs.Words.{Text, space, newline, behind, join, written, deci
 use Rattle.rules.specs.Names.{gates, program, function, locations, arguments, main, else, at, with}
 use Rattle.rules.specs.Table.{Row, rowOf, nameOf}
 use Rattle.rules.specs.Program.{Scope, readProgram}
-use Rattle.rules.specs.Listing.{headLine, spoken, silent, Line, indented, listed, operandsIn, programLines}
+use Rattle.rules.specs.Listing.{spoken, silent, Line, indented, listed, operandsIn, programLines}
 use Rattle.rules.specs.Unlisting.{sized}
-use Rattle.rules.proofs.Tests.{eq→T}
+use Rattle.rules.proofs.Tests.{at-most}
 use Rattle.trips.specs.Trips.{Short}
 use Rattle.trips.proofs.Rows.{row-some, name-short}
 use Rattle.trips.proofs.Reading.{listing-of}
@@ -69,7 +69,7 @@ short-gate [] h (suc i) = omega arith
 short-gate (w ∷ l) h zero = go (leb (length w) 3) refl h
   where
     go : (b : Bool) → leb (length w) 3 ≡ b → (b && all (λ w. leb (length w) 3) l) ≡ true → length w ≤ 3
-    go true e k = leb→le (length w) 3 (eq→T (leb (length w) 3) e)
+    go true e k = at-most (length w) 3 e
     go false e k = let z : _≡_ {A = ℕ} 0 1 = cc in absurd (omega arith)
 short-gate (w ∷ l) h (suc i) = go (leb (length w) 3) h (λ k. short-gate l k i)
   where

@@ -22,22 +22,15 @@ use Rattle.rules.specs.Grammar.{Grammar, stop, ask, dead, word, takes}
 use Rattle.rules.specs.Unlisting.{count, Opened, Sofar, fresh, sofar, sized, least, added, room, deeper, operand, others, operands, list, made, blocksOf}
 use Rattle.rules.specs.Unlisting.{rowLine, statementLine, indent, functionLine, mainLine, topLines, linesAfter, elseBegun, programBegun}
 use Rattle.rules.proofs.Basics.{length-upTo, getD-upTo-zero, all-upTo}
-use Rattle.rules.proofs.Tests.{T→eq, eq→T}
+use Rattle.rules.proofs.Tests.{eqb-other, T→eq}
 use Rattle.trips.proofs.Texts.{Free}
 use Rattle.trips.proofs.Grammars.{same-word, word-same, both, Clean, Proper}
 use Rattle.trips.proofs.Rows.{place-name}
 use Rattle.trips.proofs.Reading.{AllProper, ProperLines}
 
-eqb-no : (m n : ℕ) → (m ≡ n → ⊥) → eqb m n ≡ false
-eqb-no m n h = go (eqb m n) refl
-  where
-    go : (b : Bool) → eqb m n ≡ b → b ≡ false
-    go true e = absurd (h (eqb→eq m n (eq→T (eqb m n) e)))
-    go false e = refl
-
 -- a digit is neither a space nor a newline
 digit : (x c : ℕ) → c < 0x30 → eqb (0x30 + x) c ≡ false
-digit x c h = eqb-no (0x30 + x) c λ e. omega arith
+digit x c h = eqb-other (0x30 + x) c λ e. omega arith
 
 -- the digits of a number, by whether it is below 10 and below 100
 abbrev pub digits : ℕ → Bool → Bool → Text

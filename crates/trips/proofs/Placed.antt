@@ -5,7 +5,7 @@ use mathlib.Core.Path.{_≡_, refl, sym, ap, subst, _∙_}
 use native.Mathlib.Nat.{le-of-suc-le-suc, not-suc-le-zero, add-zero, zero-add, add-suc, suc-add}
 use native.Mathlib.Omega.{arith}
 use Prim.Native.Nat.{ℕ, zero, suc, _+_, _/_, _%_, _<_, _≤_}
-use lib.Dec.{eqb, ltb, eqb→eq, eqb-refl, ltb→lt, lt→ltb}
+use lib.Dec.{eqb}
 use lib.ListN.{getD, length, length-append, length-map, List·getD-map}
 use lib.Seq.{ext-getD, getD-append-seam}
 use Rattle.rules.specs.declared.statements.Operand.{Operand}
@@ -16,7 +16,7 @@ use Rattle.rules.specs.Syntax.{Function, block, done}
 use Rattle.rules.specs.Program.{Scope, inRange}
 use Rattle.rules.specs.Listing.{spoken, silent, Line, words}
 use Rattle.rules.specs.Unlisting.{sized}
-use Rattle.rules.proofs.Tests.{T→eq, eq→T}
+use Rattle.rules.proofs.Tests.{below, eqb-same, eqb-true, is-below}
 use Rattle.trips.proofs.Rows.{headSpoken, isOperand}
 use Rattle.trips.proofs.Raw.{said, Within, Ranged, Operands, headOf}
 
@@ -94,36 +94,36 @@ stub-at fs f = List·getD-map stub fs f (record { k = 0; m = 0; body = block 0 d
 
 -- in range, and within
 pub ranges : (S : Scope) (f : ℕ) (o : Operand) (x : ℕ) → Within (stubbed S) f o x → inRange S f o x ≡ true
-ranges S f Slot x h = T→eq (ltb x 32) (lt→ltb x 32 h)
-ranges S f Location x h = T→eq (ltb x (S .places)) (lt→ltb x (S .places) h)
-ranges S f Gate x h = T→eq (ltb x 4) (lt→ltb x 4 h)
-ranges S f Basis x h = T→eq (ltb x 2) (lt→ltb x 2 h)
-ranges S f Value x h = T→eq (ltb x 2) (lt→ltb x 2 h)
+ranges S f Slot x h = is-below x 32 h
+ranges S f Location x h = is-below x (S .places) h
+ranges S f Gate x h = is-below x 4 h
+ranges S f Basis x h = is-below x 2 h
+ranges S f Value x h = is-below x 2 h
 ranges S f Callee x h =
     let l : x < length (S .earlier) = subst (λ (n : ℕ). x < n) (length-map (S .earlier) stub) h in
-    T→eq (ltb x (length (S .earlier))) (lt→ltb x (length (S .earlier)) l)
+    is-below x (length (S .earlier)) l
 ranges S f CalleeK x h =
     let e : syntax.function (S .earlier) f .k ≡ x = ap (λ (g : Function). g .k) (sym (stub-at (S .earlier) f)) ∙ h in
-    ap (λ (y : ℕ). eqb x y) e ∙ T→eq (eqb x x) (eqb-refl x)
+    ap (λ (y : ℕ). eqb x y) e ∙ eqb-same x
 ranges S f CalleeM x h =
     let e : syntax.function (S .earlier) f .m ≡ x = ap (λ (g : Function). g .m) (sym (stub-at (S .earlier) f)) ∙ h in
-    ap (λ (y : ℕ). eqb x y) e ∙ T→eq (eqb x x) (eqb-refl x)
+    ap (λ (y : ℕ). eqb x y) e ∙ eqb-same x
 ranges S f Nothing x h = refl
 
 pub withins : (S : Scope) (f : ℕ) (o : Operand) (x : ℕ) → isOperand o ≡ true → inRange S f o x ≡ true → Within (stubbed S) f o x
-withins S f Slot x i h = ltb→lt x 32 (eq→T (ltb x 32) h)
-withins S f Location x i h = ltb→lt x (S .places) (eq→T (ltb x (S .places)) h)
-withins S f Gate x i h = ltb→lt x 4 (eq→T (ltb x 4) h)
-withins S f Basis x i h = ltb→lt x 2 (eq→T (ltb x 2) h)
-withins S f Value x i h = ltb→lt x 2 (eq→T (ltb x 2) h)
+withins S f Slot x i h = below x 32 h
+withins S f Location x i h = below x (S .places) h
+withins S f Gate x i h = below x 4 h
+withins S f Basis x i h = below x 2 h
+withins S f Value x i h = below x 2 h
 withins S f Callee x i h =
-    subst (λ (n : ℕ). x < n) (sym (length-map (S .earlier) stub)) (ltb→lt x (length (S .earlier)) (eq→T (ltb x (length (S .earlier))) h))
+    subst (λ (n : ℕ). x < n) (sym (length-map (S .earlier) stub)) (below x (length (S .earlier)) h)
 withins S f CalleeK x i h =
     ap (λ (g : Function). g .k) (stub-at (S .earlier) f)
-    ∙ sym (eqb→eq x (syntax.function (S .earlier) f .k) (eq→T (eqb x (syntax.function (S .earlier) f .k)) h))
+    ∙ sym (eqb-true x (syntax.function (S .earlier) f .k) h)
 withins S f CalleeM x i h =
     ap (λ (g : Function). g .m) (stub-at (S .earlier) f)
-    ∙ sym (eqb→eq x (syntax.function (S .earlier) f .m) (eq→T (eqb x (syntax.function (S .earlier) f .m)) h))
+    ∙ sym (eqb-true x (syntax.function (S .earlier) f .m) h)
 withins S f Nothing x i h = absurd (false≢true i)
 
 -- the first operand does not ask for itself

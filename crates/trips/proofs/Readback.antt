@@ -6,7 +6,7 @@ use mathlib.Core.Path.{_≡_, refl, sym, ap, subst, _∙_}
 use native.Mathlib.Nat.{add-zero, add-suc}
 use native.Mathlib.Omega.{arith}
 use Prim.Native.Nat.{ℕ, zero, suc, _+_, _%_, _<_, _≤_}
-use lib.Dec.{eqb, ltb, leb, eqb-refl, ltb→lt, lt→ltb, le→leb}
+use lib.Dec.{eqb, ltb, leb, le→leb}
 use lib.ListN.{getD, length, length-append, length-replicate, replicate}
 use Rattle.answers.specs.Check.{Check, ok, _>>=_, _>>_, need}
 use Rattle.rules.specs.declared.program.FunctionHeader.{FunctionHeader}
@@ -22,7 +22,7 @@ use Rattle.rules.specs.Table.{Meaning, calls, Row, rowOf, size, nameOf}
 use Rattle.rules.specs.Program.{Read, Scope, inRange, known, operands, meant, statement, statements, readBlock, functionHeader, functionsAt, readProgram}
 use Rattle.rules.specs.Listing.{headLine, Line, indented, listed, operandsIn, words, fixedLine, statementLines, statementsLines, blockLines, functionsLines}
 use Rattle.rules.specs.Unlisting.{sized}
-use Rattle.rules.proofs.Tests.{T→eq, eq→T}
+use Rattle.rules.proofs.Tests.{T→eq, below, eqb-same, is-below}
 use Rattle.trips.proofs.Rows.{row-head, row-calls}
 use Rattle.trips.proofs.Raw.{length-sized, sized-length, Raw, plain, called, fork, loop, Raws, end, _then_, rawBytes, rawsBytes, said, rawLine}
 use Rattle.trips.proofs.Raw.{rawLines, rawsLines, Within, Ranged, Operands, ranged-length, operands-length, Good, good-plain, good-called, good-fork}
@@ -36,14 +36,11 @@ use Rattle.trips.proofs.Small.{raws-bytes, bytes-append, bytes-sized, s
 leb-yes : (m n : ℕ) → m ≤ n → leb m n ≡ true
 leb-yes m n h = T→eq (leb m n) (le→leb m n h)
 
-ltb-yes : (m n : ℕ) → m < n → ltb m n ≡ true
-ltb-yes m n h = T→eq (ltb m n) (lt→ltb m n h)
-
 ltb-no : (m n : ℕ) → n ≤ m → ltb m n ≡ false
 ltb-no m n h = go (ltb m n) refl
   where
     go : (b : Bool) → ltb m n ≡ b → b ≡ false
-    go true e = let l : m < n = ltb→lt m n (eq→T (ltb m n) e) in absurd (omega arith)
+    go true e = let l : m < n = below m n e in absurd (omega arith)
     go false e = refl
 
 module _ (s : List ℕ) where
@@ -314,7 +311,7 @@ module _ (s : List ℕ) where
           let R : ReadOne d i e r = read-raw d r g i e (at-left s (rawBytes r) (rawsBytes rs) i a) (omega arith) in
           let Q = read-raws d rs gs more (i + length (rawBytes r)) e (omega arith) (omega arith) (at-right s (rawBytes r) (rawsBytes rs) i a) in (
             R .0 ⨾ Q .0,
-            ap (someOrNone d more i e) (ltb-yes i e (omega arith))
+            ap (someOrNone d more i e) (is-below i e (omega arith))
                 ∙ ap (λ (m : Check (Read (Statement sd))). m >>= further d more e) (R .1)
                 ∙ ap (λ (m : Check (Statements sd)). m >>= λ rest. ok (R .0 ⨾ rest)) (Q .1),
             λ n. ap (λ (w : List Line). w ++ statementsLines s n (Q .0)) (R .2 n) ∙ ap (λ (w : List Line). rawLines n r ++ w) (Q .2 n),
@@ -413,7 +410,7 @@ program-is s n fs b h₁ h₂ h₃ h₄ h₅ h₆ h₇ h₈ h₉ =
     ∙ ap (λ (c : Check (Read (List Function))). c >>= mains) h₇
     ∙ ap (λ (c : Check (Read (Block device))). c >>= λ b. end-main b (fs .it)) h₈
     ∙ ap (λ (c : Bool). need c 8 (b .next) >> ok (record { functions = fs .it; main = b .it }))
-    (ap (λ (n : ℕ). eqb n (length s)) h₉ ∙ T→eq (eqb (length s) (length s)) (eqb-refl (length s)))
+    (ap (λ (n : ℕ). eqb n (length s)) h₉ ∙ eqb-same (length s))
 
 pub reads-back : ReadsBack
 reads-back q g =

@@ -6,7 +6,7 @@ use mathlib.Core.Path.{_≡_, refl, sym, ap, subst, _∙_}
 use native.Mathlib.Nat.{le-of-suc-le-suc, not-suc-le-zero}
 use native.Mathlib.Omega.{arith}
 use Prim.Native.Nat.{ℕ, zero, suc, _+_, _<_, _≤_}
-use lib.Dec.{T, ltb, leb, le→leb, lt→ltb}
+use lib.Dec.{T, ltb, leb, le→leb}
 use lib.ListN.{getD, length, length-append, length-replicate, replicate}
 use Rattle.rules.specs.declared.statements.Operand.the-variants.{Slot, Location}
 use Rattle.rules.specs.Basics.{upTo}
@@ -19,7 +19,7 @@ use Rattle.rules.specs.Listing.{headLine, Line, indented, listed, operandsIn}
 use Rattle.rules.specs.Grammar.{Grammar, stop, ask, dead, word, takes, takesOne}
 use Rattle.rules.specs.Unlisting.{Opened, Sofar, sofar, sized, least, room, deeper, added, operands, list, made, blocksOf, rowLine, statementLine, indent}
 use Rattle.rules.specs.Unlisting.{functionLine, mainLine, lines, ended, file, header, functionBegun, mainBegun, programBegun}
-use Rattle.rules.proofs.Tests.{T→eq}
+use Rattle.rules.proofs.Tests.{T→eq, is-below}
 use Rattle.trips.proofs.Grammars.{none-not-some, word-same, takes-next}
 use Rattle.trips.proofs.Rows.{byte-of-row, name-filled, name-at, place-name}
 use Rattle.trips.proofs.Reading.{run, run-next, run-on}
@@ -63,7 +63,7 @@ pub not-deepest : {A : Type 0} (p : Sofar) (n : ℕ) (g : Grammar A) → length 
 not-deepest p zero g h = refl
 not-deepest {A} p (suc n) g h =
     ap {B = Grammar A} (λ (b : Bool). elim b [ true ↦ g | false ↦ dead ])
-    (T→eq (ltb (length (p .open-blocks)) 8) (lt→ltb (length (p .open-blocks)) 8 h))
+    (is-below (length (p .open-blocks)) 8 h)
 
 -- a statement's line, up to what its row's meaning makes of it
 module _ (p : Sofar) (b : ℕ) (r : Row) (m : Meaning) (row : rowOf b ≡ some r) (means : r .meaning ≡ m) (fits : least p + (size r + blocksOf m) ≤ 4096)
@@ -307,7 +307,7 @@ top-function : (S : Scope) (fs : List Function) (F : List ℕ) (l : Line) (p : S
 top-function S fs F l p h k t =
     ap {B = Option Sofar} (λ (b : Bool). takesOne (topWith fs F b (ltb (length fs) 15)) l)
     (T→eq (leb (12 + length F) 4096) (le→leb (12 + length F) 4096 h))
-    ∙ ap {B = Option Sofar} (λ (b : Bool). takesOne (topWith fs F true b) l) (T→eq (ltb (length fs) 15) (lt→ltb (length fs) 15 k))
+    ∙ ap {B = Option Sofar} (λ (b : Bool). takesOne (topWith fs F true b) l) (is-below (length fs) 15 k)
     ∙ ap (λ (o : Option Sofar). elim o [ none ↦ takesOne (mainLine fs F ∷ []) l | some a ↦ some a ]) t
 
 top-main : (S : Scope) (fs : List Function) (F : List ℕ) → takesOne (lines (sofar (state S (some fs) [] F))) (main ∷ []) ≡ some (mainBegun fs F)

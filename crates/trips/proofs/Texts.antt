@@ -3,9 +3,9 @@ use mathlib.Core.Bool.{Bool, true, false}
 use mathlib.Core.List.{List, [], _∷_, _++_, append-nil}
 use mathlib.Core.Path.{_≡_, refl, sym, ap, _∙_}
 use Prim.Native.Nat.{ℕ}
-use lib.Dec.{eqb, eqb→eq, eqb-refl}
+use lib.Dec.{eqb}
 use Rattle.rules.specs.Words.{Text, onto, split, behind, join}
-use Rattle.rules.proofs.Tests.{T→eq, eq→T}
+use Rattle.rules.proofs.Tests.{eqb-same, eqb-true}
 
 -- no character of the text is c
 abbrev pub Free : ℕ → Text → Type 0
@@ -33,7 +33,7 @@ module _ (c : ℕ) where
       go : (b : Bool) → eqb x c ≡ b → (q : List Text) → (p : Text) × (ps : List Text) × (q ≡ p ∷ ps) → join c q ≡ t
           → join c (elim b [ true ↦ [] ∷ q | false ↦ onto x q ]) ≡ x ∷ t
       go true e q h i =
-          ap (behind c) (h .2) ∙ ap (λ (y : ℕ). y ∷ join c (h .0 ∷ h .1)) (sym (eqb→eq x c (eq→T (eqb x c) e)))
+          ap (behind c) (h .2) ∙ ap (λ (y : ℕ). y ∷ join c (h .0 ∷ h .1)) (sym (eqb-true x c e))
           ∙ ap (λ (r : List Text). x ∷ join c r) (sym (h .2)) ∙ ap (λ (r : Text). x ∷ r) i
       go false e q h i =
           ap (λ (r : List Text). join c (onto x r)) (h .2) ∙ ap (λ (r : List Text). x ∷ join c r) (sym (h .2)) ∙ ap (λ (r : Text). x ∷ r) i
@@ -53,7 +53,7 @@ module _ (c : ℕ) where
   split-step x t e = ap (λ (b : Bool). elim b [ true ↦ [] ∷ split c t | false ↦ onto x (split c t) ]) e
 
   split-sep : (t : Text) → split c (c ∷ t) ≡ [] ∷ split c t
-  split-sep t = ap (λ (b : Bool). elim b [ true ↦ [] ∷ split c t | false ↦ onto c (split c t) ]) (T→eq (eqb c c) (eqb-refl c))
+  split-sep t = ap (λ (b : Bool). elim b [ true ↦ [] ∷ split c t | false ↦ onto c (split c t) ]) (eqb-same c)
 
   pub split-seam : (p : Text) → Free c p → (t : Text) → split c (p ++ (c ∷ t)) ≡ p ∷ split c t
   split-seam [] h t = split-sep t

@@ -6,7 +6,7 @@ use mathlib.Core.Option.{Option, none, some}
 use mathlib.Core.Path.{_≡_, refl, sym, ap, subst, _∙_}
 use native.Mathlib.Omega.{arith}
 use Prim.Native.Nat.{ℕ, zero, suc, _+_, _<_, _≤_}
-use lib.Dec.{ltb, leb, leb→le, ltb→lt}
+use lib.Dec.{ltb, leb}
 use lib.ListN.{getD, length}
 use Rattle.rules.specs.Basics.{upTo}
 use Rattle.rules.specs.Words.{Text, decimal, place}
@@ -15,7 +15,7 @@ use Rattle.rules.specs.Listing.{Line, indented, operandsIn}
 use Rattle.rules.specs.Grammar.{Grammar, stop, ask, dead, word, takes, takesOne}
 use Rattle.rules.specs.Unlisting.{Sofar, least, room, deeper, operands, made, blocksOf, rowLine, statementLine, indent}
 use Rattle.rules.proofs.Basics.{length-upTo, getD-upTo-zero}
-use Rattle.rules.proofs.Tests.{eq→T}
+use Rattle.rules.proofs.Tests.{at-most, below}
 use Rattle.trips.proofs.Grammars.{none-not-some, place-found, took}
 use Rattle.trips.proofs.Rows.{name-at}
 use Rattle.trips.proofs.Raw.{said, rawLine, Operands, took-operands}
@@ -64,7 +64,7 @@ module _ {A : Type 0} where
     where
       go : (b : Bool) → leb (least p + n) 4096 ≡ b → takes {A = A} (elim b [ true ↦ g | false ↦ dead ]) ws ≡ some a
           → (least p + n ≤ 4096) × (takes g ws ≡ some a)
-      go true e k = (leb→le (least p + n) 4096 (eq→T (leb (least p + n) 4096) e), k)
+      go true e k = (at-most (least p + n) 4096 e, k)
       go false e k = took-dead ws a k
 
   pub took-deeper : (p : Sofar) (n : ℕ) (g : Grammar A) (ws : List Text) (a : A) → takes (deeper p (suc n) g) ws ≡ some a
@@ -73,7 +73,7 @@ module _ {A : Type 0} where
     where
       go : (b : Bool) → ltb (length (p .open-blocks)) 8 ≡ b → takes {A = A} (elim b [ true ↦ g | false ↦ dead ]) ws ≡ some a
           → (length (p .open-blocks) < 8) × (takes g ws ≡ some a)
-      go true e k = (ltb→lt (length (p .open-blocks)) 8 (eq→T (ltb (length (p .open-blocks)) 8) e), k)
+      go true e k = (below (length (p .open-blocks)) 8 e, k)
       go false e k = took-dead ws a k
 
 -- A statement's line: its row, its operands, and what the meaning makes of it.

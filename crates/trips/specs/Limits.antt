@@ -9,7 +9,7 @@ use Rattle.rules.specs.Words.{Text}
 use Rattle.rules.specs.Unlisting.{unlisted}
 use Rattle.trips.specs.Cases.{letters, lines, hex, Pair}
 
-abbrev times : ℕ → List ℕ → List ℕ
+abbrev pub times : ℕ → List ℕ → List ℕ
 times zero t = []
 times (suc n) t = t ++ times n t
 
@@ -19,7 +19,7 @@ many =
     lines ("program 1" ∷ "function 0 locations 16 arguments 8" ∷ "main" ∷ [])
     ++ times 145 (lines ("  call 0 at 0 0 0 0 0 0 0 0 0 0 0 0 0 0 0 0 with 0 0 0 0 0 0 0 0" ∷ []))
 
-abbrev frees : ℕ → Text
+abbrev pub frees : ℕ → Text
 frees n = times n (lines ("  free 0" ∷ []))
 
 -- twelve statements of two bytes more: 4,096 bytes

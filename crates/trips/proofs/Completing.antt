@@ -1,5 +1,5 @@
--- A place in a good program can be completed to a good program: due elses with nothing behind them, and main. So lines that were followed begin the lines
--- of one.
+-- A place in a good program can be completed to a good program: due elses with nothing behind them, and main; the room for them is in `least`. So lines
+-- that were followed begin the lines of one.
 use mathlib.Core.List.{List, [], _∷_, _++_, append-assoc, append-nil}
 use mathlib.Core.Logic.{_⊎_, inl, inr}
 use mathlib.Core.Option.{Option, none, some}

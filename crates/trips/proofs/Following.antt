@@ -1,4 +1,4 @@
--- Lines that were followed stand for a place in a good program.
+-- Lines that were followed stand for a place in a good program: line by line, by the grammar that took the line and the place where it stood.
 use mathlib.Core.Bool.{Bool, true, false, not}
 use mathlib.Core.List.{List, [], _∷_, _++_, append-assoc, append-nil}
 use mathlib.Core.Logic.{_⊎_, inl, inr}

@@ -1,4 +1,5 @@
--- Grammars: a start that is admitted is the start of a line that is taken, and the other way round.
+-- Grammars: a start that is admitted is the start of a line that is taken, and the other way round, for any grammar whose offered words differ and have
+-- neither spaces nor newlines.
 use mathlib.Core.Bool.{Bool, true, false, _&&_, false≢true}
 use mathlib.Core.List.{List, [], _∷_, _++_, append-assoc, append-nil}
 use mathlib.Core.Logic.{_⊎_, inl, inr}
@@ -54,7 +55,7 @@ place-found w (v ∷ vs) i h = go (sameList eqb w v) refl (place w vs) refl h (�
         subst (λ (m : ℕ). (getD (v ∷ vs) m [] ≡ w) × (m < suc (length vs))) z (r .0, omega (arith, r .1))
 
 -- one of so many
-pub below-some : (n : ℕ) (p : ℕ → Bool) → someBelow n p ≡ true → (i : ℕ) × (i < n) × (p i ≡ true)
+below-some : (n : ℕ) (p : ℕ → Bool) → someBelow n p ≡ true → (i : ℕ) × (i < n) × (p i ≡ true)
 below-some zero p h = absurd (false≢true h)
 below-some (suc n) p h = go (p 0) refl h (λ k. below-some n (λ i. p (suc i)) k)
   where
@@ -63,7 +64,7 @@ below-some (suc n) p h = go (p 0) refl h (λ k. below-some n (λ i. p (suc i)) k
     go true e k rec = (0, omega arith, e)
     go false e k rec = let r : (i : ℕ) × (i < n) × (p (suc i) ≡ true) = rec k in (suc (r .0), omega (arith, r .1), r .2)
 
-pub some-below : (n : ℕ) (p : ℕ → Bool) (i : ℕ) → i < n → p i ≡ true → someBelow n p ≡ true
+some-below : (n : ℕ) (p : ℕ → Bool) (i : ℕ) → i < n → p i ≡ true → someBelow n p ≡ true
 some-below zero p i l h = absurd (not-suc-le-zero l)
 some-below (suc n) p zero l h = ap (λ (b : Bool). elim b [ true ↦ true | false ↦ someBelow n λ i. p (suc i) ]) h
 some-below (suc n) p (suc i) l h = go (p 0) (some-below n (λ i. p (suc i)) i (le-of-suc-le-suc l) h)
@@ -73,7 +74,7 @@ some-below (suc n) p (suc i) l h = go (p 0) (some-below n (λ i. p (suc i)) i (l
     go false r = r
 
 -- what a text begins with
-pub opens-more : (u t : Text) → opens u t ≡ true → (z : Text) × (t ≡ u ++ z)
+opens-more : (u t : Text) → opens u t ≡ true → (z : Text) × (t ≡ u ++ z)
 opens-more [] t h = (t, refl)
 opens-more (x ∷ u) [] h = absurd (false≢true h)
 opens-more (x ∷ u) (y ∷ t) h =
@@ -82,7 +83,7 @@ opens-more (x ∷ u) (y ∷ t) h =
     let r : (z : Text) × (t ≡ u ++ z) = opens-more u t (b .1) in
     (r .0, ap (λ (s : Text). y ∷ s) (r .1) ∙ ap (λ (a : ℕ). a ∷ (u ++ r .0)) (sym e))
 
-pub opens-all : (u z : Text) → opens u (u ++ z) ≡ true
+opens-all : (u z : Text) → opens u (u ++ z) ≡ true
 opens-all [] z = refl
 opens-all (x ∷ u) z = ap (λ (b : Bool). b && opens u (u ++ z)) (eqb-same x) ∙ opens-all u z
 
@@ -102,7 +103,7 @@ longer (v ∷ w) r (x ∷ l) y e =
     go h (inl q) = inl (q .0, let f : w ≡ l ++ q .0 = q .1 in cc)
     go h (inr q) = inr (q .0, q .1, (let f : l ≡ w ++ (q .0 ∷ q .1) = q .2 in cc), q .3)
 
-pub free-front : (c : ℕ) (p q : Text) → Free c (p ++ q) → Free c p
+free-front : (c : ℕ) (p q : Text) → Free c (p ++ q) → Free c p
 free-front c [] q h = tt
 free-front c (x ∷ p) q h = (h .0, free-front c p q (h .1))
 
@@ -146,7 +147,7 @@ module _ {A : Type 0} where
   is-some none h = absurd (false≢true h)
   is-some (some a) h = (a, refl)
 
-  pub live-takes : (g : Grammar A) → Proper g → live g ≡ true → (ws : List Text) × (a : A) × (takes g ws ≡ some a)
+  live-takes : (g : Grammar A) → Proper g → live g ≡ true → (ws : List Text) × (a : A) × (takes g ws ≡ some a)
   live-takes (stop e) p h = let r : (a : A) × (e ≡ some a) = is-some e h in ([], r .0, r .1)
   live-takes (ask e vs k) p h = go (isSome e) refl h (λ i q v. live-takes (k i) q v)
     where
@@ -159,7 +160,7 @@ module _ {A : Type 0} where
           let t : (ws : List Text) × (a : A) × (takes (k (q .0)) ws ≡ some a) = rec (q .0) (p (q .0) (q .1) .2) (q .2) in
           (getD vs (q .0) [] ∷ t .0, t .1, takes-next e vs k (getD vs (q .0) []) (t .0) (q .0) (p (q .0) (q .1) .0) ∙ t .2)
 
-  pub takes-live : (g : Grammar A) (ws : List Text) (a : A) → takes g ws ≡ some a → live g ≡ true
+  takes-live : (g : Grammar A) (ws : List Text) (a : A) → takes g ws ≡ some a → live g ≡ true
   takes-live (stop e) [] a h = ap isSome h
   takes-live (stop e) (w ∷ ws) a h = none-not-some h
   takes-live (ask e vs k) [] a h = ap (λ (b : Bool). elim b [ true ↦ true | false ↦ someBelow (length vs) λ i. live (k i) ]) (ap isSome h)

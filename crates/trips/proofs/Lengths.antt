@@ -1,4 +1,5 @@
--- A listing has at most sixteen characters for each byte of its program.
+-- A listing has at most sixteen characters for each byte of its program: an indent of at most sixteen, a name of at most seven letters, words of at most
+-- three, and every statement has an operand. So it has at most 65,536.
 use mathlib.Core.Bool.{Bool, true, false, _&&_}
 use mathlib.Core.List.{List, [], _∷_, _++_, append-assoc, append-nil, map}
 use mathlib.Core.Option.{some}

@@ -18,10 +18,6 @@ abbrev pub CleanLines : List Line → Type 0
 CleanLines [] = Unit {0}
 CleanLines (l ∷ ls) = (w : Text) × (ws : List Text) × (l ≡ w ∷ ws) × CleanLine (w ∷ ws) × CleanLines ls
 
-clean-append : (ls ms : List Line) → CleanLines ls → CleanLines ms → CleanLines (ls ++ ms)
-clean-append [] ms h k = k
-clean-append (l ∷ ls) ms h k = (h .0, h .1, h .2, h .3, clean-append ls ms (h .4) k)
-
 free-append : (c : ℕ) (p q : Text) → Free c p → Free c q → Free c (p ++ q)
 free-append c [] q h k = k
 free-append c (x ∷ p) q h k = (h .0, free-append c p q (h .1) k)

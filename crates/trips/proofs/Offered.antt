@@ -1,4 +1,4 @@
--- The words that the reader's lines offer differ, and have neither spaces nor newlines.
+-- The words that the reader's lines offer differ, and have neither spaces nor newlines: numbers by their digits, names and gates by computing.
 use mathlib.Core.Bool.{Bool, true, false, not, _&&_, false≢true}
 use mathlib.Core.List.{List, [], _∷_, _++_}
 use mathlib.Core.Option.{Option, none, some}
@@ -50,7 +50,7 @@ decimal-free n c h = go (ltb n 10) (ltb n 100)
     go false true = (digit (n / 10) c h, (digit (n % 10) c h, tt))
     go false false = (digit (n / 100) c h, (digit (n / 10 % 10) c h, (digit (n % 10) c h, tt)))
 
-pub decimal-clean : (n : ℕ) → Clean (decimal n)
+decimal-clean : (n : ℕ) → Clean (decimal n)
 decimal-clean n = (decimal-free n 0x20 (omega arith), decimal-free n 0x0A (omega arith))
 
 -- the number that digits stand for
@@ -60,7 +60,7 @@ value (x ∷ []) = x - 0x30
 value (x ∷ (y ∷ [])) = (x - 0x30) * 10 + (y - 0x30)
 value (x ∷ (y ∷ (z ∷ t))) = (x - 0x30) * 100 + (y - 0x30) * 10 + (z - 0x30)
 
-pub value-decimal : (n : ℕ) → value (decimal n) ≡ n
+value-decimal : (n : ℕ) → value (decimal n) ≡ n
 value-decimal n = go (ltb n 10) (ltb n 100)
   where
     go : (a b : Bool) → value (digits n a b) ≡ n
@@ -68,7 +68,7 @@ value-decimal n = go (ltb n 10) (ltb n 100)
     go false true = omega arith
     go false false = omega arith
 
-pub decimal-one : (a b : ℕ) → decimal a ≡ decimal b → a ≡ b
+decimal-one : (a b : ℕ) → decimal a ≡ decimal b → a ≡ b
 decimal-one a b e = sym (value-decimal a) ∙ ap value e ∙ value-decimal b
 
 -- Clean words by computing.
@@ -103,7 +103,7 @@ same-no w v h = go (sameList eqb w v) refl
     go true e = absurd (h (same-word w v e))
     go false e = refl
 
-pub place-upTo : (N : ℕ) (f : ℕ → Text) → Apart N f → (n j i : ℕ) → j + n ≤ N → i < n → place (f (j + i)) (upTo j n f) ≡ some i
+place-upTo : (N : ℕ) (f : ℕ → Text) → Apart N f → (n j i : ℕ) → j + n ≤ N → i < n → place (f (j + i)) (upTo j n f) ≡ some i
 place-upTo N f h zero j i l k = absurd (not-suc-le-zero k)
 place-upTo N f h (suc n) j zero l k =
     ap (λ (m : ℕ). place (f m) (upTo j (suc n) f)) (add-zero j)

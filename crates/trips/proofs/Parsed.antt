@@ -1,4 +1,4 @@
--- A readable file is the bytes of a good tree, and has its lines.
+-- A readable file is the bytes of a good tree, and has its lines: what each test of reading let through is what makes the tree good.
 use mathlib.Core.Bool.{Bool, true, false, _&&_, false≢true}
 use mathlib.Core.List.{List, [], _∷_, _++_, append-assoc, append-nil, map}
 use mathlib.Core.Option.{Option, none, some}

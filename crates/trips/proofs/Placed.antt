@@ -4,18 +4,17 @@ use mathlib.Core.List.{List, [], _∷_, _++_, append-assoc, map}
 use mathlib.Core.Path.{_≡_, refl, sym, ap, subst, _∙_}
 use native.Mathlib.Nat.{le-of-suc-le-suc, not-suc-le-zero, add-zero, zero-add, add-suc, suc-add}
 use native.Mathlib.Omega.{arith}
-use Prim.Native.Nat.{ℕ, zero, suc, _+_, _/_, _%_, _<_, _≤_}
+use Prim.Native.Nat.{ℕ, zero, suc, _+_, _<_, _≤_}
 use lib.Dec.{eqb}
 use lib.ListN.{getD, length, length-append, length-map, List·getD-map}
 use lib.Seq.{ext-getD, getD-append-seam}
 use Rattle.rules.specs.declared.statements.Operand.{Operand}
 use Rattle.rules.specs.declared.statements.Operand.the-variants.{Slot, Location, Gate, Basis, Value, Callee, CalleeK, CalleeM, Nothing}
-use Rattle.rules.specs.Basics.{chosen, upTo, byte, word}
+use Rattle.rules.specs.Basics.{chosen, upTo, byte}
 use Rattle.rules.specs.Syntax as syntax
 use Rattle.rules.specs.Syntax.{Function, block, done}
 use Rattle.rules.specs.Program.{Scope, inRange}
 use Rattle.rules.specs.Listing.{spoken, silent, Line, words}
-use Rattle.rules.specs.Unlisting.{sized}
 use Rattle.rules.proofs.Tests.{below, eqb-same, eqb-true, is-below}
 use Rattle.trips.proofs.Rows.{headSpoken, isOperand}
 use Rattle.trips.proofs.Raw.{said, Within, Ranged, Operands, headOf}
@@ -69,14 +68,6 @@ at-whole (x ∷ s) pre =
       omega arith,
       subst (λ (z : List ℕ). At z (suc (length pre)) s) (append-assoc pre (x ∷ []) s) (subst (λ (j : ℕ). At ((pre ++ (x ∷ [])) ++ s) j s) e r),
     )
-
--- a length word
-pub word-at : (s : List ℕ) (i : ℕ) (bs rest : List ℕ) → At s i (sized bs ++ rest) → word s i ≡ length bs
-word-at s i bs rest h =
-    let a : byte s i ≡ length bs / 256 = h .0 in
-    let b : byte s (suc i) ≡ length bs % 256 = h .2 .0 in
-    let c : byte s (i + 1) ≡ length bs % 256 = ap (byte s) (add-suc i 0 ∙ ap suc (add-zero i)) ∙ b in
-    omega (arith, a, c)
 
 -- Scopes without bodies.
 abbrev pub stub : Function → Function

@@ -135,7 +135,7 @@ module _ {A : Type 0} (S : Scope) where
       let l : r .0 < count S o = subst (λ (n : ℕ). r .0 < n) (length-upTo 0 (count S o) (spoken o)) (f .1) in
       (r .0, ws, ap (λ (v : Text). v ∷ ws) (sym (f .0) ∙ getD-upTo-zero (count S o) (r .0) (spoken o) [] l), l, r .2)
 
-  pub takes-operand : (f : ℕ) (o : Operand) (k : ℕ → Grammar A) (x : ℕ) → Within S f o x → (ws : List Text)
+  takes-operand : (f : ℕ) (o : Operand) (k : ℕ → Grammar A) (x : ℕ) → Within S f o x → (ws : List Text)
       → takes (operand S f o k) (chosen (silent o) ws (spoken o x ∷ ws)) ≡ takes (k x) ws
   takes-operand f Slot k x h ws = asked Slot k x h ws
   takes-operand f Location k x h ws = asked Location k x h ws
@@ -147,7 +147,7 @@ module _ {A : Type 0} (S : Scope) where
   takes-operand f CalleeM k x h ws = ap (λ (y : ℕ). takes (k y) ws) h
   takes-operand f Nothing k x h ws = ap (λ (y : ℕ). takes (k y) ws) h
 
-  pub took-operand : (f : ℕ) (o : Operand) (k : ℕ → Grammar A) (ws : List Text) (a : A) → takes (operand S f o k) ws ≡ some a → Heard f o k ws a
+  took-operand : (f : ℕ) (o : Operand) (k : ℕ → Grammar A) (ws : List Text) (a : A) → takes (operand S f o k) ws ≡ some a → Heard f o k ws a
   took-operand f Slot k ws a h = heard Slot k ws a h
   took-operand f Location k ws a h = heard Location k ws a h
   took-operand f Gate k ws a h = heard Gate k ws a h
@@ -158,7 +158,7 @@ module _ {A : Type 0} (S : Scope) where
   took-operand f CalleeM k ws a h = (syntax.function (S .earlier) f .m, ws, refl, refl, h)
   took-operand f Nothing k ws a h = (0, ws, refl, refl, h)
 
-  pub takes-others : (f : ℕ) (os : List Operand) (k : List ℕ → Grammar A) (xs : List ℕ) → Ranged S f os xs → (ws : List Text)
+  takes-others : (f : ℕ) (os : List Operand) (k : List ℕ → Grammar A) (xs : List ℕ) → Ranged S f os xs → (ws : List Text)
       → takes (others S f os k) (said os xs ++ ws) ≡ takes (k xs) ws
   takes-others f [] k [] h ws = refl
   takes-others f [] k (x ∷ xs) h ws = absurd h
@@ -170,7 +170,7 @@ module _ {A : Type 0} (S : Scope) where
   abbrev HeardAll : ℕ → List Operand → (List ℕ → Grammar A) → List Text → A → Type 0
   HeardAll f os k ws a = (xs : List ℕ) × (vs : List Text) × (ws ≡ said os xs ++ vs) × Ranged S f os xs × (takes (k xs) vs ≡ some a)
 
-  pub took-others : (f : ℕ) (os : List Operand) (k : List ℕ → Grammar A) (ws : List Text) (a : A) → takes (others S f os k) ws ≡ some a
+  took-others : (f : ℕ) (os : List Operand) (k : List ℕ → Grammar A) (ws : List Text) (a : A) → takes (others S f os k) ws ≡ some a
       → HeardAll f os k ws a
   took-others f [] k ws a h = ([], ws, refl, tt, h)
   took-others f (o ∷ os) k ws a h =
@@ -193,7 +193,7 @@ module _ {A : Type 0} (S : Scope) where
       ap (takes (operand S 0 o λ b. others S b os λ bs. k (b ∷ bs))) (chosen-append (silent o) (spoken o x) (said os xs) ws)
       ∙ takes-operand 0 o (λ b. others S b os λ bs. k (b ∷ bs)) x (h .0) (said os xs ++ ws) ∙ takes-others x os (λ bs. k (x ∷ bs)) xs (h .1) ws
 
-  abbrev pub Said : List Operand → (List ℕ → Grammar A) → List Text → A → Type 0
+  abbrev Said : List Operand → (List ℕ → Grammar A) → List Text → A → Type 0
   Said os k ws a = (xs : List ℕ) × (vs : List Text) × (ws ≡ said os xs ++ vs) × Operands S os xs × (takes (k xs) vs ≡ some a)
 
   pub took-operands : (os : List Operand) (k : List ℕ → Grammar A) (ws : List Text) (a : A) → takes (operands S os k) ws ≡ some a → Said os k ws a
@@ -210,7 +210,7 @@ module _ {A : Type 0} (S : Scope) where
       )
 
 -- operands of one kind that is written in decimal
-pub said-alike : (S : Scope) (f : ℕ) (o : Operand) → silent o ≡ false → ((x : ℕ) → spoken o x ≡ decimal x) → (n : ℕ) (xs : List ℕ)
+said-alike : (S : Scope) (f : ℕ) (o : Operand) → silent o ≡ false → ((x : ℕ) → spoken o x ≡ decimal x) → (n : ℕ) (xs : List ℕ)
     → Ranged S f (replicate n o) xs → said (replicate n o) xs ≡ map decimal xs
 said-alike S f o e d zero [] h = refl
 said-alike S f o e d zero (x ∷ xs) h = absurd h
@@ -231,7 +231,7 @@ module _ {A : Type 0} (S : Scope) (w : Text) (o : Operand) (e : silent o ≡ fal
       ∙ ap (λ (l : List Text). takes (others S 0 (replicate (suc n) o) k) (l ++ ws)) (sym (said-alike S 0 o e d (suc n) (x ∷ xs) h))
       ∙ takes-others S 0 (replicate (suc n) o) k (x ∷ xs) h ws
 
-  abbrev pub Listed : ℕ → (List ℕ → Grammar A) → List Text → A → Type 0
+  abbrev Listed : ℕ → (List ℕ → Grammar A) → List Text → A → Type 0
   Listed n k ws a = (xs : List ℕ) × (vs : List Text) × (ws ≡ listed w xs ++ vs) × Ranged S 0 (replicate n o) xs × (takes (k xs) vs ≡ some a)
 
   pub took-list : (n : ℕ) (k : List ℕ → Grammar A) (ws : List Text) (a : A) → takes (list S w o n k) ws ≡ some a → Listed n k ws a

@@ -1,4 +1,4 @@
--- The bytes of a good tree are readable, and what is read has the tree's lines.
+-- The bytes of a good tree are readable, and what is read has the tree's lines: each test of reading passes, for the tree is good.
 use mathlib.Core.Bool.{Bool, true, false, _&&_}
 use mathlib.Core.List.{List, [], _∷_, _++_, append-assoc, append-nil, map}
 use mathlib.Core.Option.{Option, some}

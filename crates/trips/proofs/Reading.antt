@@ -46,13 +46,6 @@ run-on σ τ (l ∷ ls) ms h =
     let r : (p : Sofar) × (takesOne (lines σ) l ≡ some p) × (run (sofar p) ls ≡ some τ) = ran σ τ l ls h in
     run-next σ l (ls ++ ms) (r .0) (r .1) ∙ run-on (sofar (r .0)) τ ls ms (r .2)
 
-pub run-front : (σ τ : State) (ls ms : List Line) → run σ (ls ++ ms) ≡ some τ → (ρ : State) × (run σ ls ≡ some ρ) × (run ρ ms ≡ some τ)
-run-front σ τ [] ms h = (σ, refl, h)
-run-front σ τ (l ∷ ls) ms h =
-    let r : (p : Sofar) × (takesOne (lines σ) l ≡ some p) × (run (sofar p) (ls ++ ms) ≡ some τ) = ran σ τ l (ls ++ ms) h in
-    let q : (ρ : State) × (run (sofar (r .0)) ls ≡ some ρ) × (run ρ ms ≡ some τ) = run-front (sofar (r .0)) τ ls ms (r .2) in
-    (q .0, run-next σ l ls (r .0) (r .1) ∙ q .1, q .2)
-
 -- what a listing is
 pub listing-of : (s : List ℕ) (t : Text) → listing s ≡ ok t → (p : Program) × (readProgram s ≡ ok p) × (t ≡ written (programLines s p))
 unfolding _>>=_

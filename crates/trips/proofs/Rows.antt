@@ -44,7 +44,7 @@ byte-of-row zero r h = none-not-some h
 byte-of-row (suc i) r h = (i, refl, found-below table i r h)
 
 -- The name of a statement byte is its row's, and stands in the column at the row's place.
-pub name-of : (b : ℕ) (r : Row) → rowOf b ≡ some r → nameOf b ≡ r .name
+name-of : (b : ℕ) (r : Row) → rowOf b ≡ some r → nameOf b ≡ r .name
 name-of b r h = ap (λ (o : Option Row). elim o [ none ↦ [] | some r ↦ r .name ]) h
 
 column : (rs : List Row) (i : ℕ) → elim (getElem? rs i) [ none ↦ [] | some r ↦ r .name ] ≡ getD (map (λ r. r .name) rs) i []

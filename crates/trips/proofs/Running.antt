@@ -1,4 +1,5 @@
--- The lines of a good tree are followed, to its bytes.
+-- The lines of a good tree are followed, to its bytes: by its statements and blocks, each line is one that the reader offers there, for there is room
+-- (`least` is never above the whole file's length) and depth. A block that has ended leaves a state that offers what the state around it does (`Closes`).
 use mathlib.Core.Bool.{Bool, true, false}
 use mathlib.Core.List.{List, [], _∷_, _++_, append-assoc, append-nil}
 use mathlib.Core.Option.{Option, none, some}
@@ -33,21 +34,21 @@ abbrev pub state : Scope → Option (List Function) → List Opened → List ℕ
 state S a bs bytes = record { scope = S; after = a; open-blocks = bs; bytes = bytes }
 
 -- Lines and indents.
-pub takes-word : {A : Type 0} (w : Text) (g : Grammar A) (ws : List Text) → takes (word w g) (w ∷ ws) ≡ takes g ws
+takes-word : {A : Type 0} (w : Text) (g : Grammar A) (ws : List Text) → takes (word w g) (w ∷ ws) ≡ takes g ws
 takes-word w g ws = takes-next none (w ∷ []) (λ i. g) w ws 0 (ap (λ (b : Bool). elim b [ true ↦ some 0 | false ↦ none ]) (word-same w))
 
-pub takes-indent : {A : Type 0} (n : ℕ) (g : Grammar A) (l : Line) → takes (indent n g) (indented n l) ≡ takes g l
+takes-indent : {A : Type 0} (n : ℕ) (g : Grammar A) (l : Line) → takes (indent n g) (indented n l) ≡ takes g l
 takes-indent zero g l = refl
 takes-indent (suc n) g l = takes-indent n g l
 
 -- a line that is less deep
-pub not-so-deep : {A : Type 0} (k m : ℕ) → m ≤ k → (g : Grammar A) (x : ℕ) (w : Text) (ws : List Text)
+not-so-deep : {A : Type 0} (k m : ℕ) → m ≤ k → (g : Grammar A) (x : ℕ) (w : Text) (ws : List Text)
     → takes (indent (suc k) g) (indented m ((x ∷ w) ∷ ws)) ≡ none
 not-so-deep k zero h g x w ws = refl
 not-so-deep zero (suc m) h g x w ws = absurd (not-suc-le-zero h)
 not-so-deep (suc k) (suc m) h g x w ws = not-so-deep k m (le-of-suc-le-suc h) g x w ws
 
-pub name-taken : (p : Sofar) (b : ℕ) (r : Row) → rowOf b ≡ some r → (ws : List Text)
+name-taken : (p : Sofar) (b : ℕ) (r : Row) → rowOf b ≡ some r → (ws : List Text)
     → takes (statementLine p) (nameOf b ∷ ws) ≡ takes (rowLine p b (some r)) ws
 name-taken p zero r h ws = none-not-some h
 name-taken p (suc i) r h ws =
@@ -56,10 +57,10 @@ name-taken p (suc i) r h ws =
     ∙ takes-next none names (λ i. rowLine p (suc i) (rowOf (suc i))) (getD names i []) ws i (place-name i l)
     ∙ ap (λ (o : Option Row). takes (rowLine p (suc i) o) ws) h
 
-pub roomy : {A : Type 0} (p : Sofar) (n : ℕ) (g : Grammar A) → least p + n ≤ 4096 → room p n g ≡ g
+roomy : {A : Type 0} (p : Sofar) (n : ℕ) (g : Grammar A) → least p + n ≤ 4096 → room p n g ≡ g
 roomy {A} p n g h = ap {B = Grammar A} (λ (b : Bool). elim b [ true ↦ g | false ↦ dead ]) (T→eq (leb (least p + n) 4096) (le→leb (least p + n) 4096 h))
 
-pub not-deepest : {A : Type 0} (p : Sofar) (n : ℕ) (g : Grammar A) → length (p .open-blocks) < 8 → deeper p n g ≡ g
+not-deepest : {A : Type 0} (p : Sofar) (n : ℕ) (g : Grammar A) → length (p .open-blocks) < 8 → deeper p n g ≡ g
 not-deepest p zero g h = refl
 not-deepest {A} p (suc n) g h =
     ap {B = Grammar A} (λ (b : Bool). elim b [ true ↦ g | false ↦ dead ])
@@ -68,7 +69,7 @@ not-deepest {A} p (suc n) g h =
 -- a statement's line, up to what its row's meaning makes of it
 module _ (p : Sofar) (b : ℕ) (r : Row) (m : Meaning) (row : rowOf b ≡ some r) (means : r .meaning ≡ m) (fits : least p + (size r + blocksOf m) ≤ 4096)
     (deep : (g : Grammar Sofar) → deeper p (blocksOf m) g ≡ g) (xs : List ℕ) (good : Operands (p .scope) (r .operands) xs) where
-  pub line-taken : (n : ℕ) (ws : List Text) → takes (indent n (statementLine p)) (indented n (rawLine b xs ++ ws)) ≡ takes (made p m (b ∷ xs)) ws
+  line-taken : (n : ℕ) (ws : List Text) → takes (indent n (statementLine p)) (indented n (rawLine b xs ++ ws)) ≡ takes (made p m (b ∷ xs)) ws
   line-taken n ws =
       let G : Meaning → Grammar Sofar = λ m. operands (p .scope) (r .operands) λ xs. made p m (b ∷ xs) in
       takes-indent n (statementLine p) (rawLine b xs ++ ws)
@@ -99,7 +100,7 @@ later-line S a b bs bytes m h x w ws =
     ap (λ (o : Option Sofar). elim o [ none ↦ takesOne (afterBlock S a b bs bytes (b .due)) (indented m ((x ∷ w) ∷ ws)) | some a ↦ some a ])
     (not-so-deep (length bs) m h (statementLine (state S a (b ∷ bs) bytes)) x w ws)
 
-pub closes-takes : (q p : Sofar) → Closes q p → (m : ℕ) → m ≤ length (p .open-blocks) → (x : ℕ) (w : Text) (ws : List Text)
+closes-takes : (q p : Sofar) → Closes q p → (m : ℕ) → m ≤ length (p .open-blocks) → (x : ℕ) (w : Text) (ws : List Text)
     → takesOne (lines (sofar q)) (indented m ((x ∷ w) ∷ ws)) ≡ takesOne (lines (sofar p)) (indented m ((x ∷ w) ∷ ws))
 closes-takes q p same m h x w ws = refl
 closes-takes q p (closed S a b bs bytes c e e′) m h x w ws =

@@ -1,4 +1,4 @@
--- The bytes of a good tree are below 256.
+-- The bytes of a good tree are below 256: operands are within their scope, and a length word is two bytes of a length below 65,536.
 use mathlib.Core.List.{List, [], _∷_, _++_, append-assoc, append-nil}
 use mathlib.Core.Option.{some}
 use mathlib.Core.Path.{_≡_, sym, subst}

@@ -1,4 +1,4 @@
--- What a line that was taken is: its words, and what they make of the program so far.
+-- What a line that was taken is: its words, and what they make of the program so far. A statement's line is its row's name and operands.
 use mathlib.Core.Bool.{Bool, true, false}
 use mathlib.Core.List.{List, [], _∷_, _++_}
 use mathlib.Core.Logic.{_⊎_, inl, inr}
@@ -54,7 +54,7 @@ module _ {A : Type 0} where
   took-stop x [] a h = (refl, (let e : some x ≡ some a = h in cc))
   took-stop x (w ∷ ws) a h = none-not-some h
 
-  pub took-dead : {X : Type 0} (ws : List Text) (a : A) → takes dead ws ≡ some a → X
+  took-dead : {X : Type 0} (ws : List Text) (a : A) → takes dead ws ≡ some a → X
   took-dead [] a h = none-not-some h
   took-dead (w ∷ ws) a h = none-not-some h
 

@@ -1,5 +1,5 @@
 -- The lines of a good tree are followed, to its bytes: by its statements and blocks, each line is one that the reader offers there, for there is room
--- (`least` is never above the whole file's length) and depth. A block that has ended leaves a state that offers what the state around it does (`Closes`).
+-- (`least` and the bytes to come are at most 4,096) and depth. A block that has ended leaves a state that offers what the state around it does (`Closes`).
 use mathlib.Core.Bool.{Bool, true, false}
 use mathlib.Core.List.{List, [], _∷_, _++_, append-assoc, append-nil}
 use mathlib.Core.Option.{Option, none, some}

@@ -1,0 +1,2 @@
+// Listings of programs.
+pub mod put;

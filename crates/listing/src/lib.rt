@@ -1,2 +1,4 @@
 // Listings of programs.
+mod lines;
 pub mod put;
+mod spaced;

@@ -43,8 +43,10 @@ same-length-2 c = search needs
 
 returns-2 : tie.Need-returns-2
 returns-2 c =
-    let start = c .before .before .before .before .before .before .before .before in
-    (two-digits _ (start .before .if1 .left) (start .if2 .taken) (c .before .before .before .before .before .before .put2 .ensures) (c .before .before .put3 .ensures), omega arith)
+    let second = c .before .before in
+    let first = second .before .before .before .before in
+    let start = first .before .before in
+    (two-digits _ (start .before .if1 .left) (start .if2 .taken) (first .put2 .ensures) (second .put3 .ensures), omega arith)
 
 add-put-5 : tie.Need-add-put-5
 add-put-5 c = search needs

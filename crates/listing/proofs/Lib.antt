@@ -3,3 +3,7 @@ pub mod Left
 pub mod Spaces
 pub mod Written
 pub mod LineLaws
+pub mod Apart
+pub mod Along
+pub mod Exits
+pub mod Rooms

@@ -1,4 +1,5 @@
 // Listings of programs.
+mod blocks;
 mod lines;
 pub mod put;
 mod spaced;

@@ -7,3 +7,5 @@ pub mod Apart
 pub mod Along
 pub mod Exits
 pub mod Rooms
+pub mod Programs
+pub mod Writing

@@ -1,3 +1,4 @@
 pub mod Puts
 pub mod Lines
 pub mod Blocks
+pub mod Whole

@@ -29,7 +29,7 @@ name-among [] b = refl
 name-among (r ∷ rs) zero = refl
 name-among (r ∷ rs) (suc b) = name-among rs b
 
-pub name-word : (b : ℕ) → 0 < b → wordOf (12 + b) ≡ nameOf b
+name-word : (b : ℕ) → 0 < b → wordOf (12 + b) ≡ nameOf b
 name-word zero l = absurd (omega arith)
 name-word (suc b) l =
     let e : 12 + suc b ≡ 13 + b = omega arith in

@@ -12,7 +12,7 @@ use Rattle.listing.specs.declared.blocks.Ends.{Ends}
 use Rattle.listing.specs.Puts.{Puts}
 
 module _ (s : List ℕ) where
-  -- a block stands at i whose lines are n deep; as deep as that and its blocks is 8 at most
+  -- a block stands at i whose lines are n deep; with the depths that it has left no line is deeper than 8
   pub record BlockHere (n i : ℕ) : Type 0 where
     pub side : Side
     pub scope : Scope

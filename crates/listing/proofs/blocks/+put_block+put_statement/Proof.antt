@@ -195,8 +195,7 @@ put-statement-put-block-requires-2 t c κs =
       omega (arith, b .some, b .inside),
       (
         else-here (h .0) (at-match .match .keys1) (at-put-block .put-block .ensures .0),
-        room-else
-            (at-put-block .put-block .result) (h .1) (at-put-line .put-line .ensures .1) b (at-put-else .put-else .ensures .1),
+        room-else (at-put-block .put-block .result) (h .1) (at-put-line .put-line .ensures .1) b (omega (arith, at-put-else .put-else .ensures .1)),
       ),
     )
 
@@ -268,8 +267,7 @@ put-statement-returns t c =
     let m = at-put-else .put-else .ensures in
     let b = at-put-block2 .put-block2 in (
       if-exit _ _ _ (a .result) (b .result) (at-match .match .keys1) (l .0) (a .ensures .0) (m .0) (b .ensures .0),
-      if-between (a .result) (b .result) (l .1)
-          (a .ensures .1) (m .1) (b .ensures .1),
+      if-between (a .result) (b .result) (l .1) (a .ensures .1) (m .1) (b .ensures .1),
     )
 
 put-statement-same-length-2 : (t : ℕ) → put-statement-lts.Need-same-length-2 (put-statement-calls t) (put-statement-at t) put-statement.Post

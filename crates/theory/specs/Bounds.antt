@@ -4,7 +4,7 @@ use mathlib.Core.List.{List}
 use Prim.Native.Nat.{ℕ, _≤_}
 use Rattle.answers.specs.Check.{Check, ok, refused}
 use Rattle.answers.specs.declared.File.{File}
-use Rattle.answers.specs.declared.File.the-variants.{NoFile, Device, Schedule, Program}
+use Rattle.answers.specs.declared.File.the-variants.{NoFile, Device, Schedule, Listing, Program}
 use Rattle.answers.specs.declared.Moved.{Moved}
 use Rattle.answers.specs.declared.Refusal.{Refusal}
 use Rattle.rules.specs.Promises.{readDeviceOf, readProgramOf, checkOf, routeOf, runOf}
@@ -14,6 +14,7 @@ abbrev pub jobNamed : File → ℕ
 jobNamed NoFile = 0
 jobNamed Device = 0
 jobNamed Schedule = 0
+jobNamed Listing = 0
 jobNamed (Program j) = j
 
 pub record Given (r : Refusal) : Type 0 where
@@ -22,10 +23,14 @@ pub record Given (r : Refusal) : Type 0 where
   pub in-file : r .place ≤ 4096
   pub named : jobNamed (r .file) ≤ 2
 
--- the value of a check has the property, its refusal is one that is given
-pub data Within {A : Type 0} (P : A → Type 0) : Check A → Type 0 where
-  value : {a : A} → P a → Within P (ok a)
-  refusal : {r : Refusal} → Given r → Within P (refused r)
+-- the value of a check has one property, its refusal another
+pub data WithinBy (G : Refusal → Type 0) {A : Type 0} (P : A → Type 0) : Check A → Type 0 where
+  value : {a : A} → P a → WithinBy G P (ok a)
+  refusal : {r : Refusal} → G r → WithinBy G P (refused r)
+
+-- its refusal is one that is given
+abbrev pub Within : {A : Type 0} → (A → Type 0) → Check A → Type 0
+Within P m = WithinBy Given P m
 
 abbrev pub ReadDeviceWithin : Type 0
 ReadDeviceWithin = (device : List ℕ) → Within (λ n. (1 ≤ n) × (n ≤ 256)) (readDeviceOf device)

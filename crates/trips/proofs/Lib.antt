@@ -20,3 +20,4 @@ pub mod Listings
 pub mod Once
 pub mod Cases
 pub mod Limits
+pub mod Bounds

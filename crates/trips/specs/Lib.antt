@@ -1,3 +1,4 @@
 pub mod Trips
 pub mod Cases
 pub mod Limits
+pub mod Bounds

@@ -1,13 +1,13 @@
 -- Taking an answer apart gives it back. A value below 2^32, a place below 2^32, a number below 256 and a file's code below 256 each stand in bits of their
 -- own, so that packing cuts nothing off; that every answer of the calls is such a one is the theory's `Within`.
-use mathlib.Core.Bool.{true}
+use mathlib.Core.Bool.{true, false}
 use mathlib.Core.Path.{_≡_, refl, ap}
 use native.Mathlib.Omega.{arith}
 use Prim.Native.Nat.{ℕ, _+_, _-_, _*_, _/_, _%_, _^_, _≤_, _<_}
 use lib.Dec.{eqb}
 use Rattle.answers.specs.Check.{Check, ok, refused}
 use Rattle.answers.specs.declared.File.{File}
-use Rattle.answers.specs.declared.File.the-variants.{NoFile, Device, Schedule, Program}
+use Rattle.answers.specs.declared.File.the-variants.{NoFile, Device, Schedule, Listing, Program}
 use Rattle.answers.specs.declared.Moved.{Moved}
 use Rattle.answers.specs.declared.Refusal.{Refusal}
 use Rattle.theory.specs.Bounds.{jobNamed, Given, Within, value, refusal}
@@ -22,14 +22,17 @@ file-kept : (f : File) → fileOf (fileCode f) ≡ f
 file-kept NoFile = refl
 file-kept Device = refl
 file-kept Schedule = refl
+file-kept Listing = refl
 file-kept (Program j) =
     let back : 16 + j - 16 ≡ j = omega arith in
-    rw (eqb-other (16 + j) 0 (omega arith), eqb-other (16 + j) 1 (omega arith), eqb-other (16 + j) 2 (omega arith)) (ap Program back)
+    let other : (n : ℕ) → n < 16 → eqb (16 + j) n ≡ false = λ n l. eqb-other (16 + j) n (omega arith) in
+    rw (other 0 (omega arith), other 1 (omega arith), other 2 (omega arith), other 3 (omega arith)) (ap Program back)
 
 code-few : (f : File) → jobNamed f ≤ 2 → fileCode f ≤ 18
 code-few NoFile h = omega arith
 code-few Device h = omega arith
 code-few Schedule h = omega arith
+code-few Listing h = omega arith
 code-few (Program j) h = omega arith
 
 -- what is below 2^32 has number 0

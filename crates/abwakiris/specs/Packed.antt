@@ -3,21 +3,22 @@
 use Prim.Native.Nat.{ℕ, _+_, _*_, _%_, _^_}
 use Rattle.answers.specs.Check.{Check, ok, refused}
 use Rattle.answers.specs.declared.File.{File}
-use Rattle.answers.specs.declared.File.the-variants.{NoFile, Device, Schedule, Program}
+use Rattle.answers.specs.declared.File.the-variants.{NoFile, Device, Schedule, Listing, Program}
 use Rattle.answers.specs.declared.Moved.{Moved}
 use Rattle.answers.specs.declared.Refusal.{Refusal}
 
--- 0 none, 1 device, 2 schedule, 16 + j the program of job j
+-- 0 none, 1 device, 2 schedule, 3 a listing, 16 + j the program of job j
 abbrev pub fileCode : File → ℕ
 fileCode NoFile = 0
 fileCode Device = 1
 fileCode Schedule = 2
+fileCode Listing = 3
 fileCode (Program j) = 16 + j
 
 abbrev pub packedRefusal : Refusal → ℕ
 packedRefusal r = r .place % 2 ^ 32 + r .number * 2 ^ 32 + fileCode (r .file) * 2 ^ 40
 
--- a read of a program has no value, a read of a device, a check and a route have one, a run has two
+-- a read of a program has no value; a read of a device, a check, a route and a listing written or read have one; a run has two
 abbrev pub packedRead : Check (Unit {0}) → ℕ
 packedRead (ok u) = 0
 packedRead (refused r) = packedRefusal r

@@ -6,7 +6,7 @@ use Prim.Native.Nat.{ℕ, _-_, _/_, _%_, _^_, _<_}
 use lib.Dec.{eqb}
 use Rattle.answers.specs.Check.{Check, ok, refused}
 use Rattle.answers.specs.declared.File.{File}
-use Rattle.answers.specs.declared.File.the-variants.{NoFile, Device, Schedule, Program}
+use Rattle.answers.specs.declared.File.the-variants.{NoFile, Device, Schedule, Listing, Program}
 use Rattle.answers.specs.declared.Moved.{Moved}
 use Rattle.answers.specs.declared.Refusal.{Refusal}
 use Rattle.rules.specs.Basics.{chosen}
@@ -27,9 +27,9 @@ codeOf a = a / 2 ^ 40 % 256
 abbrev pub movedOf : ℕ → Moved
 movedOf a = record { first = valueOf a % 65536; second = valueOf a / 65536 }
 
--- 0 none, 1 device, 2 schedule, 16 + j the program of job j
+-- 0 none, 1 device, 2 schedule, 3 a listing, 16 + j the program of job j
 abbrev pub fileOf : ℕ → File
-fileOf c = chosen (eqb c 0) NoFile (chosen (eqb c 1) Device (chosen (eqb c 2) Schedule (Program (c - 16))))
+fileOf c = chosen (eqb c 0) NoFile (chosen (eqb c 1) Device (chosen (eqb c 2) Schedule (chosen (eqb c 3) Listing (Program (c - 16)))))
 
 abbrev pub refusalOf : ℕ → Refusal
 refusalOf a = record { number = numberOf a; place = valueOf a; file = fileOf (codeOf a) }

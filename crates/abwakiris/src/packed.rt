@@ -12,6 +12,7 @@ fn file_code(file: File) -> u64
         File::NoFile => 0,
         File::Device => 1,
         File::Schedule => 2,
+        File::Listing => 3,
         File::Program(job) => 16 + (job as u64),
     }
 }

@@ -13,6 +13,9 @@ enum-told-2 c = search needs
 enum-told-3 : tie.Need-enum-told-3
 enum-told-3 c = search needs
 
+enum-told-4 : tie.Need-enum-told-4
+enum-told-4 c = search needs
+
 enum-known-file : tie.Need-enum-known-file
 enum-known-file c = search needs
 
@@ -32,7 +35,10 @@ returns-3 : tie.Need-returns-3
 returns-3 c = search needs
 
 returns-4 : tie.Need-returns-4
-returns-4 c = (rw (c .before .file .given .1), omega (arith, c .known-told .given))
+returns-4 c = search needs
+
+returns-5 : tie.Need-returns-5
+returns-5 c = (rw (c .before .file .given .1), omega (arith, c .known-told .given))
 
 pub file-code-spec : {M : Type 1} → statement M
 file-code-spec =
@@ -41,10 +47,12 @@ file-code-spec =
     enum-told
     enum-told-2
     enum-told-3
+    enum-told-4
     enum-known-file
     cast-result
     add-result
     returns
     returns-2
     returns-3
-    returns-4)
+    returns-4
+    returns-5)

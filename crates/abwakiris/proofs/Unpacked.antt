@@ -1,5 +1,5 @@
 -- Taking an answer apart gives it back. A value below 2^32, a place below 2^32, a number below 256 and a file's code below 256 each stand in bits of their
--- own, so that packing cuts nothing off; that every answer of the calls is such a one is the theory's `Within`.
+-- own, so that packing cuts nothing off; that every answer of the calls is such a one say the theory's `Bounds` and the trips' `Bounds`.
 use mathlib.Core.Bool.{true, false}
 use mathlib.Core.Path.{_≡_, refl, ap}
 use native.Mathlib.Omega.{arith}
@@ -10,12 +10,14 @@ use Rattle.answers.specs.declared.File.{File}
 use Rattle.answers.specs.declared.File.the-variants.{NoFile, Device, Schedule, Listing, Program}
 use Rattle.answers.specs.declared.Moved.{Moved}
 use Rattle.answers.specs.declared.Refusal.{Refusal}
-use Rattle.theory.specs.Bounds.{jobNamed, Given, Within, value, refusal}
+use Rattle.theory.specs.Bounds.{jobNamed, Given, WithinBy, Within, value, refusal}
+use Rattle.trips.specs.Bounds.{GivenListing}
 use Rattle.rules.proofs.Tests.{eqb-other}
 use Rattle.theory.proofs.Bounds.{read-device-within, read-program-within, check-within, route-within, run-within}
+use Rattle.trips.proofs.Bounds.{write-listing-within, read-listing-within}
 use Rattle.abwakiris.specs.Packed.{fileCode, packedRefusal, packedRead, packedValue, packedMoved}
 use Rattle.abwakiris.specs.Unpacked.{valueOf, numberOf, codeOf, movedOf, fileOf, unpacked, unpackedRead, unpackedValue, unpackedMoved}
-use Rattle.abwakiris.specs.Unpacked.{Kept, ReadDeviceKept, ReadProgramKept, CheckKept, RouteKept, RunKept}
+use Rattle.abwakiris.specs.Unpacked.{Kept, ReadDeviceKept, ReadProgramKept, CheckKept, RouteKept, RunKept, WriteListingKept, ReadListingKept}
 
 -- a file by its code
 file-kept : (f : File) → fileOf (fileCode f) ≡ f
@@ -39,7 +41,20 @@ code-few (Program j) h = omega arith
 accepted : (a : ℕ) → a < 2 ^ 32 → eqb (numberOf a) 0 ≡ true
 accepted a h = let z : numberOf a ≡ 0 = omega arith in rw z
 
-module _ (r : Refusal) (g : Given r) where
+-- what packing needs of a refusal
+record Small (r : Refusal) : Type 0 where
+  pub from-1 : 1 ≤ r .number
+  pub to-255 : r .number ≤ 255
+  pub in-32-bits : r .place < 2 ^ 32
+  pub named : jobNamed (r .file) ≤ 2
+
+given-small : (r : Refusal) → Given r → Small r
+given-small r g = record { from-1 = g .from-1; to-255 = omega (arith, g .to-26); in-32-bits = omega (arith, g .in-file); named = g .named }
+
+listing-small : (r : Refusal) → GivenListing r → Small r
+listing-small r g = record { from-1 = g .from-1; to-255 = omega (arith, g .to-27); in-32-bits = omega (arith, g .in-text); named = g .named }
+
+module _ (r : Refusal) (g : Small r) where
   number-kept : numberOf (packedRefusal r) ≡ r .number
   number-kept = omega (arith, code-few (r .file) (g .named))
 
@@ -58,22 +73,23 @@ module _ (r : Refusal) (g : Given r) where
 
 -- the general case: what is within values that packing keeps is kept
 module _ {A : Type 0} (v : ℕ → A) (packed : Check A → ℕ) (given : (r : Refusal) → packed (refused r) ≡ packedRefusal r) where
-  kept : {P : A → Type 0} → ((a : A) → P a → (v (packed (ok a)) ≡ a) × (packed (ok a) < 2 ^ 32))
-      → {m : Check A} → Within P m → Kept (unpacked v) packed m
-  kept of (value {a = a} h) = record {
+  kept : {G : Refusal → Type 0} {P : A → Type 0} → ((r : Refusal) → G r → Small r)
+      → ((a : A) → P a → (v (packed (ok a)) ≡ a) × (packed (ok a) < 2 ^ 32)) → {m : Check A} → WithinBy G P m → Kept (unpacked v) packed m
+  kept small of (value {a = a} h) = record {
     whole = rw (accepted (packed (ok a)) (of a h .1)) (ap ok (of a h .0));
     fits = omega (arith, of a h .1);
   }
-  kept of (refusal {r = r} g) = record {
-    whole = rw (given r) (refusal-kept r g v);
-    fits = rw (given r) (refusal-fits r g);
+  kept small of (refusal {r = r} g) = record {
+    whole = rw (given r) (refusal-kept r (small r g) v);
+    fits = rw (given r) (refusal-fits r (small r g));
   }
 
 read-kept : {P : Unit {0} → Type 0} {m : Check (Unit {0})} → Within P m → Kept unpackedRead packedRead m
-read-kept = kept (λ a. tt) packedRead (λ r. refl) λ a h. (refl, omega arith)
+read-kept = kept (λ a. tt) packedRead (λ r. refl) given-small λ a h. (refl, omega arith)
 
-value-kept : {P : ℕ → Type 0} → ((n : ℕ) → P n → n < 2 ^ 32) → {m : Check ℕ} → Within P m → Kept unpackedValue packedValue m
-value-kept few = kept valueOf packedValue (λ r. refl) λ n h. let l : n < 2 ^ 32 = few n h in (omega arith, omega arith)
+value-kept : {G : Refusal → Type 0} {P : ℕ → Type 0} → ((r : Refusal) → G r → Small r)
+    → ((n : ℕ) → P n → n < 2 ^ 32) → {m : Check ℕ} → WithinBy G P m → Kept unpackedValue packedValue m
+value-kept small few = kept valueOf packedValue (λ r. refl) small λ n h. let l : n < 2 ^ 32 = few n h in (omega arith, omega arith)
 
 -- two counts, each below 2^16
 module _ (n : Moved) (h : (n .first ≤ 4096) × (n .second ≤ 4096)) where
@@ -93,19 +109,25 @@ module _ (n : Moved) (h : (n .first ≤ 4096) × (n .second ≤ 4096)) where
   moved-fits = omega (arith, both)
 
 moved-kept : {m : Check Moved} → Within (λ n. (n .first ≤ 4096) × (n .second ≤ 4096)) m → Kept unpackedMoved packedMoved m
-moved-kept = kept movedOf packedMoved (λ r. refl) λ n h. (halves n h, moved-fits n h)
+moved-kept = kept movedOf packedMoved (λ r. refl) given-small λ n h. (halves n h, moved-fits n h)
 
 pub read-device-kept : ReadDeviceKept
-read-device-kept device = value-kept (λ n h. omega arith) (read-device-within device)
+read-device-kept device = value-kept given-small (λ n h. omega arith) (read-device-within device)
 
 pub read-program-kept : ReadProgramKept
 read-program-kept program = read-kept (read-program-within program)
 
 pub check-kept : CheckKept
-check-kept device program job = value-kept (λ n h. omega arith) (check-within device program job)
+check-kept device program job = value-kept given-small (λ n h. omega arith) (check-within device program job)
 
 pub route-kept : RouteKept
-route-kept device job occupancy a b buffer = value-kept (λ n h. omega arith) (route-within device job occupancy a b buffer)
+route-kept device job occupancy a b buffer = value-kept given-small (λ n h. omega arith) (route-within device job occupancy a b buffer)
 
 pub run-kept : RunKept
 run-kept device first second schedule records map = moved-kept (run-within device first second schedule records map)
+
+pub write-listing-kept : WriteListingKept
+write-listing-kept program buffer bytes = value-kept given-small (λ n h. omega arith) (write-listing-within program buffer bytes)
+
+pub read-listing-kept : ReadListingKept
+read-listing-kept text buffer = value-kept listing-small (λ n h. omega arith) (read-listing-within text buffer)

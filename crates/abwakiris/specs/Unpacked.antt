@@ -10,7 +10,8 @@ use Rattle.answers.specs.declared.File.the-variants.{NoFile, Device, Schedule, 
 use Rattle.answers.specs.declared.Moved.{Moved}
 use Rattle.answers.specs.declared.Refusal.{Refusal}
 use Rattle.rules.specs.Basics.{chosen}
-use Rattle.rules.specs.Promises.{readDeviceOf, readProgramOf, checkOf, routeOf, runOf}
+use Rattle.rules.specs.Promises.{readDeviceOf, readProgramOf, checkOf, routeOf, runOf, writeListingOf, readListingOf}
+use Rattle.trips.specs.Trips.{Bytes}
 use Rattle.abwakiris.specs.Packed.{packedRead, packedValue, packedMoved}
 
 -- bits 0 to 31 (ABWAKIRIS_VALUE), 32 to 39 (ABWAKIRIS_NUMBER) and 40 to 47 (ABWAKIRIS_FILE)
@@ -67,3 +68,9 @@ RouteKept = (device : List ℕ) (job : ℕ) (occupancy : List ℕ) (a b : ℕ) (
 abbrev pub RunKept : Type 0
 RunKept = (device first second schedule records map : List ℕ)
     → Kept unpackedMoved packedMoved (runOf device first second schedule records map .answer)
+
+abbrev pub WriteListingKept : Type 0
+WriteListingKept = (program buffer : List ℕ) → Bytes program → Kept unpackedValue packedValue (writeListingOf program buffer .answer)
+
+abbrev pub ReadListingKept : Type 0
+ReadListingKept = (text buffer : List ℕ) → Kept unpackedValue packedValue (readListingOf text buffer .answer)

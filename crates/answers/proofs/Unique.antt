@@ -9,11 +9,13 @@ use Rattle.answers.specs.declared.CheckAnswer.{CheckAnswer}
 use Rattle.answers.specs.declared.CheckAnswer.the-variants.{Accepted, Refused as NotAccepted}
 use Rattle.answers.specs.declared.RouteAnswer.{RouteAnswer}
 use Rattle.answers.specs.declared.RouteAnswer.the-variants.{Routed, Refused as NotRouted}
+use Rattle.answers.specs.declared.WrittenAnswer.{WrittenAnswer}
+use Rattle.answers.specs.declared.WrittenAnswer.the-variants.{Written, Refused as NotWritten}
 use Rattle.answers.specs.declared.Moved.{Moved}
 use Rattle.answers.specs.declared.RunAnswer.{RunAnswer}
 use Rattle.answers.specs.declared.RunAnswer.the-variants.{Ran, Refused as NotRan}
 use Rattle.answers.specs.Check.{Check, ok, refused}
-use Rattle.answers.specs.Said.{readSaid, locationsSaid, checkSaid, routeSaid, runSaid}
+use Rattle.answers.specs.Said.{readSaid, locationsSaid, checkSaid, routeSaid, writtenSaid, runSaid}
 
 -- a function that another undoes takes no two things to the same
 undone : {A B : Type 0} (f : A → B) (g : B → A) → ((a : A) → g (f a) ≡ a) → (a b : A) → f a ≡ f b → a ≡ b
@@ -35,6 +37,10 @@ abbrev route-back : Check ℕ → RouteAnswer
 route-back (ok n) = Routed n
 route-back (refused r) = NotRouted r
 
+abbrev written-back : Check ℕ → WrittenAnswer
+written-back (ok n) = Written n
+written-back (refused r) = NotWritten r
+
 abbrev run-back : Check Moved → RunAnswer
 run-back (ok m) = Ran m
 run-back (refused r) = NotRan r
@@ -50,6 +56,9 @@ one-check = undone checkSaid check-back (elim [ Accepted n ↦ refl | NotAccepte
 
 pub one-route : (a b : RouteAnswer) → routeSaid a ≡ routeSaid b → a ≡ b
 one-route = undone routeSaid route-back (elim [ Routed n ↦ refl | NotRouted r ↦ refl ])
+
+pub one-written : (a b : WrittenAnswer) → writtenSaid a ≡ writtenSaid b → a ≡ b
+one-written = undone writtenSaid written-back (elim [ Written n ↦ refl | NotWritten r ↦ refl ])
 
 pub one-run : (a b : RunAnswer) → runSaid a ≡ runSaid b → a ≡ b
 one-run = undone runSaid run-back (elim [ Ran m ↦ refl | NotRan r ↦ refl ])

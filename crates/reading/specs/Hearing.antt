@@ -5,7 +5,7 @@ use mathlib.Core.List.{List, [], _∷_}
 use mathlib.Core.Logic.{_⊎_}
 use mathlib.Core.Option.{Option, none, some}
 use mathlib.Core.Path.{_≡_}
-use Prim.Native.Nat.{ℕ, suc, _+_, _<_, _≤_}
+use Prim.Native.Nat.{ℕ, zero, suc, _+_, _<_, _≤_}
 use lib.Dec.{ltb}
 use Rattle.rules.specs.Basics.{chosen, upTo}
 use Rattle.rules.specs.Words.{Text, decimal}
@@ -87,3 +87,13 @@ unfoldable pub NumberOnto : ℕ → ℕ → ℕ → Number → Type 0
 NumberOnto at stop limit NoNumber = Unit
 NumberOnto at stop limit NumberBegun = Unit
 NumberOnto at stop limit (Is v p) = (v < limit) × (at ≤ p) × (p ≤ stop)
+
+-- two empty words for each depth, then others
+abbrev pub blanks : ℕ → List Text → List Text
+blanks zero ws = ws
+blanks (suc d) ws = [] ∷ [] ∷ blanks d ws
+
+unfoldable pub Blank : Text → ℕ → ℕ → ℕ → Reading → Type 0
+Blank t at end depth Not = Unit
+Blank t at end depth Begun = Unit
+Blank t at end depth (At p) = wordsFrom t at end ≡ blanks depth (wordsFrom t p end)

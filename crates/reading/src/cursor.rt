@@ -3,7 +3,7 @@
 use crate::words;
 ghost use Prim.Native.Nat.{_≤_, _<_};
 ghost use Rattle.reading.specs.Cursor.{InLine, spelling};
-ghost use Rattle.reading.specs.Hearing.{NextWord, Expects, Indents, Numbers, Onto, NumberOnto};
+ghost use Rattle.reading.specs.Hearing.{NextWord, Expects, Indents, Numbers, Onto, NumberOnto, Blank};
 
 // What became of a line: it begins nothing; it is unfinished and begins a line; or it has been read up to a position.
 pub enum Reading {
@@ -65,16 +65,28 @@ pub fn indent(text: &[u8], at: usize, end: usize, stop: usize, depth: usize, liv
     requires { ⌜ InLine (now text) at end stop × (depth ≤ 8) ⌝ }
     ensures { λ r. ⌜ Indents (now (text .entry)) at end stop depth lives r ⌝ }
     ensures { λ r. ⌜ Onto at stop r ⌝ }
+    ensures { λ r. ⌜ Blank (now (text .entry)) at end depth r ⌝ }
 {
     let mut p = at;
     let mut n: usize = 0;
     while n < 2 * depth {
-        match expect(text, p, end, stop, 0, lives) {
-            Reading::At(q) => {
-                p = q;
+        match next_word(text, p, end, stop) {
+            Word::Nothing => return Reading::Not,
+            Word::Unfinished => {
+                if p < end {
+                    return Reading::Not;
+                }
+                if lives {
+                    return Reading::Begun;
+                }
+                return Reading::Not;
             }
-            Reading::Begun => return Reading::Begun,
-            Reading::Not => return Reading::Not,
+            Word::To(to) => {
+                if p < to {
+                    return Reading::Not;
+                }
+                p = to + 1;
+            }
         }
         n += 1;
     }

@@ -1,0 +1,4 @@
+pub mod Thirteen
+pub mod Counted
+pub mod Lives
+pub mod Meaning

@@ -1,0 +1,18 @@
+-- Room for more bytes: one test of a sum.
+use borrow.Author.Needs.{needs}
+use Rattle.standing.specs.Numbers.{roomOf}
+use Rattle.standing.proofs.rows.room.Statement.{statement}
+use Rattle.standing.proofs.rows.room.Tie as tie
+
+add-result : tie.Need-add-result
+add-result c = search needs
+
+add-result-2 : tie.Need-add-result-2
+add-result-2 c = search needs
+
+returns : tie.Need-returns
+unfolding roomOf
+returns c = search needs
+
+pub room-spec : {M : Type 1} → statement M
+room-spec = tie.close (tie.spec add-result add-result-2 returns)

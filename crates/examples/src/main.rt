@@ -3,6 +3,7 @@ mod calls;
 mod files;
 mod grid;
 mod judged;
+mod listed;
 mod say;
 
 fn main() {
@@ -10,4 +11,5 @@ fn main() {
     files::refusals();
     judged::refusals();
     calls::refusals();
+    listed::examples();
 }

@@ -6,6 +6,7 @@ use answers::ReadAnswer;
 use answers::Refusal;
 use answers::RouteAnswer;
 use answers::RunAnswer;
+use answers::WrittenAnswer;
 
 // The number of locations.
 pub fn read_device(what: &[u8], device: &[u8]) {
@@ -88,6 +89,41 @@ pub fn run(
     }
 }
 
+// The number of bytes, and the lines.
+pub fn write_listing(what: &[u8], program: &[u8]) {
+    let mut listing = [0u8; 64];
+    text(b"list ");
+    text(what);
+    match abwakiris::listings::write_listing(program, &mut listing) {
+        WrittenAnswer::Written(n) => {
+            text(b": ");
+            number(n as u64);
+            text(b" bytes\n");
+            if n <= 64 {
+                text(&listing[0..n]);
+            }
+        },
+        WrittenAnswer::Refused(x) => refusal(x),
+    }
+}
+
+// The number of bytes, and the buffer, which has eleven.
+pub fn read_listing(what: &[u8], listing: &[u8]) {
+    let mut program = [0xaau8; 11];
+    text(b"unlist ");
+    text(what);
+    match abwakiris::listings::read_listing(listing, &mut program) {
+        WrittenAnswer::Written(n) => {
+            text(b": ");
+            number(n as u64);
+            text(b" bytes, buffer");
+            bytes(&program);
+            text(b"\n");
+        },
+        WrittenAnswer::Refused(x) => refusal(x),
+    }
+}
+
 fn count(n: u64, of: &[u8]) {
     text(b": ");
     number(n);
@@ -108,6 +144,7 @@ fn in_file(file: File) {
         File::NoFile => text(b" in no file\n"),
         File::Device => text(b" in the device\n"),
         File::Schedule => text(b" in the schedule\n"),
+        File::Listing => text(b" in the listing\n"),
         File::Program(job) => in_program(job),
     }
 }

@@ -4,110 +4,37 @@
 //! at the end if some number never came up in a call that can answer it. With `random` all cases
 //! are of random bytes, which need not bring up every number.
 
+mod by_reference;
 mod files;
 mod generator;
 mod library;
+mod lines;
 mod reference;
 
+use by_reference::by_reference;
 use files::hex;
 use generator::{Case, Random};
 use library::{number_of, Call, Export, Outcome, EMPTY};
-use reference::{pack, FILE_DEVICE, FILE_NONE, FILE_PROGRAM, FILE_SCHEDULE};
+use lines::{answer_words, line, name, CALLS};
 use std::time::Duration;
 
-const CALLS: [&str; 5] = ["read_device", "read_program", "check", "route", "run"];
-const EXPORTS: [Export; 5] =
-    [Export::ReadDevice, Export::ReadProgram, Export::Check, Export::Route, Export::Run];
-
-fn name(export: Export) -> &'static str {
-    CALLS[export as usize]
-}
-
-fn by_reference(call: &Call) -> Outcome {
-    let inputs = &call.inputs;
-    let mut buffers: Vec<Vec<u8>> = call.buffers.iter().map(|buffer| buffer.to_vec()).collect();
-    let packed = match call.export {
-        Export::ReadDevice => pack(reference::read_device(inputs[0]).map(|device| device.owner.len() as u64)),
-        Export::ReadProgram => pack(reference::read_program(inputs[0]).map(|_| 0)),
-        Export::Check => pack(reference::check(inputs[0], inputs[1], call.numbers[0])),
-        Export::Route => {
-            let [job, first, second] = call.numbers[..] else { unreachable!() };
-            let buffer = &mut buffers[0];
-            let answer = reference::route(inputs[0], job, inputs[1], first, second, buffer);
-            pack(answer.map(|locations| locations as u64))
-        }
-        Export::Run => {
-            let [records, map] = &mut buffers[..] else { unreachable!() };
-            let answer =
-                reference::run(inputs[0], inputs[1], inputs[2], inputs[3], records, map);
-            pack(answer.map(|(one, two)| u64::from(one) + 65_536 * u64::from(two)))
-        }
-    };
-    Outcome { packed, buffers }
-}
-
-// ---------------------------------------------------------------------------------------------
-// Cases as lines
-// ---------------------------------------------------------------------------------------------
-
-/// The case and an outcome in the format of the outside cases.
-fn line(call: &Call, outcome: &Outcome) -> String {
-    let mut words = vec![name(call.export).to_string()];
-    let input = |i: usize| hex(call.inputs[i]);
-    match call.export {
-        Export::Route => {
-            let [job, first, second] = call.numbers[..] else { unreachable!() };
-            words.extend([input(0), job.to_string(), input(1)]);
-            words.extend([first.to_string(), second.to_string()]);
-        }
-        _ => {
-            words.extend((0..call.inputs.len()).map(input));
-            words.extend(call.numbers.iter().map(u64::to_string));
-        }
-    }
-    words.extend(call.buffers.iter().map(|buffer| buffer.len().to_string()));
-    words.push("->".to_string());
-    words.extend(answer_words(call.export, outcome));
-    words.join(" ")
-}
-
-fn answer_words(export: Export, outcome: &Outcome) -> Vec<String> {
-    let mut words = Vec::new();
-    let value = outcome.packed & 0xFFFF_FFFF;
-    let number = number_of(outcome.packed);
-    if number == 0 {
-        words.push("ok".to_string());
-        match export {
-            Export::ReadDevice | Export::ReadProgram => {}
-            Export::Run => {
-                words.extend([(value % 65_536).to_string(), (value / 65_536).to_string()]);
-            }
-            Export::Check | Export::Route => words.push(value.to_string()),
-        }
-    } else {
-        let file = match (outcome.packed >> 40 & 0xFF) as u8 {
-            FILE_NONE => "none".to_string(),
-            FILE_DEVICE => "device".to_string(),
-            FILE_SCHEDULE => "schedule".to_string(),
-            FILE_PROGRAM => "program".to_string(),
-            17 | 18 if export == Export::Check => "program".to_string(),
-            17 => "program1".to_string(),
-            18 => "program2".to_string(),
-            other => format!("file-code-{other}"),
-        };
-        words.extend(["no".to_string(), number.to_string(), value.to_string(), file]);
-    }
-    words.extend(outcome.buffers.iter().map(|buffer| hex(buffer)));
-    words
-}
+const EXPORTS: [Export; 7] = [
+    Export::ReadDevice,
+    Export::ReadProgram,
+    Export::Check,
+    Export::Route,
+    Export::Run,
+    Export::WriteListing,
+    Export::ReadListing,
+];
 
 // ---------------------------------------------------------------------------------------------
 // What came up
 // ---------------------------------------------------------------------------------------------
 
-const NUMBERS: usize = 27;
+const NUMBERS: usize = 28;
 
-/// Whether a call can answer a number at all, by document 01's orders of tests.
+/// Whether a call can answer a number at all, by the documents' orders of tests.
 fn can_answer(export: Export, number: usize) -> bool {
     match export {
         Export::ReadDevice => number <= 7,
@@ -115,6 +42,8 @@ fn can_answer(export: Export, number: usize) -> bool {
         Export::Check => matches!(number, 0..=21 | 25),
         Export::Route => matches!(number, 0..=7 | 13 | 15 | 21 | 24..=26),
         Export::Run => matches!(number, 0..=10 | 22..=24),
+        Export::WriteListing => matches!(number, 0..=4 | 8..=10 | 24),
+        Export::ReadListing => matches!(number, 0 | 24 | 27),
     }
 }
 
@@ -124,7 +53,7 @@ fn can_stick(reason: usize) -> bool {
 
 #[derive(Default)]
 struct Tally {
-    answers: [[u64; NUMBERS]; 5],
+    answers: [[u64; NUMBERS]; EXPORTS.len()],
     /// How many jobs got stuck, by reason.
     stuck: [u64; NUMBERS],
     finished: u64,
@@ -132,7 +61,7 @@ struct Tally {
     longest_route: u8,
     interleavings: u64,
     built_answers: u64,
-    slowest: [(Duration, u64); 5],
+    slowest: [(Duration, u64); EXPORTS.len()],
 }
 
 impl Tally {

@@ -1,4 +1,4 @@
-//! Seeded cases for the five calls.
+//! Seeded cases for the calls.
 //!
 //! Programs are first built as trees (statements with their nested blocks), so that damage can
 //! be done at the level where it is wanted: in a tree that still encodes to a readable file, to
@@ -13,6 +13,8 @@
 //!
 //! Each part says in its header what it makes. A call in `cases` is given files from `devices` and `programs` and the rest from `inputs`.
 
+#![allow(dead_code, unused_imports)] // a test may take some of the cases only
+
 // What all parts draw from.
 mod random;
 mod sizes;
@@ -25,6 +27,7 @@ mod devices;
 mod byte_damage;
 mod corridors;
 mod limits;
+mod listed;
 mod made;
 mod programs;
 mod tree_damage;
@@ -35,8 +38,11 @@ mod wild;
 // Calls and what they are given.
 mod cases;
 mod inputs;
+mod listings;
 mod random_bytes;
+mod texts;
 
 pub use cases::{case, Case};
+pub use listings::{listing_case, Kind, ListingCase};
 pub use random::Random;
 pub use random_bytes::case as random_case;

@@ -1,4 +1,4 @@
-//! The library's five exports, called with bytes that stand between margins, so that a byte read for a buffer's own or written past its end shows.
+//! The library's exports, called with bytes that stand between margins, so that a byte read for a buffer's own or written past its end shows.
 
 #![allow(dead_code, unexpected_cfgs)]
 
@@ -15,6 +15,7 @@ use std::time::{Duration, Instant};
 pub const NONE: u64 = 0;
 pub const DEVICE: u64 = 1;
 pub const SCHEDULE: u64 = 2;
+pub const LISTING: u64 = 3;
 pub const PROGRAM: u64 = 16;
 
 /// A refusal as the exports pack it.
@@ -34,6 +35,8 @@ pub enum Export {
     Check,
     Route,
     Run,
+    WriteListing,
+    ReadListing,
 }
 
 /// A call: the files and other bytes it reads and the numbers it takes, each in the order of the export, and the first contents of its buffers.
@@ -63,6 +66,14 @@ impl<'a> Call<'a> {
 
     pub fn run(device: &'a [u8], one: &'a [u8], two: &'a [u8], schedule: &'a [u8], records: &'a [u8], map: &'a [u8]) -> Call<'a> {
         Call { export: Export::Run, inputs: vec![device, one, two, schedule], numbers: vec![], buffers: vec![records, map] }
+    }
+
+    pub fn write_listing(program: &'a [u8], text: &'a [u8]) -> Call<'a> {
+        Call { export: Export::WriteListing, inputs: vec![program], numbers: vec![], buffers: vec![text] }
+    }
+
+    pub fn read_listing(text: &'a [u8], program: &'a [u8]) -> Call<'a> {
+        Call { export: Export::ReadListing, inputs: vec![text], numbers: vec![], buffers: vec![program] }
     }
 }
 
@@ -154,6 +165,8 @@ impl Call<'_> {
                 (Export::Run, [device, one, two, schedule], [], [records, map]) => abwakiris_run(
                     device.0, device.1, one.0, one.1, two.0, two.1, schedule.0, schedule.1, records.0, records.1, map.0, map.1,
                 ),
+                (Export::WriteListing, [program], [], [text]) => abwakiris_write_listing(program.0, program.1, text.0, text.1),
+                (Export::ReadListing, [text], [], [program]) => abwakiris_read_listing(text.0, text.1, program.0, program.1),
                 _ => panic!("a call without its inputs, numbers and buffers"),
             }
         };

@@ -2,11 +2,15 @@
 //!
 //! Everything here follows the document's wording and its order of tests. Nothing is made fast
 //! beyond what the document's own limits need: a function is judged once, its command count is
-//! remembered and saturates, and calls without any command are not walked into.
+//! remembered and saturates, and calls without any command are not walked into. Document 02's
+//! listings are in `reference/listing.rs`.
 
 #![allow(dead_code)]
 
 use std::collections::VecDeque;
+
+#[path = "reference/listing.rs"]
+pub mod listing;
 
 /// Where a place lies; a program of job j is `FILE_PROGRAM + j`, read for no job `FILE_PROGRAM`.
 pub const FILE_NONE: u8 = 0;

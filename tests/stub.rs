@@ -1,4 +1,4 @@
-//! The five exports answered by the reference itself. With it a test can be tried without the
+//! The exports answered by the reference itself. With it a test can be tried without the
 //! library, on any computer: the generated cases for what they cover, the written answers
 //! against a second reading of the document.
 
@@ -16,6 +16,8 @@ const _: () = {
     let _ = [abwakiris_check, exports::abwakiris_check];
     let _ = [abwakiris_route, exports::abwakiris_route];
     let _ = [abwakiris_run, exports::abwakiris_run];
+    let _ = [abwakiris_write_listing, exports::abwakiris_write_listing];
+    let _ = [abwakiris_read_listing, exports::abwakiris_read_listing];
 };
 
 /// A length of 0 goes with any pointer, so the pointer is not looked at then.
@@ -95,4 +97,16 @@ unsafe extern "C" fn abwakiris_run(
         slice_mut(map, map_len),
     );
     pack(answer.map(|(one, two)| u64::from(one) + 65_536 * u64::from(two)))
+}
+
+#[no_mangle]
+unsafe extern "C" fn abwakiris_write_listing(program: *const u8, program_len: usize, text: *mut u8, text_len: usize) -> u64 {
+    let answer = reference::listing::write_listing(slice(program, program_len), slice_mut(text, text_len));
+    pack(answer.map(|bytes| bytes as u64))
+}
+
+#[no_mangle]
+unsafe extern "C" fn abwakiris_read_listing(text: *const u8, text_len: usize, program: *mut u8, program_len: usize) -> u64 {
+    let answer = reference::listing::read_listing(slice(text, text_len), slice_mut(program, program_len));
+    pack(answer.map(|bytes| bytes as u64))
 }

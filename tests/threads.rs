@@ -14,7 +14,7 @@ const THREADS: usize = 8;
 const CASES: usize = 2_000;
 const ROUNDS: usize = 10;
 const SEED: u64 = 8;
-const EXPORTS: usize = 5;
+const EXPORTS: usize = 7;
 
 /// The outcome of call i of the list; or what it touched that was not its own.
 fn outcome(calls: &[Call], i: usize) -> Result<Outcome, String> {
@@ -52,8 +52,8 @@ fn main() {
         }
         wrong += calls.len();
     }
-    let [device, program, check, route, run] = of_export;
-    let each = format!("{device} read_device, {program} read_program, {check} check, {route} route, {run} run");
+    let [device, program, check, route, run, list, unlist] = of_export;
+    let each = format!("{device} read_device, {program} read_program, {check} check, {route} route, {run} run, {list} list, {unlist} unlist");
     println!("threads: {THREADS} threads, each {ROUNDS} times {CASES} calls ({each}), {wrong} different");
     std::process::exit(if wrong == 0 { 0 } else { 1 })
 }

@@ -1,72 +1,64 @@
-//! Runs the reference over a file of outside cases and reports every difference.
+//! Runs the reference and the library over a file of outside cases and reports every difference.
 //!
 //! Usage: vectors <file>. One case a line, `<call> <inputs> -> <answer>`; byte strings are hex,
-//! `-` when empty; buffers begin as all AA.
+//! `-` when empty; buffers begin as all AA. A `print` case is no call, so only the reference
+//! answers it.
 
+mod by_reference;
 mod files;
+mod library;
+mod lines;
 mod reference;
 
+use by_reference::by_reference;
 use files::{hex, unhex};
-use reference::{Refusal, FILE_DEVICE, FILE_NONE, FILE_PROGRAM, FILE_SCHEDULE};
+use library::{Call, Export, EMPTY};
+use lines::{answer_words, CALLS};
+use reference::FILE_PROGRAM;
+
+const EXPORTS: [Export; 5] = [Export::Check, Export::Route, Export::Run, Export::WriteListing, Export::ReadListing];
 
 fn number(text: &str) -> u64 {
     text.parse().expect("a decimal number")
 }
 
-/// `of_check` because a check knows one program only, which the cases call `program`.
-fn refusal(refusal: Refusal, of_check: bool) -> String {
-    let file = match refusal.file {
-        FILE_NONE => "none".to_string(),
-        FILE_DEVICE => "device".to_string(),
-        FILE_SCHEDULE => "schedule".to_string(),
-        _ if of_check => "program".to_string(),
-        file => format!("program{}", file - FILE_PROGRAM),
-    };
-    format!("no {} {} {}", refusal.number, refusal.place, file)
+/// Which words of a case, its name being word 0, are byte strings, numbers, and lengths of buffers.
+fn places(export: Export) -> [&'static [usize]; 3] {
+    match export {
+        Export::Check => [&[1, 2], &[3], &[]],
+        Export::Route => [&[1, 3], &[2, 4, 5], &[6]],
+        Export::Run => [&[1, 2, 3, 4], &[], &[5, 6]],
+        _ => [&[1], &[], &[2]],
+    }
 }
 
-/// The reference's answer in the words of the cases.
-fn answer(call: &str, input: &[&str]) -> String {
-    match call {
-        "check" => {
-            let (device, program) = (unhex(input[0]), unhex(input[1]));
-            match reference::check(&device, &program, number(input[2])) {
-                Ok(count) => format!("ok {count}"),
-                Err(no) => {
-                    // The file code must name the job as well, which the cases leave out.
-                    let job = number(input[2]) as u8;
-                    assert!(no.file < FILE_PROGRAM || no.file == FILE_PROGRAM + job);
-                    refusal(no, true)
-                }
-            }
-        }
-        "route" => {
-            let (device, occupancy) = (unhex(input[0]), unhex(input[2]));
-            let mut buffer = vec![0xAA; number(input[5]) as usize];
-            let (job, first, second) = (number(input[1]), number(input[3]), number(input[4]));
-            let result = reference::route(&device, job, &occupancy, first, second, &mut buffer);
-            let buffer = hex(&buffer);
-            match result {
-                Ok(locations) => format!("ok {locations} {buffer}"),
-                Err(no) => format!("{} {buffer}", refusal(no, false)),
-            }
-        }
-        "run" => {
-            let (device, one, two) = (unhex(input[0]), unhex(input[1]), unhex(input[2]));
-            let schedule = unhex(input[3]);
-            let mut records = vec![0xAA; number(input[4]) as usize];
-            let mut map = vec![0xAA; number(input[5]) as usize];
-            let result =
-                reference::run(&device, &one, &two, &schedule, &mut records, &mut map);
-            let (records, map) = (hex(&records), hex(&map));
-            match result {
-                Ok((one, two)) => format!("ok {one} {two} {records} {map}"),
-                Err(no) => format!("{} {records} {map}", refusal(no, false)),
-            }
-        }
-        "print" => hex(&reference::print_check(&unhex(input[0]))),
-        _ => panic!("unknown call {call}"),
+/// The reference's answer in the words of the cases, and the library's where it is another.
+fn answers(words: &[&str]) -> (String, Option<String>) {
+    if words[0] == "print" {
+        return (hex(&reference::print_check(&unhex(words[1]))), None);
     }
+    let export = EXPORTS.into_iter().find(|&export| CALLS[export as usize] == words[0]).expect("a known call");
+    let [inputs, numbers, lengths] = places(export);
+    let inputs: Vec<Vec<u8>> = inputs.iter().map(|&i| unhex(words[i])).collect();
+    let buffers: Vec<Vec<u8>> = lengths.iter().map(|&i| vec![0xAA; number(words[i]) as usize]).collect();
+    let call = Call {
+        export,
+        inputs: inputs.iter().map(|bytes| &bytes[..]).collect(),
+        numbers: numbers.iter().map(|&i| number(words[i])).collect(),
+        buffers: buffers.iter().map(|bytes| &bytes[..]).collect(),
+    };
+    let expected = by_reference(&call);
+    if export == Export::Check {
+        // The file code must name the job as well, which the cases leave out.
+        let (file, job) = ((expected.packed >> 40) as u8, call.numbers[0] as u8);
+        assert!(file < FILE_PROGRAM || file == FILE_PROGRAM + job);
+    }
+    let otherwise = match call.perform(EMPTY[0]) {
+        Ok((found, _)) if found == expected => None,
+        Ok((found, _)) => Some(format!("{} (packed {:016x})", answer_words(export, &found).join(" "), found.packed)),
+        Err(touched) => Some(touched),
+    };
+    (answer_words(export, &expected).join(" "), otherwise)
 }
 
 fn main() {
@@ -76,12 +68,13 @@ fn main() {
     for (i, line) in text.lines().enumerate() {
         let (left, expected) = line.split_once(" -> ").expect("an arrow");
         let words: Vec<&str> = left.split(' ').collect();
-        let found = answer(words[0], &words[1..]);
+        let (found, otherwise) = answers(&words);
         cases += 1;
-        if found == expected {
+        if found == expected && otherwise.is_none() {
             equal += 1;
         } else {
-            println!("line {}: {left}\n  expected {expected}\n  found    {found}", i + 1);
+            let library = otherwise.unwrap_or("the same".to_string());
+            println!("line {}: {left}\n  expected  {expected}\n  reference {found}\n  library   {library}", i + 1);
         }
     }
     println!("{equal} of {cases} equal");

@@ -1,8 +1,9 @@
-//! Cases: which of the five calls, with the files, numbers and buffers that it is given.
+//! Cases: which of the calls, with the files, numbers and buffers that it is given.
 
 use super::device_damage::device_bytes;
 use super::devices::{device, Device};
 use super::inputs::{around, end, filled, job_with_region, occupancy, schedule};
+use super::listings::{read_case, write_case};
 use super::programs::program;
 use super::random::Random;
 use super::random_case;
@@ -39,6 +40,8 @@ pub enum Case {
         records: Vec<u8>,
         map: Vec<u8>,
     },
+    WriteListing { program: Vec<u8>, text: Vec<u8> },
+    ReadListing { text: Vec<u8>, program: Vec<u8> },
 }
 
 impl Case {
@@ -53,6 +56,8 @@ impl Case {
             Case::Run { device, one, two, schedule, records, map } => {
                 Call::run(device, one, two, schedule, records, map)
             }
+            Case::WriteListing { program, text } => Call::write_listing(program, text),
+            Case::ReadListing { text, program } => Call::read_listing(text, program),
         }
     }
 }
@@ -61,6 +66,9 @@ impl Case {
 pub fn case(random: &mut Random) -> Case {
     if random.one_in(5) {
         return random_case(random);
+    }
+    if random.one_in(20) {
+        return listing_case(random);
     }
     let size = size(random);
     let plan = device(random, size);
@@ -73,6 +81,16 @@ pub fn case(random: &mut Random) -> Case {
         3..=9 => check_case(random, &plan, size),
         10..=12 => route_case(random, &plan),
         _ => run_case(random, &plan, size),
+    }
+}
+
+fn listing_case(random: &mut Random) -> Case {
+    if random.one_in(2) {
+        let (program, text) = write_case(random);
+        Case::WriteListing { program, text }
+    } else {
+        let (text, program) = read_case(random);
+        Case::ReadListing { text, program }
     }
 }
 

@@ -96,7 +96,7 @@ fn locations(device: &[u8]) -> usize {
 // Programs
 // ---------------------------------------------------------------------------------------------
 
-fn program_file(random: &mut Random) -> Vec<u8> {
+pub(super) fn program_file(random: &mut Random) -> Vec<u8> {
     match random.below(16) {
         0 | 1 => behind(random, b""),
         2 => behind(random, b"QLS"),

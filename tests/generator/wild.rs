@@ -21,7 +21,7 @@ pub(super) fn wild_program(random: &mut Random, region: &[usize]) -> Program {
     Program { functions, main }
 }
 
-fn wild_block(random: &mut Random, locations: &[usize], callable: &[(usize, usize)], depth: usize, statements: usize) -> Block {
+pub(super) fn wild_block(random: &mut Random, locations: &[usize], callable: &[(usize, usize)], depth: usize, statements: usize) -> Block {
     (0..statements).map(|_| wild_statement(random, locations, callable, depth)).collect()
 }
 

@@ -1,11 +1,14 @@
-//! How much stack a call takes: it runs on a stack of its own that was painted before, and what is painted over is counted. The check must stay
-//! within `MOST`.
+//! How much stack a call takes: it runs on a stack of its own that was painted before, and what is painted over is counted. The check, and the two calls of
+//! listings, must stay within `MOST`.
 
 mod files;
 mod library;
+mod reference;
 
 use files::*;
-use library::{abwakiris_check, abwakiris_read_device, abwakiris_read_program, abwakiris_route, abwakiris_run};
+use library::{abwakiris_check, abwakiris_read_device, abwakiris_read_listing, abwakiris_read_program, abwakiris_route, abwakiris_run, abwakiris_write_listing};
+use library::{no, LISTING};
+use reference::listing::listing;
 use std::ffi::c_void;
 
 extern "C" {
@@ -15,7 +18,7 @@ extern "C" {
     fn pthread_join(thread: usize, result: *mut *mut c_void) -> i32;
 }
 
-/// The most bytes of stack that the check may take.
+/// The most bytes of stack that the check, a writing or a reading of a listing may take.
 const MOST: usize = 65_536;
 
 const SIZE: usize = 1 << 20;
@@ -107,11 +110,12 @@ fn readers() {
     report("read_program, depth 8", 0, || unsafe { abwakiris_read_program(program.as_ptr(), program.len()) });
 }
 
+const NESTS: [(&str, Nest); 3] = [("then", Nest::Then), ("else", Nest::Else), ("while", Nest::While)];
+
 /// The most that a check takes.
 fn checks() -> usize {
     let device = line(256);
-    let nests = [("then", Nest::Then), ("else", Nest::Else), ("while", Nest::While)];
-    let used = nests.map(|(name, nest)| {
+    let used = NESTS.map(|(name, nest)| {
         let (program, count) = deepest(nest);
         let what = format!("check, a merge under 16 bodies of depth 8 ({name})");
         report(&what, count, || unsafe { abwakiris_check(device.as_ptr(), device.len(), program.as_ptr(), program.len(), 1) })
@@ -148,13 +152,57 @@ fn runs() {
     assert!(records.chunks(4).filter(|record| record[..2] == [0, 255]).count() == 1, "the merge moved");
 }
 
+/// The most that a writing takes.
+fn writings() -> usize {
+    let used = NESTS.map(|(name, nest)| {
+        let (program, _) = deepest(nest);
+        let text = listing(&program).expect("a program that reads");
+        let mut buffer = vec![0; text.len()];
+        let buffer_at = buffer.as_mut_ptr();
+        let what = format!("write_listing, 15 functions and main of depth 8 ({name})");
+        let used = report(&what, text.len() as u64, || unsafe { abwakiris_write_listing(program.as_ptr(), program.len(), buffer_at, text.len()) });
+        assert!(buffer == text, "{what}");
+        used
+    });
+    used.into_iter().max().unwrap()
+}
+
+/// A reading that must answer this.
+fn reading(what: &str, text: &[u8], answer: u64) -> usize {
+    let mut buffer = vec![0; 4_096];
+    let buffer_at = buffer.as_mut_ptr();
+    report(&format!("read_listing, {what}"), answer, || unsafe { abwakiris_read_listing(text.as_ptr(), text.len(), buffer_at, 4_096) })
+}
+
+/// The most that a reading takes: of whole listings, and of texts that end, or are at fault, in the deepest call.
+fn readings() -> usize {
+    let used = NESTS.map(|(name, nest)| {
+        let (program, _) = deepest(nest);
+        let text = listing(&program).expect("a program that reads");
+        let called = text.windows(6).rposition(|bytes| bytes == b"call 1").expect("main calls the last function");
+        let fault = text[..called].iter().rposition(|&byte| byte == b'\n').expect("a line before it") + 1;
+        let wrong = [&text[..called], b"call 15\n"].concat();
+        [
+            reading(&format!("15 functions and main of depth 8 ({name})"), &text, program.len() as u64),
+            reading(&format!("the same up to `call 1` at depth 8 of main ({name})"), &text[..called + 6], no(27, called as u64 + 6, LISTING)),
+            reading(&format!("the same up to `call 15` there ({name})"), &wrong, no(27, fault as u64, LISTING)),
+        ]
+    });
+    used.into_iter().flatten().max().unwrap()
+}
+
 fn main() {
     readers();
-    let most = checks();
+    let check = checks();
     routes();
     runs();
-    if most > MOST {
-        println!("stack: the check takes more than {MOST} bytes");
-        std::process::exit(1);
+    let (writing, reading) = (writings(), readings());
+    let mut over = 0;
+    for (what, most) in [("check", check), ("writing of a listing", writing), ("reading of a listing", reading)] {
+        if most > MOST {
+            println!("stack: the {what} takes more than {MOST} bytes");
+            over += 1;
+        }
     }
+    std::process::exit(if over == 0 { 0 } else { 1 })
 }

@@ -31,7 +31,7 @@ pub struct ListingCase {
 
 pub fn listing_case(random: &mut Random) -> ListingCase {
     let kind = random.pick(&[Kind::Prefixes, Kind::Characters, Kind::Lines, Kind::Lines, Kind::Room, Kind::Words, Kind::Bytes, Kind::Unread]);
-    let size = if kind == Kind::Room && random.one_in(4) { Size::Limit } else { size(random) };
+    let size = if kind == Kind::Room && random.one_in(6) { Size::Limit } else { size(random) };
     if kind == Kind::Unread {
         return ListingCase { kind, program: unread(random, size), texts: Vec::new(), buffer: buffer(random, 200) };
     }

@@ -19,7 +19,7 @@ fn places(random: &mut Random, text: &[u8], short: usize) -> Vec<usize> {
         2 => random.pick(&ends[ends.len() - ends.len().min(12)..]) + random.below(2),
         _ => random.pick(&ends) + random.below(2),
     };
-    (0..16).map(place).collect()
+    (0..8).map(place).collect()
 }
 
 const CHARACTERS: &[u8] = b" \n0123789aefinXZHS\t\r\0-+";
@@ -167,8 +167,8 @@ fn damage_heads(random: &mut Random, lines: &mut Vec<String>, at: usize) {
 }
 
 const WORDS: &[&str] = &[
-    "program", "function", "locations", "arguments", "main", "else", "at", "with", "init", "magic", "free", "gate", "measure", "merge", "ref", "get", "set", "if",
-    "while", "call", "bool", "X", "Z", "H", "S", "0", "1", "2", "3", "10", "14", "31", "32", "255", "256",
+    "program", "function", "locations", "arguments", "main", "else", "at", "with", "init", "magic", "free", "gate", "measure", "merge", "ref", "get", "set",
+    "if", "while", "call", "bool", "X", "Z", "H", "S", "0", "1", "2", "3", "10", "14", "31", "32", "255", "256",
 ];
 
 /// The statements with a letter for each operand: a slot, a location, a gate, a basis, a bit, a callee with its lists.

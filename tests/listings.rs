@@ -6,6 +6,7 @@
 //! begin a listing; a text that is at fault at its end becomes a listing by the ending that the reference has for it.
 
 mod by_reference;
+mod cases;
 mod files;
 mod generator;
 mod library;
@@ -13,8 +14,9 @@ mod lines;
 mod reference;
 
 use by_reference::by_reference;
+use cases::filled;
 use generator::{listing_case, Kind, ListingCase, Random};
-use library::{no, number_of, Call, Outcome, EMPTY, LISTING};
+use library::{no, number_of, Call, Export, Outcome, EMPTY, LISTING};
 use lines::{answer_words, line};
 use reference::listing::{ending, listing, program_of, put};
 use reference::{pack, Answer, LONGEST_PROGRAM};
@@ -30,9 +32,10 @@ const KINDS: [(Kind, &str); 7] = [
     (Kind::Unread, "unread"),
 ];
 
-/// What a text can come to.
+/// What a text can come to; 24 in a buffer that is too short.
 const ANSWERS: [&str; 4] = ["a listing", "27 at a line", "27 at the end", "24"];
 
+#[derive(Default)]
 struct Comparison {
     index: u64,
     calls: usize,
@@ -75,7 +78,7 @@ impl Comparison {
             self.stop(&[line(call, &expected), format!("found {words}, packed {:016x}", found.packed)]);
         }
         self.calls += 1;
-        let slowest = &mut self.slowest[usize::from(call.inputs[0].starts_with(b"program"))];
+        let slowest = &mut self.slowest[usize::from(call.export == Export::ReadListing)];
         *slowest = (*slowest).max((time, self.index));
         found
     }
@@ -185,16 +188,11 @@ impl Comparison {
                 }
             }
         }
-        for (name, (time, index)) in ["write, or read other texts", "read"].into_iter().zip(self.slowest) {
-            println!("slowest {name}: {:.3} ms (case {index})", time.as_secs_f64() * 1e3);
+        for (name, (time, index)) in ["write", "read"].into_iter().zip(self.slowest) {
+            println!("slowest {name:<6}{:>10.3} ms (case {index})", time.as_secs_f64() * 1e3);
         }
         missing
     }
-}
-
-/// The first contents of a buffer: no two bytes near each other are equal.
-fn filled(length: usize) -> Vec<u8> {
-    (0..length).map(|i| 0xA0 + (i % 31) as u8).collect()
 }
 
 fn main() {
@@ -203,15 +201,8 @@ fn main() {
         Some(word) => word.parse().expect("cases, seed and first case are decimal numbers"),
         None => otherwise,
     };
-    let (cases, seed, first) = (number(0, 3_000), number(1, 1), number(2, 0));
-    let mut comparison = Comparison {
-        index: 0,
-        calls: 0,
-        programs: 0,
-        refused_programs: [0; 11],
-        texts: Default::default(),
-        slowest: Default::default(),
-    };
+    let (cases, seed, first) = (number(0, 2_000), number(1, 1), number(2, 0));
+    let mut comparison = Comparison::default();
     for index in first..first + cases {
         comparison.index = index;
         let case = listing_case(&mut Random::new(seed, index));

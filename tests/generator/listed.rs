@@ -64,7 +64,12 @@ fn any_block(random: &mut Random, locations: &[usize], callable: &[(usize, usize
 }
 
 /// Makes the program longer until its file has exactly `length` bytes, by simple statements at the end of one of its blocks. Needs two bytes or more to fill.
+/// Some have all of it in their last function and nothing in main.
 fn fill(random: &mut Random, program: &mut Program, length: usize) {
+    let without_main = random.one_in(3) && !program.functions.is_empty();
+    if without_main {
+        program.main.clear();
+    }
     let mut missing = length.saturating_sub(program.encode().0.len());
     let mut filling = Vec::new();
     let short = random.one_in(4);
@@ -89,7 +94,8 @@ fn fill(random: &mut Random, program: &mut Program, length: usize) {
             filling.push(simple(&[4, bit, a]));
         }
     }
-    let body = random.below(program.functions.len() + 1);
+    let count = program.functions.len();
+    let body = if without_main { count - 1 } else { random.below(count + 1) };
     let mut bodies = program.bodies();
     let mut blocks = 0;
     blocks_of(bodies[body], 1, &mut |_, _| blocks += 1);

@@ -7,6 +7,11 @@ pub(super) fn prefixes(random: &mut Random, text: &[u8]) -> Vec<Vec<u8>> {
     places(random, text, 400).into_iter().map(|at| text[..at].to_vec()).collect()
 }
 
+/// How many texts are made of a long one where all are made of a short one: the reference takes long for the longest.
+fn some(text: &[u8]) -> usize {
+    if text.len() < 4_000 { 12 } else { 4 }
+}
+
 /// All places in a short text, its end included; some in a long one.
 fn places(random: &mut Random, text: &[u8], short: usize) -> Vec<usize> {
     if text.len() <= short {
@@ -19,7 +24,7 @@ fn places(random: &mut Random, text: &[u8], short: usize) -> Vec<usize> {
         2 => random.pick(&ends[ends.len() - ends.len().min(12)..]) + random.below(2),
         _ => random.pick(&ends) + random.below(2),
     };
-    (0..8).map(place).collect()
+    (0..some(text)).map(place).collect()
 }
 
 const CHARACTERS: &[u8] = b" \n0123789aefinXZHS\t\r\0-+";
@@ -45,6 +50,7 @@ pub(super) fn characters(random: &mut Random, text: &[u8]) -> Vec<Vec<u8>> {
 
 /// The text with its lines damaged in one to three ways; some are then cut off.
 pub(super) fn lines(random: &mut Random, text: &[u8]) -> Vec<Vec<u8>> {
+    let count = 2 * some(text);
     let text = std::str::from_utf8(text).expect("a listing is of characters");
     let damaged = |_| {
         let mut lines: Vec<String> = text.lines().map(String::from).collect();
@@ -54,15 +60,16 @@ pub(super) fn lines(random: &mut Random, text: &[u8]) -> Vec<Vec<u8>> {
             }
         }
         let mut text = joined(&lines);
-        match random.below(8) {
-            0 => text.truncate(random.below(text.len() + 1)),
-            1 => text.truncate(text.len().saturating_sub(1)),
-            2 => text.extend(random.pick(&[&b"\n"[..], b" ", b"  ", b"\0", b"\r\n", b"main\n", b"program 1\nmain\n"])),
+        match random.below(24) {
+            0..=2 => text.truncate(random.below(text.len() + 1)),
+            3 | 4 => text.truncate(text.len().saturating_sub(1)),
+            5 => text = text.iter().flat_map(|&byte| if byte == b'\n' { vec![b'\r', b'\n'] } else { vec![byte] }).collect(),
+            6 | 7 => text.extend(random.pick(&[&b"\n"[..], b" ", b"  ", b"\0", b"\r\n", b"main\n", b"program 1\nmain\n"])),
             _ => {}
         }
         text
     };
-    (0..24).map(damaged).collect()
+    (0..count).map(damaged).collect()
 }
 
 fn joined(lines: &[String]) -> Vec<u8> {
@@ -71,7 +78,7 @@ fn joined(lines: &[String]) -> Vec<u8> {
 
 fn damage(random: &mut Random, lines: &mut Vec<String>) {
     let at = random.below(lines.len());
-    match random.below(12) {
+    match random.below(14) {
         0 => drop(lines.remove(at)),
         1 => lines.insert(at, lines[at].clone()),
         2 => {
@@ -84,7 +91,38 @@ fn damage(random: &mut Random, lines: &mut Vec<String>) {
         8 => damage_else(random, lines),
         9 => lines.insert(at, line(random)),
         10 => lines[at] = line(random),
+        11 => {
+            let next = next_line(random, &lines[at]);
+            lines.insert(at + 1, next);
+        }
+        12 => deepen(random, lines, at),
         _ => damage_heads(random, lines, at),
+    }
+}
+
+/// A statement that may follow a line: in the block that it opens, or beside it.
+fn next_line(random: &mut Random, line: &str) -> String {
+    let spaces = line.len() - line.trim_start().len();
+    let opens = ["if", "while", "else", "main", "function"].iter().any(|name| line[spaces..].starts_with(name));
+    format!("{}{}{}", &line[..spaces], if opens { "  " } else { "" }, statement(random))
+}
+
+/// The statements of a body from a line on, all in a while or in a block of an if.
+fn deepen(random: &mut Random, lines: &mut Vec<String>, at: usize) {
+    let end = (at + 1..lines.len()).find(|&i| !lines[i].starts_with(' ')).unwrap_or(lines.len());
+    let begin = if lines[at].starts_with("  ") { at } else { at + 1 };
+    let spaces = match lines.get(begin) {
+        Some(line) if begin < end => " ".repeat(line.len() - line.trim_start().len()),
+        _ => "  ".to_string(),
+    };
+    for line in &mut lines[begin..end] {
+        *line = format!("  {line}");
+    }
+    if random.one_in(2) {
+        lines.insert(begin, format!("{spaces}while 0"));
+    } else {
+        lines.insert(end, format!("{spaces}else"));
+        lines.insert(begin, format!("{spaces}if 0"));
     }
 }
 
@@ -153,6 +191,13 @@ fn damage_else(random: &mut Random, lines: &mut Vec<String>) {
 /// The first line, main, or a function's header: missing, another, or one more.
 fn damage_heads(random: &mut Random, lines: &mut Vec<String>, at: usize) {
     let (k, m) = (random.below(18), random.below(10));
+    let functions = lines.iter().filter(|line| line.starts_with("function")).count();
+    if random.one_in(3) {
+        // One more function, where it may stand.
+        let main = lines.iter().position(|line| line == "main").unwrap_or(lines.len());
+        lines.insert(main, format!("function {functions} locations {k} arguments {}", m.min(k)));
+        return;
+    }
     let head = match random.below(4) {
         0 => "main".to_string(),
         1 => random.pick(&["program 1", "program 2", "program 0", "program", "program 1 "]).to_string(),
@@ -224,13 +269,21 @@ fn line(random: &mut Random) -> String {
 /// The text up to the end of one of its last lines, and behind it a line that is begun, or whole: in a listing of the longest program it may or may not fit.
 pub(super) fn room(random: &mut Random, text: &[u8]) -> Vec<Vec<u8>> {
     let ends: Vec<usize> = (0..text.len()).filter(|&i| text[i] == b'\n').map(|i| i + 1).collect();
+    // Where main's own line begins, and how many functions stand before it.
+    let main = ends.iter().copied().find(|&end| text[end..].starts_with(b"main\n")).expect("main");
+    let functions = ends.iter().filter(|&&end| text[end..].starts_with(b"function")).count();
     let begun = |_| {
         let last = ends.len().min(random.pick(&[1, 2, 4, 12, ends.len()]));
-        let end = ends[ends.len() - 1 - random.below(last)];
+        let mut end = ends[ends.len() - 1 - random.below(last)];
+        if random.one_in(3) {
+            end = main;
+        }
+        let before = text[..end - 1].rsplit(|&byte| byte == b'\n').next().expect("a line");
         let mut line = match random.below(8) {
             0 => "main".to_string(),
-            1 => format!("function {} locations 0 arguments 0", random.below(16)),
-            _ => line(random),
+            1 => format!("function {functions} locations 0 arguments 0"),
+            2 | 3 => line(random),
+            _ => next_line(random, std::str::from_utf8(before).expect("a listing is of characters")),
         };
         match random.below(4) {
             0 => line += "\n",
@@ -240,7 +293,7 @@ pub(super) fn room(random: &mut Random, text: &[u8]) -> Vec<Vec<u8>> {
         let more = if random.one_in(4) { &text[end..] } else { b"" };
         [&text[..end], line.as_bytes(), more].concat()
     };
-    (0..12).map(begun).collect()
+    (0..8).map(begun).collect()
 }
 
 /// Lines one below the other, each at an indent that goes with the one before most times; some are cut off.

@@ -25,7 +25,8 @@ use Rattle.reading.specs.declared.cursor.Reading.{Reading}
 use Rattle.reading.specs.declared.cursor.Reading.the-variants.{Not, Begun, At}
 use Rattle.standing.specs.Numbers.{freshOf, closedOf, statementLives}
 use Rattle.standing.specs.Means.{outside, laid, Means, Stands}
-use Rattle.unlisting.specs.Reads.{only, elseAfter, elseLine}
+use Rattle.stating.specs.Statements.{only}
+use Rattle.unlisting.specs.Lines.{elseAfter, elseLine}
 use Rattle.reading.proofs.Hearings.{hears-ask, hears-word, hears-one, hears-others, hears-first, hears-begun, hears-both}
 use Rattle.standing.proofs.Lives.{statement-lives}
 use Rattle.standing.proofs.Meaning.{means-closed}

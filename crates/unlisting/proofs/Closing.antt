@@ -8,7 +8,7 @@ use lib.Seq.{sets}
 use Rattle.rules.specs.Unlisting.{Opened, Sofar, sized}
 use Rattle.standing.specs.declared.state.Standing.{Standing}
 use Rattle.standing.specs.Means.{outside, laid, Blocks, Means}
-use Rattle.unlisting.specs.Reads.{Closes}
+use Rattle.unlisting.specs.Lines.{Closes}
 use Rattle.standing.proofs.Meaning.{sets-word, block-depth, block-blocks, block-used}
 
 module _ (c : Standing) (p : Sofar) (b : Opened) (bs : List Opened) (m : Means c p) (e : p .open-blocks ≡ b ∷ bs) where

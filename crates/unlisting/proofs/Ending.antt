@@ -12,7 +12,7 @@ use Rattle.rules.specs.Syntax.{Function}
 use Rattle.rules.specs.Unlisting.{Opened, Sofar, State, fresh, sofar, sized, ended, header, file}
 use Rattle.standing.specs.Numbers.{freshOf, closedOf}
 use Rattle.standing.specs.Means.{outside, laid, laidAt, After, Means, Stands}
-use Rattle.unlisting.specs.Reads.{Closes, Ends, EndAs}
+use Rattle.unlisting.specs.Lines.{Closes, Ends, EndAs}
 use Rattle.standing.specs.declared.state.Standing.{Standing}
 use Rattle.unlisting.proofs.Closing.{innermost}
 use Rattle.standing.proofs.Meaning.{means-closed, set-before}

@@ -22,12 +22,13 @@ use Rattle.rules.specs.Unlisting.{Sofar, State, fresh, sofar, lines, file, endi
 use Rattle.reading.specs.Cursor.{part, wordsFrom, LineEnd}
 use Rattle.reading.specs.Hearing.{Hearing, not, begun, took, hearsOne}
 use Rattle.standing.specs.declared.state.Standing.{Standing}
-use Rattle.unlisting.specs.declared.statement.Heard.{Heard}
-use Rattle.unlisting.specs.declared.statement.Heard.the-variants.{Not, Begun, Took}
-use Rattle.unlisting.specs.declared.statement.Line.{Line}
+use Rattle.stating.specs.declared.statement.Heard.{Heard}
+use Rattle.stating.specs.declared.statement.Heard.the-variants.{Not, Begun, Took}
+use Rattle.stating.specs.declared.statement.Line.{Line}
 use Rattle.standing.specs.Numbers.{freshOf}
 use Rattle.standing.specs.Means.{laid, laidAt, Means, Stands}
-use Rattle.unlisting.specs.Reads.{TookLine, LineAs, ReadsAny, Ended, EndAs, Ends, Stop, lengthOf}
+use Rattle.stating.specs.Statements.{TookLine, LineAs}
+use Rattle.unlisting.specs.Lines.{ReadsAny, Ended, EndAs, Ends, Stop, lengthOf}
 use Rattle.reading.proofs.Hearings.{heard, hears-taken, hears-started}
 use Rattle.reading.proofs.Indenting.{part-some}
 use Rattle.reading.proofs.Spellings.{split-shape}

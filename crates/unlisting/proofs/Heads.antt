@@ -14,14 +14,14 @@ use Rattle.rules.specs.Unlisting.{Sofar, fresh, programBegun, lines}
 use Rattle.reading.specs.Cursor.{wordsFrom, spelling}
 use Rattle.reading.specs.Hearing.{hears, hearsOne, onward, Expects, Numbers}
 use Rattle.standing.specs.Numbers.{freshOf, begunOf}
-use Rattle.unlisting.specs.Reads.{FirstLine, FunctionWords, Arguments, mostArguments}
+use Rattle.unlisting.specs.Lines.{FirstLine, FunctionWords, Arguments, mostArguments}
 use Rattle.standing.specs.declared.state.Standing.{Standing}
 use Rattle.reading.specs.declared.cursor.Reading.{Reading}
 use Rattle.reading.specs.declared.cursor.Reading.the-variants.{Not, Begun, At}
 use Rattle.reading.specs.declared.cursor.Number.{Number}
 use Rattle.reading.specs.declared.cursor.Number.the-variants.{Not as NoNumber, Begun as NumberBegun}
-use Rattle.unlisting.specs.declared.statement.Heard.the-variants.{Not as NoLine, Begun as LineBegun, Took}
-use Rattle.unlisting.specs.declared.statement.Line.{Line}
+use Rattle.stating.specs.declared.statement.Heard.the-variants.{Not as NoLine, Begun as LineBegun, Took}
+use Rattle.stating.specs.declared.statement.Line.{Line}
 use Rattle.reading.proofs.Hearings.{hears-one, live-word}
 use Rattle.standing.proofs.Meaning.{means-begun}
 use Rattle.unlisting.proofs.Said.{hears-spelled, line-not, line-begun, line-ends}

@@ -1,15 +1,10 @@
-mod Behind
-mod Called
 mod Choosing
 mod Closing
 mod Ending
 mod Following
 mod Heads
-mod Listed
-mod Operating
 mod Outward
 mod Said
-mod Stating
 mod Tops
 mod Turning
 mod Twice

@@ -14,11 +14,12 @@ use Rattle.reading.specs.Hearing.{Hearing, hears, hearsOne, onward, Indents, On
 use Rattle.standing.specs.declared.state.Standing.{Standing}
 use Rattle.reading.specs.declared.cursor.Reading.{Reading}
 use Rattle.reading.specs.declared.cursor.Reading.the-variants.{Not, Begun, At}
-use Rattle.unlisting.specs.declared.statement.Heard.the-variants.{Begun as LineBegun}
-use Rattle.unlisting.specs.declared.statement.Line.{Line}
+use Rattle.stating.specs.declared.statement.Heard.the-variants.{Begun as LineBegun}
+use Rattle.stating.specs.declared.statement.Line.{Line}
 use Rattle.standing.specs.Numbers.{Small, freshOf, closedOf, statementLives}
 use Rattle.standing.specs.Means.{outside, laid, laidAt, Blocks, Means, Stands}
-use Rattle.unlisting.specs.Reads.{only, elseLine, topsOf, LineAs, ReadsLine, ReadsAny, FirstLine, Closes}
+use Rattle.stating.specs.Statements.{only, LineAs, ReadsLine}
+use Rattle.unlisting.specs.Lines.{elseLine, topsOf, ReadsAny, FirstLine, Closes}
 use Rattle.unlisting.proofs.Choosing.{a-statement, a-start, an-else, an-end, ended}
 use Rattle.standing.proofs.Lives.{statement-lives}
 use Rattle.standing.proofs.Meaning.{means-closed}

@@ -16,14 +16,14 @@ use Rattle.rules.specs.Unlisting.{Sofar}
 use Rattle.reading.specs.Cursor.{wordsFrom, spelling}
 use Rattle.reading.specs.Hearing.{Hearing, not, begun, took, hears, onward, numbered, Expects, Onto, NumberOnto}
 use Rattle.standing.specs.Means.{laid, Means}
-use Rattle.unlisting.specs.Reads.{LineAs}
+use Rattle.stating.specs.Statements.{LineAs}
 use Rattle.standing.specs.declared.state.Standing.{Standing}
 use Rattle.reading.specs.declared.cursor.Reading.{Reading}
 use Rattle.reading.specs.declared.cursor.Reading.the-variants.{Not, Begun, At}
 use Rattle.reading.specs.declared.cursor.Number.{Number}
 use Rattle.reading.specs.declared.cursor.Number.the-variants.{Not as NoNumber, Begun as NumberBegun, Is}
-use Rattle.unlisting.specs.declared.statement.Heard.the-variants.{Not as NoLine, Begun as LineBegun, Took}
-use Rattle.unlisting.specs.declared.statement.Line.{Line}
+use Rattle.stating.specs.declared.statement.Heard.the-variants.{Not as NoLine, Begun as LineBegun, Took}
+use Rattle.stating.specs.declared.statement.Line.{Line}
 use Rattle.reading.proofs.Hearings.{hears-end, hears-more}
 use Rattle.reading.proofs.Spellings.{no-words, some-words}
 

@@ -21,15 +21,16 @@ use Rattle.reading.specs.Cursor.{wordsFrom, spelling}
 use Rattle.reading.specs.Hearing.{Hearing, not, begun, took, hears, hearsOne, onward, numbered, Expects, Numbers}
 use Rattle.standing.specs.Numbers.{roomOf, functionOf, mainOf}
 use Rattle.standing.specs.Means.{outside, After, Means}
-use Rattle.unlisting.specs.Reads.{LineAs, ReadsLine, FunctionWords, Arguments, mostArguments, functionsOf, mainsOf, topsOf}
+use Rattle.stating.specs.Statements.{LineAs, ReadsLine}
+use Rattle.unlisting.specs.Lines.{FunctionWords, Arguments, mostArguments, functionsOf, mainsOf, topsOf}
 use Rattle.standing.specs.declared.state.Standing.{Standing}
 use Rattle.reading.specs.declared.cursor.Reading.{Reading}
 use Rattle.reading.specs.declared.cursor.Reading.the-variants.{Not, Begun, At}
 use Rattle.reading.specs.declared.cursor.Number.{Number}
 use Rattle.reading.specs.declared.cursor.Number.the-variants.{Not as NoNumber, Begun as NumberBegun, Is}
-use Rattle.unlisting.specs.declared.statement.Heard.{Heard}
-use Rattle.unlisting.specs.declared.statement.Heard.the-variants.{Not as NoLine, Begun as LineBegun, Took}
-use Rattle.unlisting.specs.declared.statement.Line.{Line}
+use Rattle.stating.specs.declared.statement.Heard.{Heard}
+use Rattle.stating.specs.declared.statement.Heard.the-variants.{Not as NoLine, Begun as LineBegun, Took}
+use Rattle.stating.specs.declared.statement.Line.{Line}
 use Rattle.reading.proofs.Hearings.{hears-one, hears-both, live-word}
 use Rattle.unlisting.proofs.Heads.{live-decimals}
 use Rattle.standing.proofs.Meaning.{means-function, means-main, top-used, top-owed, top-after, sets-behind}

@@ -17,12 +17,13 @@ use Rattle.reading.specs.Cursor.{wordsFrom, spelling}
 use Rattle.reading.specs.Hearing.{hears, hearsOne, onward, Expects, Indents}
 use Rattle.standing.specs.Numbers.{turnedOf}
 use Rattle.standing.specs.Means.{outside, laid, Blocks, Means}
-use Rattle.unlisting.specs.Reads.{ReadsLine, Closes, only, elseAfter, elseLine}
+use Rattle.stating.specs.Statements.{ReadsLine, only}
+use Rattle.unlisting.specs.Lines.{Closes, elseAfter, elseLine}
 use Rattle.standing.specs.declared.state.Standing.{Standing}
 use Rattle.reading.specs.declared.cursor.Reading.{Reading}
 use Rattle.reading.specs.declared.cursor.Reading.the-variants.{Not, Begun, At}
-use Rattle.unlisting.specs.declared.statement.Heard.the-variants.{Not as NoLine, Begun as LineBegun, Took}
-use Rattle.unlisting.specs.declared.statement.Line.{Line}
+use Rattle.stating.specs.declared.statement.Heard.the-variants.{Not as NoLine, Begun as LineBegun, Took}
+use Rattle.stating.specs.declared.statement.Line.{Line}
 use Rattle.unlisting.proofs.Closing.{innermost}
 use Rattle.reading.proofs.Hearings.{hears-one}
 use Rattle.standing.proofs.Meaning.{means-turned, outside-owed, block-used, block-owed, block-depth, block-blocks, sets-behind}

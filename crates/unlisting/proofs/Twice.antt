@@ -20,7 +20,7 @@ use Rattle.rules.specs.Words.{Text}
 use Rattle.rules.specs.Unlisting.{unlisted}
 use Rattle.rules.specs.Promises.{over, Copied, copied, readListingOf}
 use Rattle.listing.specs.Whole.{told}
-use Rattle.unlisting.specs.Reads.{lengthOf}
+use Rattle.unlisting.specs.Lines.{lengthOf}
 
 -- what stands at a buffer's start where it is long enough
 over-sets : (s buffer : List ℕ) → length s ≤ length buffer → sets buffer 0 s ≡ over s buffer

@@ -1,1 +1,1 @@
-pub mod Reads
+pub mod Lines

@@ -1,12 +1,12 @@
 // The reader of listings.
 use crate::lines::finish;
 use crate::lines::read_line;
-use crate::statement::Heard;
 use answers::File;
 use answers::Refusal;
 use answers::WrittenAnswer;
 use reading::words;
 use standing::state::Standing;
+use stating::statement::Heard;
 ghost use mathlib.Core.List.{List};
 ghost use mathlib.Core.Path.{_≡_};
 ghost use Prim.Native.Nat.{ℕ, _≤_};
@@ -17,10 +17,9 @@ ghost use Rattle.answers.specs.Said.{writtenSaid};
 ghost use Rattle.rules.specs.Unlisting.{unlisted};
 ghost use Rattle.rules.specs.Promises.{readListingOf};
 ghost use Rattle.listing.specs.Whole.{told};
-ghost use Rattle.unlisting.specs.Reads.{Stop, lengthOf};
+ghost use Rattle.unlisting.specs.Lines.{Stop, lengthOf};
 
 pub mod lines;
-pub mod statement;
 
 // The lines of the text, one after the other, into a file's buffer: 27 at the first that begins no listing, at the text's end where lines are missing.
 fn read_lines(text: &[u8], out: &mut [u8]) -> WrittenAnswer

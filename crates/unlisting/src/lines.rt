@@ -1,8 +1,5 @@
 // Which line may stand next: the first; a statement of the innermost block, the else that is due, or what may follow once that block has ended; outside blocks a
 // function or main.
-use crate::statement::Heard;
-use crate::statement::Line;
-use crate::statement::statement_line;
 use listing::put::put;
 use reading::cursor::Number;
 use reading::cursor::Reading;
@@ -13,6 +10,9 @@ use reading::words::DECIMALS;
 use rules::words;
 use standing::rows;
 use standing::state::Standing;
+use stating::statement::Heard;
+use stating::statement::Line;
+use stating::statement::statement_line;
 ghost use mathlib.Core.Bool.{true, false};
 ghost use mathlib.Core.List.{[], _∷_};
 ghost use mathlib.Core.Path.{_≡_};
@@ -24,7 +24,8 @@ ghost use Rattle.reading.specs.Cursor.{InLine};
 ghost use Rattle.reading.specs.Hearing.{Onto, NumberOnto};
 ghost use Rattle.standing.specs.Numbers.{freshOf};
 ghost use Rattle.standing.specs.Means.{Means, Stands};
-ghost use Rattle.unlisting.specs.Reads.{Closes, FirstLine, FunctionWords, mostArguments, Arguments, ReadsLine, only, functionsOf, mainsOf, topsOf, elseLine, ReadsAny, Ends};
+ghost use Rattle.stating.specs.Statements.{ReadsLine, only};
+ghost use Rattle.unlisting.specs.Lines.{Closes, FirstLine, FunctionWords, mostArguments, Arguments, functionsOf, mainsOf, topsOf, elseLine, ReadsAny, Ends};
 
 // The two bytes of a length word.
 pub fn put_length(out: &mut [u8], at: usize, n: usize)

@@ -15,8 +15,8 @@ use Rattle.unlisting.proofs.lines.top_line.Reads as top-line-reads
 use Rattle.reading.proofs.cursor.indent.Reads as indent-reads
 use Rattle.standing.proofs.rows.statement_lives.Reads as statement-lives-reads
 use Rattle.standing.proofs.state.Standing.closed.Reads as closed-reads
-use Rattle.unlisting.proofs.statement.Line.begun.Reads as begun-reads
-use Rattle.unlisting.proofs.statement.statement_line.Reads as statement-line-reads
+use Rattle.stating.proofs.statement.Line.begun.Reads as begun-reads
+use Rattle.stating.proofs.statement.statement_line.Reads as statement-line-reads
 
 abbrev Inv-loop : tie.InvT-loop
 Inv-loop text at end stop out₀ c₀ out c = (length out ≡ length out₀) × Reaches text at end stop c₀ out₀ c out

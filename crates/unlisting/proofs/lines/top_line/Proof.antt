@@ -1,7 +1,7 @@
 -- A function's line is asked for first, then main's; in main there is neither.
 use mathlib.Core.Path.{ap}
 use denote.Enum.Declared.{tagOf}
-use Rattle.unlisting.proofs.statement.Heard.{the-type}
+use Rattle.stating.proofs.statement.Heard.{the-type}
 use Rattle.unlisting.proofs.Tops.{one-of-two, nothing-in-main, main-after, function-stays}
 use borrow.Author.Needs.{needs}
 use Rattle.unlisting.proofs.lines.top_line.Statement.{statement}

@@ -4,11 +4,11 @@ use native.Mathlib.Omega.{arith}
 use borrow.Author.Needs.{needs}
 use borrow.Author.Tests.{not-true, not-false}
 use Rattle.reading.specs.Hearing.{Onto}
-use Rattle.unlisting.proofs.Listed.{onto-then}
-use Rattle.unlisting.proofs.Called.{lists-full, lists-not, lists-begun, lists-read}
+use Rattle.stating.proofs.Listed.{onto-then}
+use Rattle.stating.proofs.Called.{lists-full, lists-not, lists-begun, lists-read}
 use Rattle.standing.proofs.Lives.{most-k, most-m}
-use Rattle.unlisting.proofs.statement.read_lists.Statement.{statement}
-use Rattle.unlisting.proofs.statement.read_lists.Tie as tie
+use Rattle.stating.proofs.statement.read_lists.Statement.{statement}
+use Rattle.stating.proofs.statement.read_lists.Tie as tie
 
 unwritten-requires : tie.Need-unwritten-requires
 unwritten-requires c κs = search needs

@@ -4,9 +4,9 @@ use native.Mathlib.Omega.{arith}
 use Prim.Native.Nat.{_-_, _≤_}
 use borrow.Author.Needs.{needs}
 use Rattle.reading.specs.Hearing.{Numbers, Onto, NumberOnto}
-use Rattle.unlisting.proofs.Listed.{NumbersRead, numbers-length, numbers-none, numbers-next, numbers-not, numbers-begun, numbers-all}
-use Rattle.unlisting.proofs.statement.read_numbers.Statement.{statement}
-use Rattle.unlisting.proofs.statement.read_numbers.Tie as tie
+use Rattle.stating.proofs.Listed.{NumbersRead, numbers-length, numbers-none, numbers-next, numbers-not, numbers-begun, numbers-all}
+use Rattle.stating.proofs.statement.read_numbers.Statement.{statement}
+use Rattle.stating.proofs.statement.read_numbers.Tie as tie
 
 abbrev Inv-loop : tie.InvT-loop
 Inv-loop text from end stop n limit out₀ i at₀ j₀ out at j =

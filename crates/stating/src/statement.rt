@@ -23,7 +23,7 @@ ghost use Rattle.reading.specs.Cursor.{InLine, spelling};
 ghost use Rattle.reading.specs.Hearing.{Onto};
 ghost use Rattle.standing.specs.Numbers.{fitsOf};
 ghost use Rattle.standing.specs.Means.{Means};
-ghost use Rattle.unlisting.specs.Reads.{ReadsNumbers, ReadsList, ReadsLists, ReadsOperands, BehindOperands, ReadsLine, only};
+ghost use Rattle.stating.specs.Statements.{ReadsNumbers, ReadsList, ReadsLists, ReadsOperands, BehindOperands, ReadsLine, only};
 
 // What became of a line, and the program behind it where it was read.
 pub struct Line {

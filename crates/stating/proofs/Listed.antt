@@ -21,7 +21,7 @@ use Rattle.rules.specs.Unlisting.{count, wordsFor, Sofar, operand, others, list
 use Rattle.rules.proofs.Basics.{length-upTo}
 use Rattle.reading.specs.Cursor.{wordsFrom}
 use Rattle.reading.specs.Hearing.{Hearing, hears, onward, numbered, Expects, Numbers, Onto}
-use Rattle.unlisting.specs.Reads.{Put, Took-bytes, ReadsNumbers, ReadsList}
+use Rattle.stating.specs.Statements.{Put, Took-bytes, ReadsNumbers, ReadsList}
 use Rattle.reading.specs.declared.cursor.Reading.{Reading}
 use Rattle.reading.specs.declared.cursor.Reading.the-variants.{Not, Begun, At}
 use Rattle.reading.specs.declared.cursor.Number.{Number}

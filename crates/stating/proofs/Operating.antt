@@ -25,7 +25,7 @@ use Rattle.reading.specs.Cursor.{part, wordsFrom, below, Valued}
 use Rattle.reading.specs.Hearing.{Hearing, not, begun, hears, NextWord}
 use Rattle.standing.specs.Numbers.{countOf, unwrittenOf, operandBegins}
 use Rattle.standing.specs.Means.{Means}
-use Rattle.unlisting.specs.Reads.{OperandsAs, ReadsOperands}
+use Rattle.stating.specs.Statements.{OperandsAs, ReadsOperands}
 use Rattle.standing.specs.From.{fromOperand}
 use Rattle.standing.specs.declared.state.Standing.{Standing}
 use Rattle.reading.specs.declared.cursor.Reading.the-variants.{Not, Begun, At}
@@ -34,7 +34,7 @@ use Rattle.reading.specs.declared.cursor.Word.the-variants.{Nothing as NoWord, 
 use Rattle.reading.proofs.Hearings.{hears-ask, hears-nothing}
 use Rattle.standing.proofs.Thirteen.{row-size, row-operand}
 use Rattle.standing.proofs.Lives.{count-is, count-most, unwritten-k, unwritten-m, operand-begins}
-use Rattle.unlisting.proofs.Listed.{operand-asks}
+use Rattle.stating.proofs.Listed.{operand-asks}
 
 -- only a call has operands that are not written, and those are its last two
 abbrev quietBy : ℕ → ℕ → Bool → Bool → Bool

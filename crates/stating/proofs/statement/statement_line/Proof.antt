@@ -5,10 +5,10 @@ use native.Mathlib.Omega.{arith}
 use borrow.Author.Needs.{needs}
 use borrow.Author.Tests.{not-true, not-false}
 use Rattle.reading.specs.Hearing.{NextWord, Onto}
-use Rattle.unlisting.proofs.Stating.{line-nothing, line-begun, line-unbegun, line-unknown, line-unfit, line-operands-not}
-use Rattle.unlisting.proofs.Stating.{line-operands-begun, callee-there, line-statement}
-use Rattle.unlisting.proofs.statement.statement_line.Statement.{statement}
-use Rattle.unlisting.proofs.statement.statement_line.Tie as tie
+use Rattle.stating.proofs.Stating.{line-nothing, line-begun, line-unbegun, line-unknown, line-unfit, line-operands-not}
+use Rattle.stating.proofs.Stating.{line-operands-begun, callee-there, line-statement}
+use Rattle.stating.proofs.statement.statement_line.Statement.{statement}
+use Rattle.stating.proofs.statement.statement_line.Tie as tie
 
 -- from a name that was looked for: the word that it is, and the start
 abbrev word-of : tie.After-kind-named → tie.After-to

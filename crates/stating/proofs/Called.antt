@@ -17,12 +17,12 @@ use Rattle.reading.specs.Cursor.{wordsFrom, spelling}
 use Rattle.reading.specs.Hearing.{not, took, hears}
 use Rattle.standing.specs.Numbers.{roomOf, unwrittenOf}
 use Rattle.standing.specs.Means.{Means}
-use Rattle.unlisting.specs.Reads.{Took-bytes, ReadsList, ReadsLists}
+use Rattle.stating.specs.Statements.{Took-bytes, ReadsList, ReadsLists}
 use Rattle.standing.specs.declared.state.Standing.{Standing}
 use Rattle.reading.specs.declared.cursor.Reading.{Reading}
 use Rattle.reading.specs.declared.cursor.Reading.the-variants.{Not, Begun, At}
 use Rattle.reading.proofs.Hearings.{live-word}
-use Rattle.unlisting.proofs.Listed.{live-numbers, took-same, took-then}
+use Rattle.stating.proofs.Listed.{live-numbers, took-same, took-then}
 use Rattle.standing.proofs.Lives.{room-is}
 use Rattle.reading.proofs.Spellings.{spelling-word}
 

@@ -16,22 +16,22 @@ use Rattle.reading.specs.Cursor.{part, wordsFrom, named, Named}
 use Rattle.reading.specs.Hearing.{Hearing, not, begun, hears, hearsOne, NextWord}
 use Rattle.standing.specs.Numbers.{fitsOf, nameBegins}
 use Rattle.standing.specs.Means.{laid, Means}
-use Rattle.unlisting.specs.Reads.{PutOperands, OperandsAs, ReadsOperands, BehindOperands, LineAs, ReadsLine, only}
+use Rattle.stating.specs.Statements.{PutOperands, OperandsAs, ReadsOperands, BehindOperands, LineAs, ReadsLine, only}
 use Rattle.standing.specs.declared.state.Standing.{Standing}
 use Rattle.reading.specs.declared.cursor.Reading.{Reading}
 use Rattle.reading.specs.declared.cursor.Reading.the-variants.{Not, Begun, At}
 use Rattle.reading.specs.declared.cursor.Word.{Word}
 use Rattle.reading.specs.declared.cursor.Word.the-variants.{Nothing as NoWord, Unfinished, To}
-use Rattle.unlisting.specs.declared.statement.Heard.{Heard}
-use Rattle.unlisting.specs.declared.statement.Heard.the-variants.{Not as NoLine, Begun as LineBegun}
-use Rattle.unlisting.specs.declared.statement.Line.{Line}
-use Rattle.unlisting.specs.declared.statement.Operands.{Operands}
+use Rattle.stating.specs.declared.statement.Heard.{Heard}
+use Rattle.stating.specs.declared.statement.Heard.the-variants.{Not as NoLine, Begun as LineBegun}
+use Rattle.stating.specs.declared.statement.Line.{Line}
+use Rattle.stating.specs.declared.statement.Operands.{Operands}
 use Rattle.reading.proofs.Hearings.{hears-ask, hears-nothing, hears-one}
 use Rattle.standing.proofs.Thirteen.{row-there}
 use Rattle.standing.proofs.Lives.{name-begins, row-fits, row-unfit}
 use Rattle.standing.proofs.Meaning.{sets-behind}
-use Rattle.unlisting.proofs.Called.{hears-dead}
-use Rattle.unlisting.proofs.Behind.{line-same}
+use Rattle.stating.proofs.Called.{hears-dead}
+use Rattle.stating.proofs.Behind.{line-same}
 
 module _ (t : Text) (at end stop : ℕ) (c : Standing) (before : List ℕ) (w : Word) (next : NextWord t at end stop w) where
   -- what the line is alone

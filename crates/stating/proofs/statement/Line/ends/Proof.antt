@@ -4,11 +4,11 @@ use mathlib.Core.Path.{sym, ap, _∙_}
 use borrow.Author.Needs.{needs}
 use borrow.Author.Tests.{lt-ltb, le-ltb}
 use Rattle.rules.specs.Basics.{chosen}
-use Rattle.unlisting.specs.declared.statement.Heard.the-variants.{Not, Took}
-use Rattle.unlisting.specs.declared.statement.Line.{Line}
+use Rattle.stating.specs.declared.statement.Heard.the-variants.{Not, Took}
+use Rattle.stating.specs.declared.statement.Line.{Line}
 use Rattle.standing.specs.declared.state.Standing.{Standing}
-use Rattle.unlisting.proofs.statement.Line.ends.Statement.{statement}
-use Rattle.unlisting.proofs.statement.Line.ends.Tie as tie
+use Rattle.stating.proofs.statement.Line.ends.Statement.{statement}
+use Rattle.stating.proofs.statement.Line.ends.Tie as tie
 
 abbrev line : Standing → Bool → Line
 line state b = record { said = chosen b Took Not; state = state }

@@ -1,9 +1,9 @@
 -- The line ends behind the operands of every statement but a call; a call's lists follow.
 use native.Mathlib.Omega.{arith}
 use borrow.Author.Needs.{needs}
-use Rattle.unlisting.proofs.Behind.{if-deep, while-deep, behind-if, behind-while, behind-plain, behind-not, behind-begun, behind-call}
-use Rattle.unlisting.proofs.statement.behind_operands.Statement.{statement}
-use Rattle.unlisting.proofs.statement.behind_operands.Tie as tie
+use Rattle.stating.proofs.Behind.{if-deep, while-deep, behind-if, behind-while, behind-plain, behind-not, behind-begun, behind-call}
+use Rattle.stating.proofs.statement.behind_operands.Statement.{statement}
+use Rattle.stating.proofs.statement.behind_operands.Tie as tie
 
 add-put : tie.Need-add-put
 add-put c = search needs

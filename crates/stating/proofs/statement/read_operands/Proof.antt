@@ -8,11 +8,11 @@ use lib.ListN.{length}
 use borrow.Author.Needs.{needs}
 use Rattle.reading.specs.Hearing.{NextWord, Onto}
 use Rattle.standing.proofs.Counted.{first-now, first-before}
-use Rattle.unlisting.proofs.Operating.{written-first, silent-call, Facing, facing, OperandsRead, operands-none, operands-length, first-small}
-use Rattle.unlisting.proofs.Operating.{operands-not, operands-begun, operands-unbegun, operands-above, operands-word}
-use Rattle.unlisting.proofs.Operating.{operands-silent, operands-as, operands-all}
-use Rattle.unlisting.proofs.statement.read_operands.Statement.{statement}
-use Rattle.unlisting.proofs.statement.read_operands.Tie as tie
+use Rattle.stating.proofs.Operating.{written-first, silent-call, Facing, facing, OperandsRead, operands-none, operands-length, first-small}
+use Rattle.stating.proofs.Operating.{operands-not, operands-begun, operands-unbegun, operands-above, operands-word}
+use Rattle.stating.proofs.Operating.{operands-silent, operands-as, operands-all}
+use Rattle.stating.proofs.statement.read_operands.Statement.{statement}
+use Rattle.stating.proofs.statement.read_operands.Tie as tie
 
 abbrev Inv-loop : tie.InvT-loop
 Inv-loop text from end stop b c out₀ size used at₀ first₀ n₀ out at first n =

@@ -3,9 +3,9 @@ use mathlib.Core.Path.{subst}
 use native.Mathlib.Omega.{arith}
 use borrow.Author.Needs.{needs}
 use Rattle.reading.specs.Hearing.{Expects, Onto}
-use Rattle.unlisting.proofs.Listed.{onto-then, list-none, list-not, list-begun, list-read}
-use Rattle.unlisting.proofs.statement.read_list.Statement.{statement}
-use Rattle.unlisting.proofs.statement.read_list.Tie as tie
+use Rattle.stating.proofs.Listed.{onto-then, list-none, list-not, list-begun, list-read}
+use Rattle.stating.proofs.statement.read_list.Statement.{statement}
+use Rattle.stating.proofs.statement.read_list.Tie as tie
 
 returns : tie.Need-returns
 unfolding Onto

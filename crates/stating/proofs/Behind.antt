@@ -21,18 +21,18 @@ use Rattle.reading.specs.Cursor.{wordsFrom}
 use Rattle.reading.specs.Hearing.{Hearing, took, hears, Onto}
 use Rattle.standing.specs.Numbers.{addedOf, openedOf, blockBytes, roomOf, fitsOf, unwrittenOf}
 use Rattle.standing.specs.Means.{outside, laid, Means}
-use Rattle.unlisting.specs.Reads.{Put, Took-bytes, LineAs, ReadsLists, BehindOperands}
+use Rattle.stating.specs.Statements.{Put, Took-bytes, LineAs, ReadsLists, BehindOperands}
 use Rattle.standing.specs.declared.state.Standing.{Standing}
 use Rattle.reading.specs.declared.cursor.Reading.{Reading}
 use Rattle.reading.specs.declared.cursor.Reading.the-variants.{Not, Begun, At}
-use Rattle.unlisting.specs.declared.statement.Heard.{Heard}
-use Rattle.unlisting.specs.declared.statement.Heard.the-variants.{Not as NoLine, Begun as LineBegun, Took}
-use Rattle.unlisting.specs.declared.statement.Line.{Line}
+use Rattle.stating.specs.declared.statement.Heard.{Heard}
+use Rattle.stating.specs.declared.statement.Heard.the-variants.{Not as NoLine, Begun as LineBegun, Took}
+use Rattle.stating.specs.declared.statement.Line.{Line}
 use Rattle.reading.proofs.Hearings.{hears-end, hears-more}
 use Rattle.standing.proofs.Thirteen.{row-size}
 use Rattle.reading.proofs.Spellings.{no-words, some-words}
 use Rattle.standing.proofs.Meaning.{means-added, means-opened, sets-behind}
-use Rattle.unlisting.proofs.Called.{callBytes, call-room}
+use Rattle.stating.proofs.Called.{callBytes, call-room}
 
 -- the same line
 pub line-same : (h g : Hearing Sofar) (D : List ℕ) (r : Heard) (c : Standing) (after : List ℕ) → h ≡ g → LineAs g D r c after → LineAs h D r c after

@@ -137,7 +137,8 @@ module _ (t : Text) (at end stop depth : ℕ) where
         → hears (ltb end stop) (awaits (2 * depth - n) g) ws ≡ h → hears (ltb end stop) (indent depth g) (wordsFrom t at end) ≡ h
     heard g ws h e q = P .same g ∙ ap (hears (ltb end stop) (awaits (2 * depth - n) g)) e ∙ q
 
-    pub indents-nothing : (lives : Bool) → n < 2 * depth → (w : Word) → NextWord t p end stop w → w ≡ Nothing → Indents t at end stop depth lives Not
+    pub indents-nothing : (lives : Bool) → n < 2 * depth → (w : Word) → NextWord t p end stop w → w ≡ Nothing
+        → Indents t at end stop depth lives Not
     unfolding NextWord Indents
     indents-nothing lives l Nothing h e = λ g k. heard g [] not h (awaits-nothing (ltb end stop) (2 * depth - n) g (omega arith))
     indents-nothing lives l Unfinished h e = absurd (let z : _≡_ {A = ℕ} 0 1 = cc in omega arith)

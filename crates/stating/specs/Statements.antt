@@ -104,7 +104,8 @@ unfoldable pub ReadsLists : Text → ℕ → ℕ → ℕ → ℕ → Standing �
 ReadsLists t at end stop first c before r after =
     (p : Sofar) → Means c p → (bs : List ℕ) → bs ≡ 12 ∷ first ∷ unwrittenOf c CalleeK first ∷ unwrittenOf c CalleeM first ∷ []
     → Took-bytes (hears (ltb end stop) (made p calls bs) (wordsFrom t at end)) before (c .used + 4)
-    (λ xs q. hears (ltb end stop) (grammar.stop (some (added p (bs ++ xs)))) (wordsFrom t q end)) (unwrittenOf c CalleeK first + unwrittenOf c CalleeM first) r after
+    (λ xs q. hears (ltb end stop) (grammar.stop (some (added p (bs ++ xs)))) (wordsFrom t q end))
+    (unwrittenOf c CalleeK first + unwrittenOf c CalleeM first) r after
 
 -- What a statement makes of the program: the buffer holds its byte and operands, bs, behind the program's bytes.
 unfoldable pub BehindOperands : Text → ℕ → ℕ → ℕ → ℕ → ℕ → Standing → List ℕ → Line → List ℕ → Type 0

@@ -238,7 +238,8 @@ fn behind_operands(
     c: Standing,
     out: &mut [u8],
 ) -> Line
-    requires { ⌜ InLine (now text) at end stop × ((p : Sofar) × Means c p) × (0 < b) × (b < 14) × (fitsOf c b ≡ true) × (b ≡ 12 → first < c .callees) ⌝ }
+    requires { ⌜ InLine (now text) at end stop × ((p : Sofar) × Means c p) × (0 < b) × (b < 14) × (fitsOf c b ≡ true)
+        × (b ≡ 12 → first < c .callees) ⌝ }
     ensures { λ r. ⌜ BehindOperands (now (text .entry)) at end stop b first c (now (out .entry)) r (now (out .exit)) ⌝ }
 {
     match b {

@@ -49,7 +49,8 @@ module _ (whole : Bool) where
       ∙ ap (λ (n : ℕ). hears whole (indent d g) (blanks n ws)) q ∙ hears-blank d e g ws
 
   -- a word is asked for where a blank one stands
-  no-blank : (vs : List Text) (k : ℕ → Grammar Sofar) (e : ℕ) (ws : List Text) → place [] vs ≡ none → hears whole (ask none vs k) (blanks (suc e) ws) ≡ not
+  no-blank : (vs : List Text) (k : ℕ → Grammar Sofar) (e : ℕ) (ws : List Text) → place [] vs ≡ none
+      → hears whole (ask none vs k) (blanks (suc e) ws) ≡ not
   no-blank vs k e ws h =
       hears-ask whole none vs k [] ([] ∷ blanks e ws) (further whole [] (blanks e ws)) ∙ go (place [] vs) h
     where
@@ -61,7 +62,9 @@ module _ (whole : Bool) where
   unfolding hearsOne
   functions-not fs F e ws = go (leb (12 + length F) 4096) (ltb (length fs) 15)
     where
-      go : (a b : Bool) → hearsOne {A = Sofar} whole (elim a [ true ↦ elim b [ true ↦ functionLine fs F ∷ [] | false ↦ [] ] | false ↦ [] ]) (blanks (suc e) ws) ≡ not
+      go : (a b : Bool)
+          → hearsOne {A = Sofar} whole (elim a [ true ↦ elim b [ true ↦ functionLine fs F ∷ [] | false ↦ [] ] | false ↦ [] ]) (blanks (suc e) ws)
+          ≡ not
       go true true = hears-one whole (functionLine fs F) (blanks (suc e) ws) ∙ no-blank (function ∷ []) _ e ws refl
       go true false = refl
       go false b = refl

@@ -95,8 +95,9 @@ module _ (t : Text) (out₀ : List ℕ) where
   unfolding Stands
   followed-none c e = record { state = fresh; stands = e; same = refl; stand = refl }
 
-  module _ (at : ℕ) (c : Standing) (out : List ℕ) (F : Followed at c out) (l : at < length t) (end stop : ℕ) (in₁ : at ≤ end) (in₂ : end ≤ length t)
-      (L : LineEnd t at end) (S : Stop t end stop) (line : Line) (after : List ℕ) (R : ReadsAny t at end stop c out line after) where
+  module _ (at : ℕ) (c : Standing) (out : List ℕ) (F : Followed at c out) (l : at < length t) (end stop : ℕ) (in₁ : at ≤ end)
+      (in₂ : end ≤ length t) (L : LineEnd t at end) (S : Stop t end stop) (line : Line) (after : List ℕ)
+      (R : ReadsAny t at end stop c out line after) where
     abbrev σ : State
     σ = F .state
 
@@ -169,7 +170,8 @@ module _ (t : Text) (out₀ : List ℕ) where
     pub refused-line : line .said ≡ Not → (r : WrittenAnswer) → r ≡ Refused (inFile Listing (refusal 27 at)) → (o : List ℕ) → Promised r o
     refused-line e r q o = promised-no at (line-no e) r q o
 
-    pub refused-last : line .said ≡ Begun → (r : WrittenAnswer) → r ≡ Refused (inFile Listing (refusal 27 (length t))) → (o : List ℕ) → Promised r o
+    pub refused-last : line .said ≡ Begun → (r : WrittenAnswer) → r ≡ Refused (inFile Listing (refusal 27 (length t))) → (o : List ℕ)
+        → Promised r o
     refused-last e r q o = promised-no (length t) (line-starts e) r q o
 
     -- a line that was taken is whole, so that the next one begins further on

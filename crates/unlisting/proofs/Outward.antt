@@ -120,7 +120,8 @@ module _ (t : Text) (at end stop : ℕ) (from : Standing) (entry : List ℕ) whe
         let X : Reached c out p₀ = R p₀ M in
         let p : Sofar = X .program in
         let I : Innermost c p = innermost c p (X .means) h in
-        let blank : ws ≡ blanks (suc (length (I .blocks))) (wordsFrom t q′ end) = subst (λ (d : ℕ). ws ≡ blanks d (wordsFrom t q′ end)) (I .depth) b in
+        let blank : ws ≡ blanks (suc (length (I .blocks))) (wordsFrom t q′ end) =
+        subst (λ (d : ℕ). ws ≡ blanks d (wordsFrom t q′ end)) (I .depth) b in
         let is : hearsOne whole (lines (sofar p₀)) ws ≡ hearsOne whole (only statementLine p) (wordsFrom t q end) =
         X .same ∙ a-statement whole p (I .block) (I .blocks) (I .are) ws (wordsFrom t q′ end) blank (said p (X .means) I (At q′) i)
         ∙ ap (λ (k : ℕ). hearsOne whole (only statementLine p) (wordsFrom t k end)) z in
@@ -129,7 +130,8 @@ module _ (t : Text) (at end stop : ℕ) (from : Standing) (entry : List ℕ) whe
     line-statement Begun q e i b line after reads p₀ D M s = absurd (let z : _≡_ {A = ℕ} 0 1 = cc in omega arith)
 
     -- an unfinished line that begins one
-    pub line-begun : (r : Reading) → r ≡ Begun → Indents t at end stop (c .depth) lives r → (line : Line) → line ≡ record { said = LineBegun; state = c }
+    pub line-begun : (r : Reading) → r ≡ Begun → Indents t at end stop (c .depth) lives r
+        → (line : Line) → line ≡ record { said = LineBegun; state = c }
         → (after : List ℕ) (p₀ : Sofar) (D : List ℕ) → Means from p₀ → entry ≡ sets D 6 (laid p₀)
         → LineAs (hearsOne whole (lines (sofar p₀)) ws) D (line .said) (line .state) after
     unfolding LineAs

@@ -46,7 +46,8 @@ module _ (t : Text) (buffer : List ℕ) (r : WrittenAnswer) (said : writtenSaid 
       go (refused y) q = ap (λ (a : Check ℕ). answered a buffer) q
 
   -- 24
-  pub counted-short : (n : ℕ) (x : Refusal) → r ≡ Written n → length buffer < n → x ≡ refusal 24 0 → told (Refused x) buffer ≡ readListingOf t buffer
+  pub counted-short : (n : ℕ) (x : Refusal) → r ≡ Written n → length buffer < n → x ≡ refusal 24 0
+      → told (Refused x) buffer ≡ readListingOf t buffer
   unfolding lengthOf _>>=_ _>>_
   counted-short n x e l f = go (unlisted t) (ap writtenSaid (sym e) ∙ said)
     where

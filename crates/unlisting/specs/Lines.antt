@@ -54,7 +54,9 @@ Closes c before after =
 
 -- the first line
 unfoldable pub FirstLine : Text → ℕ → ℕ → ℕ → Line → Type 0
-FirstLine t at end stop r = (D after : List ℕ) → after ≡ D → LineAs (hearsOne (ltb end stop) (lines fresh) (wordsFrom t at end)) D (r .said) (r .state) after
+FirstLine t at end stop r =
+    (D after : List ℕ) → after ≡ D
+    → LineAs (hearsOne (ltb end stop) (lines fresh) (wordsFrom t at end)) D (r .said) (r .state) after
 
 -- the words of a function's line before its numbers
 unfoldable pub FunctionWords : Text → ℕ → ℕ → ℕ → ℕ → Reading → Type 0

@@ -1,5 +1,5 @@
-// Which line may stand next: the first; a statement of the innermost block, the else that is due, or what may follow once that block has ended; outside blocks a
-// function or main.
+// Which line may stand next: the first; a statement of the innermost block, the else that is due, or what may follow once that block has ended;
+// outside blocks a function or main.
 use listing::put::put;
 use reading::cursor::Number;
 use reading::cursor::Reading;
@@ -25,7 +25,8 @@ ghost use Rattle.reading.specs.Hearing.{Onto, NumberOnto};
 ghost use Rattle.standing.specs.Numbers.{freshOf};
 ghost use Rattle.standing.specs.Means.{Means, Stands};
 ghost use Rattle.stating.specs.Statements.{ReadsLine, only};
-ghost use Rattle.unlisting.specs.Lines.{Closes, FirstLine, FunctionWords, mostArguments, Arguments, functionsOf, mainsOf, topsOf, elseLine, ReadsAny, Ends};
+ghost use Rattle.unlisting.specs.Lines.{Closes, FirstLine, FunctionWords, mostArguments, Arguments};
+ghost use Rattle.unlisting.specs.Lines.{functionsOf, mainsOf, topsOf, elseLine, ReadsAny, Ends};
 
 // The two bytes of a length word.
 pub fn put_length(out: &mut [u8], at: usize, n: usize)

@@ -89,6 +89,11 @@ fn too_many_lines(timed: &mut Timed) {
     let deep = format!("program 1\nmain\n{whiles}");
     timed.refused("10 MB of lines `free 0` at depth 8", &behind(&deep, "                free 0\n"), deep.len() + 23 * (4_060 / 2));
     timed.refused("10 MB of lines `while 0` at depth 8", &behind(&deep, "                while 0\n"), deep.len());
+    // A line that never ends is looked at for each open block, and as a function and as main.
+    let open = format!("{head}{whiles}");
+    for piece in ["a", "1234567890", " "] {
+        timed.refused(&format!("eight blocks open and 10 MB of {piece}"), &behind(&open, piece), open.len());
+    }
     let functions: String = (0..15).map(|i| format!("function {i} locations 0 arguments 0\n")).collect();
     let all = format!("program 1\n{functions}");
     timed.refused("fifteen functions and 10 MB of more", &behind(&all, "function 15 locations 0 arguments 0\n"), all.len());

@@ -12,7 +12,7 @@ use Rattle.rules.specs.Words.{Text}
 use Rattle.rules.specs.Grammar.{Grammar, word, live}
 use Rattle.rules.specs.Unlisting.{Sofar, indent}
 use Rattle.reading.specs.Cursor.{part, wordsFrom}
-use Rattle.reading.specs.Hearing.{Hearing, not, begun, hears, onward, Further, NextWord, Indents, Onto, Blank, blanks}
+use Rattle.reading.specs.Hearing.{Hearing, not, begun, hears, Further, NextWord, Indents, Onto, Blank, blanks}
 use Rattle.reading.specs.declared.cursor.Word.{Word}
 use Rattle.reading.specs.declared.cursor.Word.the-variants.{Nothing, Unfinished, To}
 use Rattle.reading.specs.declared.cursor.Reading.the-variants.{Not, Begun, At}

@@ -3,7 +3,7 @@
 use mathlib.Core.Bool.{Bool, true, false}
 use mathlib.Core.List.{List, [], _∷_}
 use mathlib.Core.Logic.{_⊎_}
-use mathlib.Core.Option.{Option, none, some}
+use mathlib.Core.Option.{none, some}
 use mathlib.Core.Path.{_≡_}
 use Prim.Native.Nat.{ℕ, zero, suc, _+_, _<_, _≤_}
 use lib.Dec.{ltb}
@@ -11,7 +11,7 @@ use Rattle.rules.specs.Basics.{chosen, upTo}
 use Rattle.rules.specs.Words.{Text, decimal}
 use Rattle.rules.specs.Grammar.{Grammar, ask, word, takes, starts, live}
 use Rattle.rules.specs.Unlisting.{Sofar, indent}
-use Rattle.reading.specs.Cursor.{part, wordsFrom, spelling}
+use Rattle.reading.specs.Cursor.{part, wordsFrom}
 use Rattle.reading.specs.declared.cursor.Reading.{Reading}
 use Rattle.reading.specs.declared.cursor.Reading.the-variants.{Not, Begun, At}
 use Rattle.reading.specs.declared.cursor.Word.{Word}

@@ -1,10 +1,10 @@
 -- The numbers of the code stand for a state of the reader, and the bytes in the buffer are those of the program so far: a block's length word is 0 until
 -- the block has ended.
-use mathlib.Core.Bool.{Bool, true, false}
+use mathlib.Core.Bool.{true, false}
 use mathlib.Core.List.{List, [], _∷_, _++_}
 use mathlib.Core.Option.{Option, none, some}
 use mathlib.Core.Path.{_≡_}
-use Prim.Native.Nat.{ℕ, suc, _+_, _<_, _≤_}
+use Prim.Native.Nat.{ℕ, _+_, _<_, _≤_}
 use lib.ListN.{getD, length}
 use Rattle.rules.specs.Syntax.{Function, function}
 use Rattle.rules.specs.Unlisting.{Opened, Sofar, State, fresh, sofar, least}

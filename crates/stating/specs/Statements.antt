@@ -1,7 +1,7 @@
 -- What is promised of a line, and of each part of a statement's line.
 use mathlib.Core.Bool.{true, false}
 use mathlib.Core.List.{List, [], _∷_, _++_}
-use mathlib.Core.Option.{none, some}
+use mathlib.Core.Option.{some}
 use mathlib.Core.Path.{_≡_}
 use Prim.Native.Nat.{ℕ, _+_, _<_}
 use lib.Dec.{ltb}
@@ -14,7 +14,7 @@ use Rattle.rules.specs.Table.{Row, rowOf, calls}
 use Rattle.rules.specs.Program.{Scope}
 use Rattle.rules.specs.Listing.{spoken, silent}
 use Rattle.rules.specs.Grammar as grammar
-use Rattle.rules.specs.Grammar.{Grammar, word, live}
+use Rattle.rules.specs.Grammar.{Grammar, live}
 use Rattle.rules.specs.Unlisting.{count, Sofar, added, others, operands, list, made}
 use Rattle.reading.specs.Cursor.{wordsFrom}
 use Rattle.reading.specs.Hearing.{Hearing, not, begun, took, hears, hearsOne}

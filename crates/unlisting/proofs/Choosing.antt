@@ -1,35 +1,26 @@
 -- Which line it is. The lines that may follow are offered from the innermost block outwards; where a line has a block's indent, none of those outside it is
 -- the line, since each of them would have a word where the indent goes on.
 use mathlib.Core.Bool.{Bool, true, false}
-use mathlib.Core.List.{List, [], _∷_, _++_, append-nil}
+use mathlib.Core.List.{List, [], _∷_, _++_}
 use mathlib.Core.Logic.{inr}
 use mathlib.Core.Option.{Option, none, some}
-use mathlib.Core.Path.{_≡_, refl, sym, ap, subst, _∙_}
+use mathlib.Core.Path.{_≡_, refl, sym, ap, _∙_}
 use native.Mathlib.Omega.{arith}
-use Prim.Native.Nat.{ℕ, zero, suc, _+_, _-_, _<_, _≤_}
+use Prim.Native.Nat.{ℕ, zero, suc, _+_}
 use lib.Dec.{ltb, leb}
-use lib.ListN.{getD, length}
-use lib.Seq.{sets}
+use lib.ListN.{length}
 use Rattle.rules.specs.Syntax.{Function}
 use Rattle.rules.specs.Program.{Scope}
-use Rattle.rules.specs.Words.{Text, decimal, place}
+use Rattle.rules.specs.Words.{Text, place}
 use Rattle.rules.specs.Names.{function, main, else}
 use Rattle.rules.specs.Table.{names}
-use Rattle.rules.specs.Grammar.{Grammar, stop, ask, word, live}
-use Rattle.rules.specs.Unlisting.{Opened, Sofar, State, fresh, sofar, sized, indent, statementLine, functionLine, functionLines, mainLine, topLines}
+use Rattle.rules.specs.Grammar.{Grammar, stop, ask, word}
+use Rattle.rules.specs.Unlisting.{Opened, Sofar, sofar, sized, indent, statementLine, functionLine, functionLines, mainLine, topLines}
 use Rattle.rules.specs.Unlisting.{elseBegun, linesAfter, lines}
-use Rattle.reading.specs.Cursor.{wordsFrom}
-use Rattle.reading.specs.Hearing.{Hearing, not, begun, took, hears, hearsOne, Further, Indents, Blank, blanks}
-use Rattle.standing.specs.declared.state.Standing.{Standing}
-use Rattle.reading.specs.declared.cursor.Reading.{Reading}
-use Rattle.reading.specs.declared.cursor.Reading.the-variants.{Not, Begun, At}
-use Rattle.standing.specs.Numbers.{freshOf, closedOf, statementLives}
-use Rattle.standing.specs.Means.{outside, laid, Means, Stands}
+use Rattle.reading.specs.Hearing.{Hearing, not, begun, hears, hearsOne, Further, blanks}
 use Rattle.stating.specs.Statements.{only}
 use Rattle.unlisting.specs.Lines.{elseAfter, elseLine}
 use Rattle.reading.proofs.Hearings.{hears-ask, hears-word, hears-one, hears-others, hears-first, hears-begun, hears-both}
-use Rattle.standing.proofs.Lives.{statement-lives}
-use Rattle.standing.proofs.Meaning.{means-closed}
 
 -- more words follow a blank one
 further : (whole : Bool) (v : Text) (vs : List Text) → Further whole (v ∷ vs)

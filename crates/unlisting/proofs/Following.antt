@@ -1,11 +1,11 @@
 -- The loop over lines goes along the definition: each line that was taken leads to the next state, the first that was not is refused at its start, and an
 -- unfinished one that begins a line at the text's end.
-use mathlib.Core.Bool.{Bool, true, false, false≢true}
+use mathlib.Core.Bool.{Bool, true, false}
 use mathlib.Core.List.{List, [], _∷_}
 use mathlib.Core.Option.{Option, none, some}
 use mathlib.Core.Path.{_≡_, refl, sym, ap, subst, _∙_}
 use native.Mathlib.Omega.{arith}
-use Prim.Native.Nat.{ℕ, suc, _+_, _-_, _<_, _≤_}
+use Prim.Native.Nat.{ℕ, suc, _+_, _<_, _≤_}
 use borrow.Author.Tests.{ltb-true, ltb-false, le-leb}
 use lib.Dec.{ltb, leb}
 use lib.ListN.{getD, length, drop, drop-of-length-le}
@@ -17,8 +17,8 @@ use Rattle.answers.specs.declared.WrittenAnswer.{WrittenAnswer}
 use Rattle.answers.specs.declared.WrittenAnswer.the-variants.{Written, Refused}
 use Rattle.rules.specs.Basics.{chosen}
 use Rattle.rules.specs.Words.{Text, space, newline, split}
-use Rattle.rules.specs.Grammar.{Grammar, takesOne, startsOne}
-use Rattle.rules.specs.Unlisting.{Sofar, State, fresh, sofar, lines, file, ending, follow, unlisted}
+use Rattle.rules.specs.Grammar.{takesOne, startsOne}
+use Rattle.rules.specs.Unlisting.{Sofar, State, fresh, sofar, lines, ending, follow, unlisted}
 use Rattle.reading.specs.Cursor.{part, wordsFrom, LineEnd}
 use Rattle.reading.specs.Hearing.{Hearing, not, begun, took, hearsOne}
 use Rattle.standing.specs.declared.state.Standing.{Standing}
@@ -26,7 +26,7 @@ use Rattle.stating.specs.declared.statement.Heard.{Heard}
 use Rattle.stating.specs.declared.statement.Heard.the-variants.{Not, Begun, Took}
 use Rattle.stating.specs.declared.statement.Line.{Line}
 use Rattle.standing.specs.Numbers.{freshOf}
-use Rattle.standing.specs.Means.{laid, laidAt, Means, Stands}
+use Rattle.standing.specs.Means.{laidAt, Stands}
 use Rattle.stating.specs.Statements.{TookLine, LineAs}
 use Rattle.unlisting.specs.Lines.{ReadsAny, Ended, EndAs, Ends, Stop, lengthOf}
 use Rattle.reading.proofs.Hearings.{heard, hears-taken, hears-started}

@@ -1,7 +1,7 @@
 -- The text is read twice: once to count, and where the buffer is long enough once more into it. Both readings are those of the definition, so the second gives
 -- what the first counted.
 use mathlib.Core.Bool.{Bool, true, false}
-use mathlib.Core.List.{List, [], _∷_, _++_}
+use mathlib.Core.List.{List, _++_}
 use mathlib.Core.Path.{_≡_, refl, sym, ap, _∙_}
 use native.Mathlib.Nat.{zero-add}
 use native.Mathlib.Omega.{arith}

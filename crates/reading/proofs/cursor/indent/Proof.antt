@@ -1,8 +1,7 @@
 -- The loop goes over empty words, one after the other; where another stands, or none, it ends.
 use borrow.Author.Needs.{needs}
-use borrow.Author.Tests.{not-true, not-false}
 use native.Mathlib.Omega.{arith}
-use Prim.Native.Nat.{ℕ, _-_, _*_}
+use Prim.Native.Nat.{_-_, _*_}
 use Rattle.reading.proofs.Indenting.{Passed, passed-none, passed-more, indents-nothing, indents-other, indents-no-start, indents-begun}
 use Rattle.reading.proofs.Indenting.{indents-dead, indents-at, blank-at, onto-at, onto-not, onto-begun, blank-not, blank-begun}
 use Rattle.reading.proofs.cursor.indent.Statement.{statement}

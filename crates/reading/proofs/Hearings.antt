@@ -29,10 +29,10 @@ module _ {A : Type 0} where
   onlyAt true h = h
   onlyAt false h = not
 
-  begun-not-not : _≡_ {A = Hearing A} begun not → ⊥
+  pub begun-not-not : _≡_ {A = Hearing A} begun not → ⊥
   begun-not-not q = let z : _≡_ {A = ℕ} 0 1 = cc in omega arith
 
-  took-not-not : (a : A) → took a ≡ not → ⊥
+  pub took-not-not : (a : A) → took a ≡ not → ⊥
   took-not-not a q = let z : _≡_ {A = ℕ} 0 1 = cc in omega arith
 
   -- a word before others, or the last of a whole line
@@ -80,25 +80,22 @@ module _ {A : Type 0} where
   hears-more false e w ws = refl
 
   -- one word that must stand here
+  only-word : (whole : Bool) (g : Grammar A) (ws : List Text) (b : Bool)
+      → _≡_ {A = Hearing A} (elim (option b) [ none ↦ not | some i ↦ hears whole g ws ]) (onlyAt b (hears whole g ws))
+  only-word whole g ws true = refl
+  only-word whole g ws false = refl
+
   pub hears-word : (whole : Bool) (v : Text) (g : Grammar A) (w : Text) (ws : List Text) → Further whole ws → sameList eqb w v ≡ true
       → hears whole (word v g) (w ∷ ws) ≡ hears whole g ws
   hears-word whole v g w ws f e =
-      hears-ask whole none (v ∷ []) (λ i. g) w ws f ∙ only (sameList eqb w v)
+      hears-ask whole none (v ∷ []) (λ i. g) w ws f ∙ only-word whole g ws (sameList eqb w v)
       ∙ ap (λ (b : Bool). onlyAt b (hears whole g ws)) e
-    where
-      only : (b : Bool) → _≡_ {A = Hearing A} (elim (option b) [ none ↦ not | some i ↦ hears whole g ws ]) (onlyAt b (hears whole g ws))
-      only true = refl
-      only false = refl
 
   pub hears-other : (whole : Bool) (v : Text) (g : Grammar A) (w : Text) (ws : List Text) → Further whole ws → sameList eqb w v ≡ false
       → hears whole (word v g) (w ∷ ws) ≡ not
   hears-other whole v g w ws f e =
-      hears-ask whole none (v ∷ []) (λ i. g) w ws f ∙ only (sameList eqb w v)
+      hears-ask whole none (v ∷ []) (λ i. g) w ws f ∙ only-word whole g ws (sameList eqb w v)
       ∙ ap (λ (b : Bool). onlyAt b (hears whole g ws)) e
-    where
-      only : (b : Bool) → _≡_ {A = Hearing A} (elim (option b) [ none ↦ not | some i ↦ hears whole g ws ]) (onlyAt b (hears whole g ws))
-      only true = refl
-      only false = refl
 
   pub hears-word-begun : (v : Text) (g : Grammar A) (u : Text) → hears false (word v g) (u ∷ []) ≡ chosen (opens u v && live g) begun not
   hears-word-begun v g u = hears-unfinished none (v ∷ []) (λ i. g) u ∙ go (opens u v && live g)

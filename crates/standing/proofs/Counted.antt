@@ -119,6 +119,10 @@ needed : (r : Bool) (n : ℕ) (t : Bool) → not r ≡ false → (n ≡ 0 → �
 needed true n t h e = sym (ap (λ (s : Bool). s || t) (ne-eqb n 0 e))
 needed false n t h e = absurd (false≢true (sym h))
 
+pub either : (t : Bool) → (t || true) ≡ true
+either true = refl
+either false = refl
+
 module _ (c : Standing) where
   module _ (b : ℕ) {n s : ℕ} {r : Bool} (blocks : n ≡ blockBytes b) (size : s ≡ sizeOf b) (room : r ≡ roomOf c (s + n)) where
     fits-is : (r && (eqb n 0 || ltb (c .depth) 8)) ≡ fitsOf c b
@@ -177,10 +181,6 @@ module _ (c : Standing) where
     worded-some {n} e h =
         worded-here ∙ ap (λ (t : Bool). (silent o || t) && wordedFrom b (i + 1)) (lt-ltb 0 (countOf c o) (omega arith))
         ∙ ap (λ (t : Bool). t && wordedFrom b (i + 1)) (either (silent o))
-      where
-        either : (t : Bool) → (t || true) ≡ true
-        either true = refl
-        either false = refl
 
     pub worded-none : {s : Bool} {n : ℕ} → s ≡ silent o → not s ≡ true → n ≡ countOf c o → n ≡ 0 → wordedFrom b i ≡ false
     worded-none {s} {n} e h k z =

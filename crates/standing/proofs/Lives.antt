@@ -31,7 +31,7 @@ use Rattle.standing.specs.Means.{Means}
 use Rattle.standing.specs.From.{fromOperand}
 use Rattle.standing.specs.declared.state.Standing.{Standing}
 use Rattle.reading.proofs.Hearings.{hears-unfinished, live-word}
-use Rattle.standing.proofs.Counted.{never, some-same}
+use Rattle.standing.proofs.Counted.{either, never, some-same}
 use Rattle.reading.proofs.Spellings.{spelling-word, spelling-number}
 use Rattle.standing.proofs.Thirteen.{isCall, row-there, row-blocks, row-head, row-no-call, row-size, row-operand, row-from}
 
@@ -268,10 +268,6 @@ module _ (c : Standing) (p : Sofar) (means : Means c p) where
 
       lists : ℕ → ℕ → Grammar Sofar
       lists k m = list (p .scope) named.at Location k (slots k m)
-
-      either : (t : Bool) → (t || true) ≡ true
-      either true = refl
-      either false = refl
 
       lists-live : (k m : ℕ) → live (lists k m) ≡ (eqb k 0 || ltb 0 (p .scope .places))
       lists-live k m =

@@ -15,8 +15,12 @@ use Rattle.rules.specs.Basics.{chosen}
 use Rattle.rules.specs.Syntax.{Function, function, block, done}
 use Rattle.rules.specs.Unlisting.{Opened, Sofar, sized, owed, pending, least, added, opened, functionBegun, mainBegun, programBegun, elseBegun}
 use Rattle.standing.specs.declared.state.Standing.{Standing}
-use Rattle.standing.specs.Numbers.{freshOf, begunOf, addedOf, openedOf, closedOf, turnedOf, functionOf, mainOf}
+use Rattle.standing.specs.Numbers.{Small, freshOf, begunOf, addedOf, openedOf, closedOf, turnedOf, functionOf, mainOf}
 use Rattle.standing.specs.Means.{outside, laid, Heads, Blocks, After, Means}
+
+-- Numbers that mean a program are small.
+pub means-small : (c : Standing) (p : Sofar) → Means c p → Small c
+means-small c p m = (m .fits, m .deep, m .most, omega (arith, m .callees, m .heads .few))
 
 -- Lines inside functions and main change only what is known of blocks and bytes.
 abbrev inside : Standing → ℕ → List Bool → List ℕ → ℕ → ℕ → Standing

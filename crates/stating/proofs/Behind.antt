@@ -18,7 +18,7 @@ use Rattle.rules.specs.Unlisting.{Sofar, added, opened, made}
 use Rattle.rules.proofs.Basics.{all-upTo}
 use Rattle.rules.proofs.Tests.{and-left, and-right}
 use Rattle.reading.specs.Cursor.{wordsFrom}
-use Rattle.reading.specs.Hearing.{Hearing, took, hears, Onto}
+use Rattle.reading.specs.Hearing.{Hearing, not, took, hears, Onto}
 use Rattle.standing.specs.Numbers.{addedOf, openedOf, blockBytes, roomOf, fitsOf, unwrittenOf}
 use Rattle.standing.specs.Means.{outside, laid, Means}
 use Rattle.stating.specs.Statements.{Put, Took-bytes, LineAs, ReadsLists, BehindOperands}
@@ -41,6 +41,18 @@ line-same h g D NoLine c after e l = e ∙ l
 line-same h g D LineBegun c after e l = e ∙ l
 line-same h g D Took c after e l = record { program = l .program; is = e ∙ l .is; means = l .means; stand = l .stand }
 
+-- a line that must end: past its last word it is whole, since that stands before its newline
+module _ (t : Text) (at end : ℕ) where
+  stops-here : (stop′ : ℕ) (p : Sofar) → end < at → at ≤ stop′ → hears (ltb end stop′) (stop (some p)) (wordsFrom t at end) ≡ took p
+  stops-here stop′ p past l =
+      ap (λ (whole : Bool). hears whole (stop (some p)) (wordsFrom t at end)) (lt-ltb end stop′ (omega arith))
+      ∙ ap (hears true (stop (some p))) (no-words t at end past) ∙ hears-end p
+
+  pub stops-later : (whole : Bool) (p : Sofar) → at ≤ end → hears whole (stop (some p)) (wordsFrom t at end) ≡ not
+  stops-later whole p l =
+      let more = some-words t at end l in
+      ap (hears whole (stop (some p))) (more .2) ∙ hears-more whole (some p) (more .0) (more .1)
+
 -- where a line must end: a word is left, or it is taken
 pub line-ends : (t : Text) (at end stop′ : ℕ) (p : Sofar) (D : List ℕ) (c : Standing) (after : List ℕ) → at ≤ stop′
     → (hears (ltb end stop′) (stop (some p)) (wordsFrom t at end) ≡ took p → Means c p × (after ≡ sets D 6 (laid p)))
@@ -50,14 +62,9 @@ line-ends t at end stop′ p D c after l h = go (ltb end at) refl
   where
     go : (b : Bool) → ltb end at ≡ b → LineAs (hears (ltb end stop′) (stop (some p)) (wordsFrom t at end)) D (chosen b Took NoLine) c after
     go true e =
-        let past : end < at = ltb-true end at e in
-        let is : hears (ltb end stop′) (stop (some p)) (wordsFrom t at end) ≡ took p =
-        ap (λ (whole : Bool). hears whole (stop (some p)) (wordsFrom t at end)) (lt-ltb end stop′ (omega arith))
-        ∙ ap (hears true (stop (some p))) (no-words t at end past) ∙ hears-end p in
+        let is : hears (ltb end stop′) (stop (some p)) (wordsFrom t at end) ≡ took p = stops-here t at end stop′ p (ltb-true end at e) l in
         record { program = p; is = is; means = h is .0; stand = h is .1 }
-    go false e =
-        let more = some-words t at end (ltb-false end at e) in
-        ap (hears (ltb end stop′) (stop (some p))) (more .2) ∙ hears-more (ltb end stop′) (some p) (more .0) (more .1)
+    go false e = stops-later t at end (ltb end stop′) p (ltb-false end at e)
 
 -- what a row's meaning is, by its byte
 abbrev meaningFits : ℕ → Meaning → Bool

@@ -209,6 +209,11 @@ module _ (t : Text) (out₀ : List ℕ) where
     abbrev at-end : State
     at-end = F .state
 
+    -- what the text is where its end makes a file, or none
+    abbrev ends : Option (List ℕ) → Check (List ℕ)
+    ends none = refused (refusal 27 at)
+    ends (some s) = ok s
+
     no-more : unlisted t ≡ ending at at-end []
     no-more = F .same ∙ ap (λ (u : Text). follow at at-end (split newline u)) (drop-of-length-le t l)
 
@@ -219,10 +224,6 @@ module _ (t : Text) (out₀ : List ℕ) where
     end-no : b ≡ false → unlisted t ≡ refused (refusal 27 at)
     unfolding EndAs
     end-no e = no-more ∙ ap (λ (o : Option (List ℕ)). ends o) (asEnd false e)
-      where
-        ends : Option (List ℕ) → Check (List ℕ)
-        ends none = refused (refusal 27 at)
-        ends (some s) = ok s
 
     pub refused-end : b ≡ false → (r : WrittenAnswer) → r ≡ Refused (inFile Listing (refusal 27 at)) → (o : List ℕ) → Promised r o
     refused-end e r q o = promised-no at (end-no e) r q o
@@ -235,7 +236,3 @@ module _ (t : Text) (out₀ : List ℕ) where
           ap writtenSaid q ∙ ap (λ (n : ℕ). ok n) (sym (X .many)) ∙ ap (λ (m : Check (List ℕ)). lengthOf (within Listing m)) (sym f),
           λ s h. let z : X .bytes ≡ s = cc in X .stand ∙ ap (sets out₀ 0) z,
         )
-      where
-        ends : Option (List ℕ) → Check (List ℕ)
-        ends none = refused (refusal 27 at)
-        ends (some s) = ok s

@@ -3,26 +3,29 @@ use mathlib.Core.Bool.{Bool, true, false, false≢true}
 use mathlib.Core.List.{List, [], _∷_, _++_, append-nil}
 use mathlib.Core.Path.{_≡_, refl, sym, ap, subst, _∙_}
 use native.Mathlib.Omega.{arith}
-use Prim.Native.Nat.{ℕ, suc, _-_, _<_, _≤_}
+use Prim.Native.Nat.{ℕ, suc, _-_, _<_}
 use lib.Dec.{ltb}
 use lib.ListN.{getD, length}
 use lib.Seq.{sets}
 use Rattle.rules.specs.Words.{Text}
 use Rattle.rules.specs.Unlisting.{Opened, Sofar, State, fresh, sofar, sized, indent, statementLine, linesAfter, lines}
 use Rattle.reading.specs.Cursor.{wordsFrom}
-use Rattle.reading.specs.Hearing.{Hearing, hears, hearsOne, onward, Indents, Onto, Blank, blanks}
+use Rattle.reading.specs.Hearing.{Hearing, hears, hearsOne, onward, Indents, Blank, blanks}
 use Rattle.standing.specs.declared.state.Standing.{Standing}
 use Rattle.reading.specs.declared.cursor.Reading.{Reading}
 use Rattle.reading.specs.declared.cursor.Reading.the-variants.{Not, Begun, At}
 use Rattle.stating.specs.declared.statement.Heard.the-variants.{Begun as LineBegun}
 use Rattle.stating.specs.declared.statement.Line.{Line}
-use Rattle.standing.specs.Numbers.{Small, freshOf, closedOf, statementLives}
-use Rattle.standing.specs.Means.{outside, laid, laidAt, Blocks, Means, Stands}
+use Rattle.standing.specs.Numbers.{freshOf, closedOf, statementLives}
+use Rattle.standing.specs.Means.{outside, laid, laidAt, Means, Stands}
 use Rattle.stating.specs.Statements.{only, LineAs, ReadsLine}
 use Rattle.unlisting.specs.Lines.{elseLine, topsOf, ReadsAny, FirstLine, Closes}
 use Rattle.unlisting.proofs.Choosing.{a-statement, a-start, an-else, an-end, ended}
 use Rattle.standing.proofs.Lives.{statement-lives}
-use Rattle.standing.proofs.Meaning.{means-closed}
+use Rattle.standing.proofs.Meaning.{block-depth, means-closed}
+use Rattle.unlisting.proofs.Closing.{innermost as block-open}
+use Rattle.unlisting.proofs.Tops.{no-block}
+use Rattle.unlisting.proofs.Turning.{block-due}
 
 -- a block is open where the depth is not 0
 record Innermost (c : Standing) (p : Sofar) : Type 0 where
@@ -33,37 +36,21 @@ record Innermost (c : Standing) (p : Sofar) : Type 0 where
   due : getD (c .dues) (c .depth - 1) false ≡ block .due
 
 innermost : (c : Standing) (p : Sofar) → Means c p → 0 < c .depth → Innermost c p
-unfolding Blocks
-innermost c p M h = go (p .open-blocks) refl (M .depth) (M .blocks)
-  where
-    go : (os : List Opened) → p .open-blocks ≡ os → c .depth ≡ length os → Blocks c os → Innermost c p
-    go [] e d B = absurd (omega arith)
-    go (b ∷ bs) e d B =
-        let z : c .depth - 1 ≡ length bs = omega arith in
-        record { block = b; blocks = bs; are = e; depth = d; due = ap (λ (n : ℕ). getD (c .dues) n false) z ∙ B .0 }
-
-none-open : (c : Standing) (p : Sofar) → Means c p → c .depth ≡ 0 → p .open-blocks ≡ []
-none-open c p M h = go (p .open-blocks) (M .depth)
-  where
-    go : (os : List Opened) → c .depth ≡ length os → os ≡ []
-    go [] d = refl
-    go (b ∷ bs) d = absurd (omega arith)
-
-pub small : (c : Standing) (p : Sofar) → Means c p → Small c
-small c p M = (M .fits, M .deep, M .most, omega (arith, M .callees, M .heads .few))
+innermost c p M h =
+    let i : (b : Opened) × (bs : List Opened) × (p .open-blocks ≡ b ∷ bs) = block-open c p M h in
+    record {
+      block = i .0;
+      blocks = i .1;
+      are = i .2;
+      depth = block-depth c p (i .0) (i .1) M (i .2);
+      due = block-due c p (i .0) (i .1) M (i .2);
+    }
 
 -- where the first line has been read, the numbers mean a program
 pub some-program : (c : Standing) (σ : State) → Stands c σ → c .started ≡ true → (p : Sofar) × (σ ≡ sofar p) × Means c p
 unfolding Stands
 some-program c fresh S h = absurd (false≢true (ap (λ (x : Standing). x .started) (sym S) ∙ h))
 some-program c (sofar p) S h = (p, refl, S)
-
--- a position read up to is in the line
-pub within-line : (at stop q : ℕ) (r : Reading) → Onto at stop r → r ≡ At q → q ≤ stop
-unfolding Onto
-within-line at stop q (At p) h e = let z : p ≡ q = cc in omega (arith, h .1)
-within-line at stop q Not h e = absurd (let z : _≡_ {A = ℕ} 0 1 = cc in omega arith)
-within-line at stop q Begun h e = absurd (let z : _≡_ {A = ℕ} 0 1 = cc in omega arith)
 
 -- the innermost block's number is below eight, and the block ended leaves one fewer
 pub below-eight : (c : Standing) (p : Sofar) → Means c p → 0 < c .depth → c .depth - 1 < 8
@@ -195,7 +182,7 @@ module _ (t : Text) (at end stop : ℕ) (from : Standing) (entry : List ℕ) whe
       let X : Reached c out p₀ = R p₀ M in
       let p : Sofar = X .program in
       let is : hearsOne whole (lines (sofar p₀)) ws ≡ hearsOne whole (topsOf p) ws =
-      X .same ∙ ap (λ (os : List Opened). hearsOne whole (linesAfter (p .scope) (p .after) os (p .bytes)) ws) (none-open c p (X .means) h) in
+      X .same ∙ ap (λ (os : List Opened). hearsOne whole (linesAfter (p .scope) (p .after) os (p .bytes)) ws) (no-block c p (X .means) h) in
       subst (λ (k : Hearing Sofar). LineAs k D (line .said) (line .state) after) (sym is) (reads p D (X .means) (X .stand D s))
 
   -- a line after the first is any line

@@ -1,12 +1,10 @@
--- What a line is, from what its words were found to be: one word after another, and then it must end. A line that ends here is whole, since its last word
--- stands before its newline.
-use mathlib.Core.Bool.{Bool, true, false}
-use mathlib.Core.List.{List, _∷_}
+-- What a line is, from what its words were found to be: one word after another, and then it must end.
+use mathlib.Core.Bool.{true}
+use mathlib.Core.List.{List}
 use mathlib.Core.Option.{some}
-use mathlib.Core.Path.{_≡_, refl, sym, ap, subst, _∙_}
+use mathlib.Core.Path.{_≡_, sym, ap, subst, _∙_}
 use native.Mathlib.Omega.{arith}
 use Prim.Native.Nat.{ℕ, _<_, _≤_}
-use borrow.Author.Tests.{lt-ltb, ltb-true, ltb-false}
 use lib.Dec.{ltb}
 use lib.Seq.{sets}
 use Rattle.rules.specs.Basics.{chosen}
@@ -14,7 +12,7 @@ use Rattle.rules.specs.Words.{Text}
 use Rattle.rules.specs.Grammar.{Grammar, stop, word, live}
 use Rattle.rules.specs.Unlisting.{Sofar}
 use Rattle.reading.specs.Cursor.{wordsFrom, spelling}
-use Rattle.reading.specs.Hearing.{Hearing, not, begun, took, hears, onward, numbered, Expects, Onto, NumberOnto}
+use Rattle.reading.specs.Hearing.{Hearing, not, begun, hears, onward, numbered, Expects, Onto, NumberOnto}
 use Rattle.standing.specs.Means.{laid, Means}
 use Rattle.stating.specs.Statements.{LineAs}
 use Rattle.standing.specs.declared.state.Standing.{Standing}
@@ -22,10 +20,11 @@ use Rattle.reading.specs.declared.cursor.Reading.{Reading}
 use Rattle.reading.specs.declared.cursor.Reading.the-variants.{Not, Begun, At}
 use Rattle.reading.specs.declared.cursor.Number.{Number}
 use Rattle.reading.specs.declared.cursor.Number.the-variants.{Not as NoNumber, Begun as NumberBegun, Is}
+use Rattle.stating.specs.declared.statement.Heard.{Heard}
 use Rattle.stating.specs.declared.statement.Heard.the-variants.{Not as NoLine, Begun as LineBegun, Took}
 use Rattle.stating.specs.declared.statement.Line.{Line}
-use Rattle.reading.proofs.Hearings.{hears-end, hears-more}
-use Rattle.reading.proofs.Spellings.{no-words, some-words}
+use Rattle.stating.proofs.Behind as stated
+use Rattle.stating.proofs.Behind.{line-same}
 
 -- what was read is known
 pub onward-as : (h : Hearing Sofar) (k : ℕ → Hearing Sofar) {r s : Reading} → h ≡ onward r k → r ≡ s → h ≡ onward s k
@@ -64,18 +63,6 @@ module _ (t : Text) (at end stop : ℕ) where
   hears-spelled n w g s e x l q =
       ap (λ (v : Text). hears (ltb end stop) (word v g) (wordsFrom t at end)) (sym e) ∙ onward-as _ _ (x g l) q
 
--- a line that must end at q
-module _ (t : Text) (q end : ℕ) where
-  pub stops-here : (full : ℕ) (p : Sofar) → end < q → q ≤ full → hears (ltb end full) (stop (some p)) (wordsFrom t q end) ≡ took p
-  stops-here full p l k =
-      ap (λ (b : Bool). hears b (stop (some p)) (wordsFrom t q end)) (lt-ltb end full (omega arith))
-      ∙ ap (hears true (stop (some p))) (no-words t q end l) ∙ hears-end p
-
-  pub stops-later : (whole : Bool) (p : Sofar) → q ≤ end → hears whole (stop (some p)) (wordsFrom t q end) ≡ not
-  stops-later whole p l =
-      let w : (v : Text) × (vs : List Text) × (wordsFrom t q end ≡ v ∷ vs) = some-words t q end l in
-      ap (hears whole (stop (some p))) (w .2) ∙ hears-more whole (some p) (w .0) (w .1)
-
 module _ (h : Hearing Sofar) (D : List ℕ) (c : Standing) (after : List ℕ) {r : Line} where
   pub line-not : r ≡ record { said = NoLine; state = c } → h ≡ not → LineAs h D (r .said) (r .state) after
   unfolding LineAs
@@ -85,24 +72,14 @@ module _ (h : Hearing Sofar) (D : List ℕ) (c : Standing) (after : List ℕ) {r
   unfolding LineAs
   line-begun e q = subst (λ (x : Line). LineAs h D (x .said) (x .state) after) (sym e) q
 
-  pub line-took : (p : Sofar) → r ≡ record { said = Took; state = c } → h ≡ took p → Means c p → after ≡ sets D 6 (laid p)
-      → LineAs h D (r .said) (r .state) after
-  unfolding LineAs
-  line-took p e q m s =
-      subst (λ (x : Line). LineAs h D (x .said) (x .state) after) (sym e) (record { program = p; is = q; means = m; stand = s })
-
   -- the line must end at q
   pub line-ends : (t : Text) (q end full : ℕ) (p : Sofar) {d : Standing} → r ≡ record { said = chosen (ltb end q) Took NoLine; state = d }
       → d ≡ c → q ≤ full
       → h ≡ hears (ltb end full) (stop (some p)) (wordsFrom t q end) → Means c p → after ≡ sets D 6 (laid p)
       → LineAs h D (r .said) (r .state) after
-  line-ends t q end full p {d = d} e f l k m s = go (ltb end q) refl
+  line-ends t q end full p e f l k m s =
+      subst (λ (x : Line). LineAs h D (x .said) (x .state) after) (sym (e ∙ ap (λ (x : Standing). record { said = heard; state = x }) f))
+      (line-same h _ D heard c after k (stated.line-ends t q end full p D c after l λ is. (m, s)))
     where
-      is : (b : Bool) → ltb end q ≡ b → r ≡ record { said = chosen b Took NoLine; state = c }
-      is b g =
-          e ∙ ap (λ (x : Bool). record { said = chosen x Took NoLine; state = d }) g
-          ∙ ap (λ (x : Standing). record { said = chosen b Took NoLine; state = x }) f
-
-      go : (b : Bool) → ltb end q ≡ b → LineAs h D (r .said) (r .state) after
-      go true g = line-took p (is true g) (k ∙ stops-here t q end full p (ltb-true end q g) l) m s
-      go false g = line-not (is false g) (k ∙ stops-later t q end (ltb end full) p (ltb-false end q g))
+      heard : Heard
+      heard = chosen (ltb end q) Took NoLine

@@ -31,10 +31,11 @@ use Rattle.reading.specs.declared.cursor.Number.the-variants.{Not as NoNumber, 
 use Rattle.stating.specs.declared.statement.Heard.{Heard}
 use Rattle.stating.specs.declared.statement.Heard.the-variants.{Not as NoLine, Begun as LineBegun, Took}
 use Rattle.stating.specs.declared.statement.Line.{Line}
-use Rattle.reading.proofs.Hearings.{hears-one, hears-both, live-word}
+use Rattle.reading.proofs.Hearings.{begun-not-not, took-not-not, hears-one, hears-both, live-word}
 use Rattle.unlisting.proofs.Heads.{live-decimals}
+use Rattle.stating.proofs.Behind.{stops-later}
 use Rattle.standing.proofs.Meaning.{means-function, means-main, top-used, top-owed, top-after, sets-behind}
-use Rattle.unlisting.proofs.Said.{numbered-as, hears-spelled, stops-later, line-not, line-begun, line-ends}
+use Rattle.unlisting.proofs.Said.{numbered-as, hears-spelled, line-not, line-begun, line-ends}
 use Rattle.reading.proofs.Spellings.{spelling-word}
 
 -- bytes put one by one
@@ -356,12 +357,6 @@ module _ (t : Text) (at end full : ℕ) (c : Standing) where
       tops-heard p m h e k =
           ap (λ (gs : List (Grammar Sofar)). hearsOne (ltb end full) gs (wordsFrom t at end)) (tops-as i p m)
           ∙ hears-left (ltb end full) (functionsOf p) (mainsOf p) (wordsFrom t at end) h e k
-
-      begun-not-not : _≡_ {A = Hearing Sofar} begun not → ⊥
-      begun-not-not q = let z : _≡_ {A = ℕ} 0 1 = cc in omega arith
-
-      took-not-not : (a : Sofar) → took a ≡ not → ⊥
-      took-not-not a q = let z : _≡_ {A = ℕ} 0 1 = cc in omega arith
 
       go : (p : Sofar) (D : List ℕ) → Means c p → (s : Heard) → (s ≡ NoLine → ⊥)
           → LineAs (hearsOne (ltb end full) (functionsOf p) (wordsFrom t at end)) D s (l .state) after

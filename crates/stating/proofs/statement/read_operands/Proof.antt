@@ -8,6 +8,7 @@ use lib.ListN.{length}
 use borrow.Author.Needs.{needs}
 use Rattle.reading.specs.Hearing.{NextWord, Onto}
 use Rattle.standing.proofs.Counted.{first-now, first-before}
+use Rattle.standing.proofs.Meaning.{means-small}
 use Rattle.stating.proofs.Operating.{written-first, silent-call, Facing, facing, OperandsRead, operands-none, operands-length, first-small}
 use Rattle.stating.proofs.Operating.{operands-not, operands-begun, operands-unbegun, operands-above, operands-word}
 use Rattle.stating.proofs.Operating.{operands-silent, operands-as, operands-all}
@@ -113,7 +114,7 @@ operand-begins-requires c κs =
     let word = subst (NextWord _ _ _ _) (c .enum-told2 .given .1) (next .next-word .ensures) in
     let size = sized (turn asked) .fixed-size .ensures in (
       (
-        (mean .fits, mean .deep, mean .most, few (turn asked)),
+        means-small _ _ mean,
         omega (arith, word .2),
         omega (arith, start .pre .0),
         start .pre .2,

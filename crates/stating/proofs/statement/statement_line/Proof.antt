@@ -5,6 +5,7 @@ use native.Mathlib.Omega.{arith}
 use borrow.Author.Needs.{needs}
 use borrow.Author.Tests.{not-true, not-false}
 use Rattle.reading.specs.Hearing.{NextWord, Onto}
+use Rattle.standing.proofs.Meaning.{means-small}
 use Rattle.stating.proofs.Stating.{line-nothing, line-begun, line-unbegun, line-unknown, line-unfit, line-operands-not}
 use Rattle.stating.proofs.Stating.{line-operands-begun, callee-there, line-statement}
 use Rattle.stating.proofs.statement.statement_line.Statement.{statement}
@@ -45,7 +46,7 @@ name-begins-requires c κs =
     let start = c .before .before .before .before .before in
     let mean = start .pre .1 .1 in
     let word = subst (NextWord _ _ _ _) (c .enum-told2 .given .1) (c .before .before .next-word .ensures) in
-    ((mean .fits, mean .deep, mean .most, omega (arith, mean .callees, mean .heads .few)), omega (arith, word .2), omega (arith, start .pre .0))
+    (means-small _ _ mean, omega (arith, word .2), omega (arith, start .pre .0))
 
 begun-requires : tie.Need-begun-requires
 begun-requires c κs = search needs

@@ -4,8 +4,10 @@ use mathlib.Core.Path.{_≡_, refl}
 use lib.ListN.{length}
 use borrow.Author.Needs.{needs}
 use borrow.Author.Tests.{not-true, not-false}
-use Rattle.unlisting.proofs.Outward.{small, Reaches, reached-none, now-means, line-statement, line-begun, line-else, reached-more, line-top}
-use Rattle.unlisting.proofs.Outward.{within-line, below-eight, one-fewer, no-program, any-line, first-any}
+use Rattle.standing.proofs.Meaning.{means-small}
+use Rattle.unlisting.proofs.Said.{onto-at}
+use Rattle.unlisting.proofs.Outward.{Reaches, reached-none, now-means, line-statement, line-begun, line-else, reached-more, line-top}
+use Rattle.unlisting.proofs.Outward.{below-eight, one-fewer, no-program, any-line, first-any}
 use Rattle.unlisting.proofs.lines.read_line.Statement.{statement}
 use Rattle.unlisting.proofs.lines.read_line.Tie as tie
 
@@ -31,14 +33,14 @@ statement-lives-requires c κs =
     let at-loop = c .before .before in
     let at-if1 = at-loop .before in
     let pre = at-if1 .before .before .before .before .pre in
-    small _ _ (now-means _ _ _ _ _ _ _ _ (at-loop .loop .inv .1) _ (pre .1 .1) (not-false _ (at-if1 .if1 .left)) .1)
+    means-small _ _ (now-means _ _ _ _ _ _ _ _ (at-loop .loop .inv .1) _ (pre .1 .1) (not-false _ (at-if1 .if1 .left)) .1)
 
 indent-requires : tie.Need-indent-requires Inv-loop μ-loop
 indent-requires c κs =
     let at-loop = c .before .before .before in
     let at-if1 = at-loop .before in
     let pre = at-if1 .before .before .before .before .pre in
-    let S = small _ _ (now-means _ _ _ _ _ _ _ _ (at-loop .loop .inv .1) _ (pre .1 .1) (not-false _ (at-if1 .if1 .left)) .1) in
+    let S = means-small _ _ (now-means _ _ _ _ _ _ _ _ (at-loop .loop .inv .1) _ (pre .1 .1) (not-false _ (at-if1 .if1 .left)) .1) in
     (pre .0, S .1)
 
 enum-known-p : tie.Need-enum-known-p Inv-loop μ-loop
@@ -50,7 +52,7 @@ statement-line-requires c κs =
     let at-loop = at-indent .before .before .before .before in
     let at-if1 = at-loop .before in
     let pre = at-if1 .before .before .before .before .pre in
-    let w = within-line _ _ _ _ (at-indent .indent .ensures .1 .0) (c .before .before .p .given .1) in
+    let w = onto-at _ _ (at-indent .indent .ensures .1 .0) (c .before .before .p .given .1) in
     (search needs, now-means _ _ _ _ _ _ _ _ (at-loop .loop .inv .1) _ (pre .1 .1) (not-false _ (at-if1 .if1 .left)))
 
 same-length : tie.Need-same-length Inv-loop μ-loop

@@ -2,6 +2,7 @@
 // operand that is still to come at least one word.
 use crate::state::Standing;
 use reading::words;
+use rules::program::ProgramHeader;
 use rules::statements;
 use rules::statements::Operand;
 use rules::words::NAMES;
@@ -15,15 +16,12 @@ ghost use Rattle.reading.specs.Cursor.{part};
 ghost use Rattle.standing.specs.Numbers.{Small, roomOf, blockBytes, fitsOf, countOf, unwrittenOf, callLives};
 ghost use Rattle.standing.specs.Numbers.{restLives, rowLives, statementLives, nameBegins, operandBegins};
 
-// A file has at most so many bytes.
-pub const LONGEST: usize = 4096;
-
 // Whether a file has room for `n` bytes more.
 pub fn room(c: Standing, n: usize) -> bool
     requires { ⌜ Small c × (n ≤ 1000) ⌝ }
     ensures { λ r. ⌜ r ≡ roomOf c n ⌝ }
 {
-    c.used + c.owed + n <= LONGEST
+    c.used + c.owed + n <= ProgramHeader::MOST_BYTES
 }
 
 // The length words that a statement's blocks take.
@@ -49,7 +47,7 @@ pub fn fits(c: Standing, b: u8) -> bool
     if n == 0 {
         return true;
     }
-    c.depth < 8
+    c.depth < ProgramHeader::DEEPEST
 }
 
 // A call's k and m are its callee's, and are not written.
@@ -70,7 +68,7 @@ pub fn count(c: Standing, kind: Operand) -> usize
     ensures { λ r. ⌜ (r ≡ countOf c kind) × (r ≤ 256) ⌝ }
 {
     match kind {
-        Operand::Slot => 32,
+        Operand::Slot => ProgramHeader::SLOTS,
         Operand::Location => c.places,
         Operand::Gate => 4,
         Operand::Basis => 2,

@@ -7,6 +7,7 @@ use reading::cursor::expect;
 use reading::cursor::next_word;
 use reading::cursor::number_below;
 use reading::words;
+use rules::program::ProgramHeader;
 use rules::statements;
 use rules::statements::Operand;
 use rules::words::AT;
@@ -190,7 +191,17 @@ fn read_lists(
     match read_list(text, at, end, stop, AT, k, c.places, out, c.used + 4) {
         Reading::Not => Reading::Not,
         Reading::Begun => Reading::Begun,
-        Reading::At(p) => read_list(text, p, end, stop, WITH, m, 32, out, c.used + 4 + k),
+        Reading::At(p) => read_list(
+            text,
+            p,
+            end,
+            stop,
+            WITH,
+            m,
+            ProgramHeader::SLOTS,
+            out,
+            c.used + 4 + k,
+        ),
     }
 }
 

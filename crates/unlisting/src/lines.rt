@@ -7,6 +7,8 @@ use reading::cursor::expect;
 use reading::cursor::indent;
 use reading::cursor::number_below;
 use reading::words::DECIMALS;
+use rules::program::FunctionHeader;
+use rules::program::ProgramHeader;
 use rules::words;
 use standing::rows;
 use standing::state::Standing;
@@ -85,7 +87,11 @@ fn most_arguments(k: usize) -> usize
     requires { ⌜ k ≤ 16 ⌝ }
     ensures { λ r. ⌜ (r ≡ mostArguments k) × (r ≤ 9) ⌝ }
 {
-    if k <= 8 { k + 1 } else { 9 }
+    if k <= FunctionHeader::MOST_ARGUMENTS {
+        k + 1
+    } else {
+        9
+    }
 }
 
 // `arguments` and their number, in the line of a function with `k` locations.
@@ -117,7 +123,7 @@ fn function_line(
     if !rows::room(c, 4) {
         return Line::not(c);
     }
-    if c.functions == 15 {
+    if c.functions == ProgramHeader::MOST_FUNCTIONS {
         return Line::not(c);
     }
     match function_words(text, at, end, stop, c.functions) {

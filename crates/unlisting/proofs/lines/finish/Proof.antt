@@ -30,7 +30,9 @@ same-length : tie.Need-same-length Inv-loop μ-loop
 same-length c = c .before .before .before .before .before .loop .inv .long
 
 returns-2 : tie.Need-returns-2 Inv-loop μ-loop
-returns-2 c = ending-due _ _ _ _ (c .before .before .before .before .before .loop .inv) _ (c .before .before .before .if2 .taken) (c .if3 .taken)
+returns-2 c =
+    let at-loop = c .before .before .before .before .before in
+    ending-due _ _ _ _ (at-loop .loop .inv) (at-loop .loop .out) (c .before .before .before .if2 .taken) (c .if3 .taken)
 
 put-innermost-requires : tie.Need-put-innermost-requires Inv-loop μ-loop
 put-innermost-requires c κs = (c .before .before .before .before .before .before .loop .inv .program, c .before .before .before .before .if2 .taken)

@@ -77,7 +77,8 @@ Shows b os f =
 
 -- the row of statement byte b
 data SeenRow (b : ℕ) : Row → Type 0 where
-  seen-simple : {w : Text} {os : List Operand} {f : (d : Side) → (ℕ → ℕ) → Op d} → Shows b os f → SeenRow b (record { name = w; operands = os; meaning = simple f })
+  seen-simple : {w : Text} {os : List Operand} {f : (d : Side) → (ℕ → ℕ) → Op d} → Shows b os f
+      → SeenRow b (record { name = w; operands = os; meaning = simple f })
   seen-branches : {w : Text} → b ≡ 10 → SeenRow b (record { name = w; operands = Slot ∷ []; meaning = branches })
   seen-loops : {w : Text} → b ≡ 11 → SeenRow b (record { name = w; operands = Slot ∷ []; meaning = loops })
   seen-calls : {w : Text} → b ≡ 12 → SeenRow b (record { name = w; operands = Callee ∷ CalleeK ∷ CalleeM ∷ []; meaning = calls })

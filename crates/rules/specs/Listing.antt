@@ -2,14 +2,13 @@
 use mathlib.Core.Bool.{Bool, true, false}
 use mathlib.Core.List.{List, [], _∷_, _++_, map}
 use mathlib.Core.Option.{Option, none, some}
-use Prim.Native.Nat.{ℕ, zero, suc, _+_, _*_}
+use Prim.Native.Nat.{ℕ, zero, suc, _+_}
 use lib.ListN.{getD}
-use Rattle.answers.specs.Check.{Check, ok, refused, _>>=_}
+use Rattle.answers.specs.Check.{Check, ok, _>>=_}
 use Rattle.rules.specs.declared.statements.Operand.{Operand}
 use Rattle.rules.specs.declared.statements.Operand.the-variants.{Slot, Location, Gate, Basis, Value, Callee, CalleeK, CalleeM, Nothing}
 use Rattle.rules.specs.Basics.{chosen, byte}
-use Rattle.rules.specs.Syntax as syntax
-use Rattle.rules.specs.Syntax.{Side, Place, Statement, op, if, while, call, Statements, done, _⨾_, Block, block, Function, Program}
+use Rattle.rules.specs.Syntax.{Side, Statement, op, if, while, call, Statements, done, _⨾_, Block, block, Function, Program}
 use Rattle.rules.specs.Table.{Row, rowOf, nameOf}
 use Rattle.rules.specs.Program.{readProgram}
 use Rattle.rules.specs.Words.{Text, decimal, written}

@@ -1,6 +1,5 @@
 -- The words of a listing, letter by letter: the names of the statement kinds, the words around them, and the letters of gates and bases.
 use mathlib.Core.List.{List, [], _∷_}
-use Prim.Native.Nat.{ℕ}
 use Rattle.rules.specs.Words.{Text}
 
 abbrev pub init-name : Text
@@ -73,4 +72,5 @@ gates = (0x58 ∷ []) ∷ (0x5A ∷ []) ∷ (0x48 ∷ []) ∷ (0x53 ∷ []) ∷ 
 -- the words that are no names, from number 0 on
 abbrev pub vocabulary : List Text
 vocabulary =
-    [] ∷ program ∷ function ∷ locations ∷ arguments ∷ main ∷ else ∷ at ∷ with ∷ (0x58 ∷ []) ∷ (0x5A ∷ []) ∷ (0x48 ∷ []) ∷ (0x53 ∷ []) ∷ []
+    [] ∷ program ∷ function ∷ locations ∷ arguments ∷ main ∷ else ∷ at ∷ with
+    ∷ (0x58 ∷ []) ∷ (0x5A ∷ []) ∷ (0x48 ∷ []) ∷ (0x53 ∷ []) ∷ []

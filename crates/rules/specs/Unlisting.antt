@@ -2,8 +2,8 @@
 use mathlib.Core.Bool.{Bool, true, false}
 use mathlib.Core.List.{List, [], _∷_, _++_}
 use mathlib.Core.Option.{Option, none, some}
-use Prim.Native.Nat.{ℕ, zero, suc, _+_, _*_, _/_, _%_}
-use lib.Dec.{eqb, ltb, leb}
+use Prim.Native.Nat.{ℕ, zero, suc, _+_, _/_, _%_}
+use lib.Dec.{ltb, leb}
 use lib.ListN.{getD, length, replicate}
 use Rattle.answers.specs.Check.{Check, ok, refused, refusal, _>>=_, _>>_, need}
 use Rattle.rules.specs.declared.statements.Operand.{Operand}

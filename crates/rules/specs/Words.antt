@@ -2,9 +2,9 @@
 use mathlib.Core.Bool.{Bool, true, false, _&&_}
 use mathlib.Core.List.{List, [], _∷_, _++_}
 use mathlib.Core.Option.{Option, none, some}
-use Prim.Native.Nat.{ℕ, zero, suc, _+_, _*_, _/_, _%_}
+use Prim.Native.Nat.{ℕ, suc, _+_, _/_, _%_}
 use lib.Dec.{eqb, ltb}
-use Rattle.rules.specs.Basics.{sameList, upTo}
+use Rattle.rules.specs.Basics.{sameList}
 
 abbrev pub Text : Type 0
 Text = List ℕ

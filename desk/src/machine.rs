@@ -1,0 +1,231 @@
+//! A job's own state, moved on as document 01's steps say.
+//!
+//! Whether a step moves is not decided here: the library's records say so, or the library's check has accepted the program's typing. What is here only keeps
+//! track of slots, locations and what is to come, for programs that read. Where a slot does not hold what a moved step needs, nothing happens.
+
+use crate::program::{Block, Body, Kind, Program, Statement};
+
+/// What a slot holds.
+#[derive(Clone, Copy, Debug, Default, PartialEq, Eq, Hash)]
+pub enum Slot {
+    #[default]
+    Unbound,
+    /// A qubit at this location.
+    Qubit(usize),
+    Bool(bool),
+    /// A reference that holds this.
+    Reference(bool),
+}
+
+/// The slots of a body that is being run.
+#[derive(Clone, Debug)]
+pub struct Frame<'a> {
+    pub body: Body,
+    /// The call that it was entered by; none for main.
+    pub call: Option<&'a Statement>,
+    /// The actual location of each parameter; none for main, where a location byte names a location.
+    pub locations: Vec<usize>,
+    pub slots: [Slot; 32],
+}
+
+impl Frame<'_> {
+    /// The location that a location byte of this body means.
+    pub fn location(&self, byte: u8) -> usize {
+        match self.body {
+            Body::Main => usize::from(byte),
+            Body::Function(_) => self.locations.get(usize::from(byte)).copied().unwrap_or(usize::MAX),
+        }
+    }
+
+    /// Where the qubit in a slot is.
+    pub fn qubit(&self, slot: u8) -> Option<usize> {
+        match self.slots[usize::from(slot)] {
+            Slot::Qubit(location) => Some(location),
+            _ => None,
+        }
+    }
+
+    /// The bool in a slot, or that in its reference.
+    pub fn value(&self, slot: u8) -> Option<bool> {
+        match self.slots[usize::from(slot)] {
+            Slot::Bool(value) | Slot::Reference(value) => Some(value),
+            _ => None,
+        }
+    }
+}
+
+/// What is to come: the rest of a block, or a return from the top frame.
+#[derive(Clone, Copy, Debug)]
+enum Rest<'a> {
+    Statements(&'a [Statement]),
+    Return,
+}
+
+/// The next item of a job.
+#[derive(Clone, Copy, Debug)]
+pub enum Next<'a> {
+    Statement(&'a Statement),
+    /// The return of this call.
+    Return(&'a Statement),
+    Finished,
+}
+
+impl Next<'_> {
+    /// The offset that the library's record of this step has.
+    pub fn offset(&self) -> Option<usize> {
+        match self {
+            Next::Statement(statement) | Next::Return(statement) => Some(statement.at),
+            Next::Finished => None,
+        }
+    }
+}
+
+/// What a step that moved does to the device.
+#[derive(Clone, Copy, Debug, PartialEq, Eq)]
+pub enum Effect {
+    Nothing,
+    /// A qubit is put down at this location.
+    Takes(usize),
+    /// The qubit at this location goes.
+    Gives(usize),
+    /// The qubits at these locations are merged.
+    Merges(usize, usize),
+}
+
+/// A job's frames of slots and what is to come.
+#[derive(Clone, Debug)]
+pub struct Machine<'a> {
+    program: &'a Program,
+    /// Main's first, that of the body that is being run last.
+    pub frames: Vec<Frame<'a>>,
+    rest: Vec<Rest<'a>>,
+}
+
+impl<'a> Machine<'a> {
+    /// A fresh start.
+    pub fn new(program: &'a Program) -> Machine<'a> {
+        let main = Frame { body: Body::Main, call: None, locations: vec![], slots: [Slot::Unbound; 32] };
+        let mut machine = Machine { program, frames: vec![main], rest: vec![] };
+        machine.put(&program.main);
+        machine
+    }
+
+    /// The frame of the body that is being run.
+    pub fn frame(&self) -> &Frame<'a> {
+        &self.frames[self.frames.len() - 1]
+    }
+
+    /// The next item.
+    pub fn next(&self) -> Next<'a> {
+        match (self.rest.last(), self.frame().call) {
+            (Some(Rest::Statements(statements)), _) => Next::Statement(&statements[0]),
+            (Some(Rest::Return), Some(call)) => Next::Return(call),
+            _ => Next::Finished,
+        }
+    }
+
+    /// Where the job stands: the offset of what comes next in each block that is open, the outermost first, 0 for a return. With the slots this is all.
+    pub fn place(&self) -> Vec<u16> {
+        let offset = |rest: &Rest<'_>| if let Rest::Statements(statements) = rest { statements[0].at as u16 } else { 0 };
+        self.rest.iter().map(offset).collect()
+    }
+
+    /// The next item moves, and a measurement in it has this outcome.
+    pub fn moves(&mut self, outcome: bool) -> Effect {
+        match self.next() {
+            Next::Statement(statement) => self.does(statement, outcome),
+            Next::Return(call) => {
+                self.rest.pop();
+                self.returns(call);
+                Effect::Nothing
+            }
+            Next::Finished => Effect::Nothing,
+        }
+    }
+
+    fn does(&mut self, statement: &'a Statement, outcome: bool) -> Effect {
+        let frame = self.frame();
+        let mut effect = Effect::Nothing;
+        if let Kind::While { guard, body } = &statement.kind {
+            if frame.value(*guard) == Some(true) {
+                self.put(body); // and the loop itself stays
+                return effect;
+            }
+        }
+        match &statement.kind {
+            &Kind::Init { slot, location, .. } => {
+                let location = frame.location(location);
+                self.bind(slot, Slot::Qubit(location));
+                effect = Effect::Takes(location);
+            }
+            &Kind::Free { slot } => {
+                effect = frame.qubit(slot).map_or(Effect::Nothing, Effect::Gives);
+                self.bind(slot, Slot::Unbound);
+            }
+            &Kind::Measure { into, .. } => self.bind(into, Slot::Bool(outcome)),
+            &Kind::Merge { into, first, second } => {
+                if let (Some(first), Some(second)) = (frame.qubit(first), frame.qubit(second)) {
+                    effect = Effect::Merges(first, second);
+                }
+                self.bind(into, Slot::Bool(outcome));
+            }
+            &Kind::Ref { into, from } => self.bind(into, frame.value(from).map_or(Slot::Unbound, Slot::Reference)),
+            &Kind::Get { into, from } => self.bind(into, frame.value(from).map_or(Slot::Unbound, Slot::Bool)),
+            &Kind::Set { reference, from } => self.bind(reference, frame.value(from).map_or(Slot::Unbound, Slot::Reference)),
+            &Kind::Bool { into, value } => self.bind(into, Slot::Bool(value)),
+            Kind::Gate { .. } | Kind::If { .. } | Kind::While { .. } | Kind::Call { .. } => {}
+        }
+        let guarded = if let Kind::If { guard, .. } = &statement.kind { self.frame().value(*guard) } else { None };
+        self.advance();
+        match &statement.kind {
+            Kind::If { then, otherwise, .. } => self.put(if guarded == Some(true) { then } else { otherwise }),
+            Kind::Call { function, locations, .. } => self.enter(statement, *function, locations),
+            _ => {}
+        }
+        effect
+    }
+
+    fn bind(&mut self, slot: u8, holds: Slot) {
+        let last = self.frames.len() - 1;
+        self.frames[last].slots[usize::from(slot)] = holds;
+    }
+
+    /// Puts a block's statements next.
+    fn put(&mut self, block: &'a Block) {
+        if !block.statements.is_empty() {
+            self.rest.push(Rest::Statements(&block.statements));
+        }
+    }
+
+    /// Leaves the next statement behind.
+    fn advance(&mut self) {
+        if let Some(Rest::Statements(statements)) = self.rest.pop() {
+            if statements.len() > 1 {
+                self.rest.push(Rest::Statements(&statements[1..]));
+            }
+        }
+    }
+
+    fn enter(&mut self, call: &'a Statement, function: usize, locations: &[u8]) {
+        let callee = &self.program.functions[function];
+        let locations: Vec<usize> = locations.iter().map(|&byte| self.frame().location(byte)).collect();
+        let mut slots = [Slot::Unbound; 32];
+        for (slot, &location) in slots.iter_mut().zip(&locations).take(callee.arguments) {
+            *slot = Slot::Qubit(location);
+        }
+        self.frames.push(Frame { body: Body::Function(function), call: Some(call), locations, slots });
+        self.rest.push(Rest::Return);
+        self.put(&callee.body);
+    }
+
+    /// Drops the frame; the caller's slot for argument i stays bound where callee slot i holds a qubit at the call's location i.
+    fn returns(&mut self, call: &'a Statement) {
+        if let (Some(left), Kind::Call { slots, .. }) = (self.frames.pop(), &call.kind) {
+            for (i, &slot) in slots.iter().enumerate() {
+                if left.slots[i] != Slot::Qubit(left.locations[i]) {
+                    self.bind(slot, Slot::Unbound);
+                }
+            }
+        }
+    }
+}

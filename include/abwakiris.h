@@ -36,9 +36,9 @@ extern "C" {
 #endif
 
 /* The version of this interface. */
-#define ABWAKIRIS_VERSION "0.10.0"
+#define ABWAKIRIS_VERSION "0.11.0"
 #define ABWAKIRIS_VERSION_MAJOR 0
-#define ABWAKIRIS_VERSION_MINOR 10
+#define ABWAKIRIS_VERSION_MINOR 11
 #define ABWAKIRIS_VERSION_PATCH 0
 
 /* Taking an answer apart. */

@@ -2,19 +2,51 @@
 
 use super::Command;
 use crate::args::{Asked, Takes};
-use crate::said::{trouble, Said, Trouble};
+use crate::input::{self, Named};
+use crate::output;
+use crate::said::{Said, Trouble};
 
 pub const COMMAND: Command = Command {
     name: "bundle",
     usage: "DEVICE PROGRAM",
     about: "what the printing program reads",
-    help: "",
+    help: "Writes a bundle: u16 length and device file, u16 length and program file, nothing more. What is in the files does not matter: the printing \
+           program, as samples/verdict runs it, judges the bundle. A bundle is not for a terminal: name a file, or send it on; -o - writes it there all the \
+           same.\n\
+           \n\
+           example:\n\
+           \n\
+           \x20   abwakiris bundle samples/device-g samples/program-a | samples/verdict -\n\
+           \n\
+           \x20   OK 5",
     takes: (2, 2),
     options: &[Takes::Output],
     json: false,
     does,
 };
 
-fn does(_asked: &Asked) -> Result<Said, Trouble> {
-    trouble("not built yet")
+/// The most bytes of a bundle that the printing program takes.
+const MOST_BUNDLE_BYTES: usize = 8192;
+
+fn does(asked: &Asked) -> Result<Said, Trouble> {
+    let mut bundle = vec![];
+    for word in &asked.words {
+        put(&mut bundle, &input::file(word)?)?;
+    }
+    let length = bundle.len();
+    let said = output::bytes_into(asked.value(Takes::Output), "a bundle", bundle)?;
+    Ok(if length > MOST_BUNDLE_BYTES {
+        said.with_note(format!("the bundle has {length} bytes; the printing program says BAD to more than {MOST_BUNDLE_BYTES}"))
+    } else {
+        said
+    })
+}
+
+/// Puts a file after its length, high byte first.
+fn put(bundle: &mut Vec<u8>, file: &Named) -> Result<(), Trouble> {
+    let too_long = |_| Trouble(format!("{}: has {} bytes, and the u16 length of a bundle can say at most {}", file.name, file.bytes.len(), u16::MAX));
+    let length = u16::try_from(file.bytes.len()).map_err(too_long)?;
+    bundle.extend_from_slice(&length.to_be_bytes());
+    bundle.extend_from_slice(&file.bytes);
+    Ok(())
 }

@@ -2,6 +2,7 @@
 
 mod bundle;
 mod check;
+mod help;
 mod list;
 mod refusal;
 mod route;
@@ -9,6 +10,8 @@ mod run;
 mod show;
 mod unlist;
 mod why;
+
+pub use help::overview;
 
 use crate::args::{Asked, Takes};
 use crate::said::{Said, Trouble};
@@ -20,7 +23,7 @@ pub struct Command {
     pub usage: &'static str,
     /// In one line.
     pub about: &'static str,
-    /// The rest of its help page.
+    /// The rest of its help page: paragraphs, which are wrapped, and lines that begin with a space, which are not.
     pub help: &'static str,
     /// The least and the most words that are no options.
     pub takes: (usize, usize),
@@ -33,26 +36,6 @@ pub struct Command {
 /// All commands, in the order of the help page.
 pub static COMMANDS: &[Command] =
     &[check::COMMAND, why::COMMAND, route::COMMAND, run::COMMAND, list::COMMAND, unlist::COMMAND, show::COMMAND, bundle::COMMAND, refusal::COMMAND];
-
-impl Command {
-    /// Its help page.
-    pub fn page(&self) -> String {
-        let mut page = format!("abwakiris {}: {}\n\nusage: abwakiris {0} {}\n", self.name, self.about, self.usage);
-        if !self.help.is_empty() {
-            page.push_str(&format!("\n{}\n", self.help.trim_end()));
-        }
-        page.push('\n');
-        for option in self.options {
-            let (name, value) = option.written();
-            page.push_str(&format!("    {:22}  {}\n", format!("{name} {value}"), option.about()));
-        }
-        if self.json {
-            page.push_str(&format!("    {:22}  one line of JSON, for machines\n", "--json"));
-        }
-        page.push_str(&format!("    {:22}  this page\n", "--help"));
-        page
-    }
-}
 
 impl std::fmt::Debug for Command {
     fn fmt(&self, f: &mut std::fmt::Formatter<'_>) -> std::fmt::Result {

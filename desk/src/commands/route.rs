@@ -1,20 +1,129 @@
 //! `abwakiris route`: the route between two locations.
 
 use super::Command;
-use crate::args::{Asked, Takes};
+use crate::args::{number, Asked, Takes};
+use crate::device::Device;
+use crate::explain::{refused, Given};
+use crate::input;
+use crate::json::Json;
+use crate::layout::Layout;
+use crate::picture::{Mark, Picture};
 use crate::said::{trouble, Said, Trouble};
+use crate::terminal;
+use abwakiris::{Job, Number, MOST_LOCATIONS};
+use std::ffi::OsStr;
 
 pub const COMMAND: Command = Command {
     name: "route",
     usage: "DEVICE FROM TO",
     about: "the route between two locations",
-    help: "",
+    help: "Asks the library for the route of a merge between the locations FROM and TO: the shortest path over free locations of the job's region, and \
+           among those the smallest from FROM on. The two ends may be occupied. The device is drawn with the route or, where there is no path, with what is \
+           reached from FROM.\n\
+           \n\
+           example:\n\
+           \n\
+           \x20   abwakiris route samples/device-g 0 2 --occupied 1\n\
+           \n\
+           \x20   route: 0 3 4 5 2 (4 edges)",
     takes: (3, 3),
     options: &[Takes::Job, Takes::Occupied, Takes::Width],
     json: true,
     does,
 };
 
-fn does(_asked: &Asked) -> Result<Said, Trouble> {
-    trouble("not built yet")
+fn does(asked: &Asked) -> Result<Said, Trouble> {
+    let ends = [number(&asked.words[1], "FROM")?, number(&asked.words[2], "TO")?];
+    let file = input::file(&asked.words[0])?;
+    let given = Given { device: Some(&file), ends: Some(ends), ..Given::default() };
+    let job = match asked.job()? {
+        Ok(job) => job,
+        Err(refusal) => return Ok(refused("route", asked.json, refusal, &Given { job_number: asked.number(Takes::Job)?, ..given })),
+    };
+    let given = Given { job: Some(job), ..given };
+    let device = match Device::read(&file.bytes) {
+        Ok(device) => device,
+        Err(refusal) => return Ok(refused("route", asked.json, refusal, &given)),
+    };
+    let scene = Scene { device: &device, job, occupied: occupied(asked, &device)?, ends, width: asked.width()? };
+    let mut buffer = [0; MOST_LOCATIONS];
+    Ok(match abwakiris::route(&device.bytes, job, &scene.occupied, ends[0], ends[1], &mut buffer) {
+        Ok(length) => scene.found(asked.json, &buffer[..length]),
+        Err(refusal) => {
+            let mut said = refused("route", asked.json, refusal, &given);
+            if refusal.number == Number::NoPath && !asked.json {
+                said.out.extend_from_slice(format!("\n{}", scene.drawn(&[])).as_bytes());
+            }
+            said
+        }
+    })
+}
+
+/// What the library was asked about.
+struct Scene<'a> {
+    device: &'a Device,
+    job: Job,
+    /// A byte for each location, 1 where it is occupied.
+    occupied: Vec<u8>,
+    ends: [u64; 2],
+    width: Option<usize>,
+}
+
+impl Scene<'_> {
+    fn found(&self, json: bool, route: &[u8]) -> Said {
+        let edges = route.len() - 1;
+        let locations: Vec<String> = route.iter().map(u8::to_string).collect();
+        let line = format!("route: {} ({edges} {})", locations.join(" "), if edges == 1 { "edge" } else { "edges" });
+        let machine = || {
+            let found = Json::object([("command", "route".into()), ("verdict", "accepted".into()), ("job", self.job.number().into())]);
+            found.with("route", Json::list(route.iter().copied())).with("edges", edges)
+        };
+        Said::of(true, json, || format!("{line}\n\n{}", self.drawn(route)), machine)
+    }
+
+    /// The device with the ends, what is occupied and the route; without one, with what is reached from the first end.
+    fn drawn(&self, route: &[u8]) -> String {
+        let mut picture = Picture::of(self.device, Some(self.job), format!("from {} to {}, {}", self.ends[0], self.ends[1], self.job));
+        picture.route = route.iter().map(|&location| usize::from(location)).collect();
+        for (mark, _) in picture.marks.iter_mut().zip(&self.occupied).filter(|(mark, &byte)| **mark == Mark::Free && byte != 0) {
+            *mark = Mark::Occupied;
+        }
+        for (end, mark) in self.ends.into_iter().zip([Mark::First, Mark::Second]) {
+            if let Some(at) = usize::try_from(end).ok().and_then(|end| picture.marks.get_mut(end)) {
+                *at = mark;
+            }
+        }
+        if route.is_empty() {
+            self.reach(&mut picture.marks);
+        }
+        terminal::drawn(self.device, &Layout::of(self.device, self.width), &picture)
+    }
+
+    /// Marks the free locations that are reached over free ones from the first end.
+    fn reach(&self, marks: &mut [Mark]) {
+        let mut next: Vec<usize> = marks.iter().position(|mark| *mark == Mark::First).into_iter().collect();
+        while let Some(location) = next.pop() {
+            for &neighbour in self.device.near(location) {
+                if marks[neighbour] == Mark::Free {
+                    marks[neighbour] = Mark::Reached;
+                    next.push(neighbour);
+                }
+            }
+        }
+    }
+}
+
+// as common::occupied
+/// The occupancy that is asked for: a byte for each location, 1 where it is occupied.
+fn occupied(asked: &Asked, device: &Device) -> Result<Vec<u8>, Trouble> {
+    let mut occupied = vec![0; device.locations()];
+    let words = asked.value(Takes::Occupied).map(|value| value.to_string_lossy().into_owned());
+    for word in words.iter().flat_map(|words| words.split(',')) {
+        let location = number(OsStr::new(word.trim()), "--occupied")?;
+        match usize::try_from(location).ok().and_then(|location| occupied.get_mut(location)) {
+            Some(byte) => *byte = 1,
+            None => return trouble(format!("--occupied: there is no location {location}; the device has 0 to {}", device.locations() - 1)),
+        }
+    }
+    Ok(occupied)
 }

@@ -218,13 +218,39 @@ impl<'a> Machine<'a> {
         self.put(&callee.body);
     }
 
-    /// Drops the frame; the caller's slot for argument i stays bound where callee slot i holds a qubit at the call's location i.
+    /// Drops the frame.
     fn returns(&mut self, call: &'a Statement) {
-        if let (Some(left), Kind::Call { slots, .. }) = (self.frames.pop(), &call.kind) {
-            for (i, &slot) in slots.iter().enumerate() {
-                if left.slots[i] != Slot::Qubit(left.locations[i]) {
-                    self.bind(slot, Slot::Unbound);
+        if let (Some(left), Some(caller)) = (self.frames.pop(), self.frames.last_mut()) {
+            give_back(&mut caller.slots, call, &left.slots, &left.locations);
+        }
+    }
+
+    /// The qubits of the job as locations with the slots that hold them, those of the innermost body first. A slot that a call was given is left out where
+    /// the callee no longer holds its qubit.
+    pub fn held(&self) -> Vec<(usize, u8)> {
+        let mut held = vec![];
+        let mut inner: Option<(&Frame, [Slot; 32])> = None;
+        for frame in self.frames.iter().rev() {
+            let mut slots = frame.slots;
+            if let Some((callee, left)) = inner {
+                if let Some(call) = callee.call {
+                    give_back(&mut slots, call, &left, &callee.locations);
                 }
+            }
+            let qubits = slots.iter().zip(0..).filter_map(|(holds, slot)| if let Slot::Qubit(location) = holds { Some((*location, slot)) } else { None });
+            held.extend(qubits);
+            inner = Some((frame, slots));
+        }
+        held
+    }
+}
+
+/// What a return does to the caller's slots: the one given for argument i stays bound where callee slot i holds a qubit at the call's location i.
+fn give_back(caller: &mut [Slot; 32], call: &Statement, callee: &[Slot; 32], locations: &[usize]) {
+    if let Kind::Call { slots, .. } = &call.kind {
+        for ((&slot, holds), &location) in slots.iter().zip(callee).zip(locations) {
+            if *holds != Slot::Qubit(location) {
+                caller[usize::from(slot)] = Slot::Unbound;
             }
         }
     }

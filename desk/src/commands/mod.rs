@@ -2,6 +2,7 @@
 
 mod bundle;
 mod check;
+mod common;
 mod help;
 mod list;
 mod refusal;

@@ -30,7 +30,12 @@ pub fn bytes_into(file: Option<&OsStr>, what: &str, bytes: Vec<u8>) -> Result<Sa
     into(file, Said::accepted(bytes))
 }
 
-fn write(name: &OsStr, bytes: &[u8]) -> Result<(), Trouble> {
+/// Writes a file.
+///
+/// # Errors
+///
+/// Where it cannot be written.
+pub fn write(name: &OsStr, bytes: &[u8]) -> Result<(), Trouble> {
     if name.is_empty() {
         return trouble("-o takes the name of a file, and the one given is empty");
     }

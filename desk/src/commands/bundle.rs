@@ -12,13 +12,7 @@ pub const COMMAND: Command = Command {
     about: "what the printing program reads",
     help: "Writes a bundle: u16 length and device file, u16 length and program file, nothing more. What is in the files does not matter: the printing \
            program, as samples/verdict runs it, judges the bundle. A bundle is not for a terminal: name a file, or send it on; -o - writes it there all the \
-           same.\n\
-           \n\
-           example:\n\
-           \n\
-           \x20   abwakiris bundle samples/device-g samples/program-a | samples/verdict -\n\
-           \n\
-           \x20   OK 5",
+           same.",
     takes: (2, 2),
     options: &[Takes::Output],
     json: false,

@@ -12,14 +12,7 @@ pub const COMMAND: Command = Command {
     usage: "DEVICE PROGRAM",
     about: "accepted with its numbers, or the refusal in words",
     help: "Asks the library whether PROGRAM can be loaded for the job on DEVICE and never halts the machine. Accepted: the number of its commands. \
-           Refused: the place, what the rule asks, what was found there and what usually mends it. abwakiris why says more of a merge without a path.\n\
-           \n\
-           example:\n\
-           \n\
-           \x20   abwakiris check samples/device-g samples/program-a\n\
-           \n\
-           \x20   accepted: samples/program-a on samples/device-g for job 1\n\
-           \x20   commands: 5",
+           Refused: the place, what the rule asks, what was found there and what usually mends it. abwakiris why says more of a merge without a path.",
     takes: (2, 2),
     options: &[Takes::Job],
     json: true,

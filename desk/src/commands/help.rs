@@ -4,6 +4,19 @@ use super::{Command, COMMANDS};
 
 const COLUMNS: usize = 100;
 
+/// An example of each command, and what it prints where that is short.
+const EXAMPLES: [(&str, &str); 9] = [
+    ("check", "samples/device-g samples/program-a\n\naccepted: samples/program-a on samples/device-g for job 1\ncommands: 5"),
+    ("why", "samples/story-device samples/story-program"),
+    ("route", "samples/device-g 0 2 --occupied 1\n\nroute: 0 3 4 5 2 (4 edges)\n.."),
+    ("run", "samples/device-g samples/program-a none 10101110"),
+    ("list", "samples/program-a\n\nprogram 1\nmain\n  init 0 0\n  init 1 2\n  merge 2 X 0 X 1\n  free 0\n  free 1"),
+    ("unlist", "samples/listing-a -o program-a"),
+    ("show", "samples/device-g samples/program-a none --run 10101110 -o page.html"),
+    ("bundle", "samples/device-g samples/program-a | samples/verdict -\n\nOK 5"),
+    ("refusal", "21"),
+];
+
 /// The page of the whole tool.
 pub fn overview() -> String {
     let mut page = String::from("abwakiris: what the proved library says of devices and programs, in words and pictures\n\n");
@@ -27,6 +40,9 @@ impl Command {
         if !self.help.is_empty() {
             page.push('\n');
             page.push_str(&wrapped(self.help.trim_end()));
+        }
+        if let Some((name, example)) = EXAMPLES.iter().find(|(name, _)| *name == self.name) {
+            page.push_str(&format!("\nexample:\n\n    abwakiris {name} {}\n", example.replace('\n', "\n    ").replace("    \n", "\n")));
         }
         page.push_str("\noptions:\n\n");
         page.push_str(&table(&self.option_lines()));
@@ -62,15 +78,21 @@ fn table(lines: &[(String, &str)]) -> String {
 
 /// Paragraphs, wrapped; a line that begins with a space is left as it is.
 fn wrapped(text: &str) -> String {
-    let line = |line: &str| {
-        if line.starts_with(' ') || line.is_empty() {
-            return format!("{line}\n");
+    let is_kept = |line: &str| line.is_empty() || line.starts_with(' ');
+    let mut wrapped = String::new();
+    let mut paragraph: Vec<String> = vec![];
+    for line in text.lines().chain([""]) {
+        if !is_kept(line) {
+            paragraph.extend(line.split_whitespace().map(str::to_string));
+            continue;
         }
-        let mut words = line.split_whitespace().map(str::to_string);
-        let first = words.next().unwrap_or_default();
-        fill(&first, 0, words)
-    };
-    text.lines().map(line).collect()
+        if !paragraph.is_empty() {
+            wrapped.push_str(&fill("", 0, paragraph.drain(..)));
+        }
+        wrapped.push_str(line);
+        wrapped.push('\n');
+    }
+    wrapped.trim_end().to_string() + "\n"
 }
 
 /// Lines of words, a space between two of them: the first line begins with these, the others with so many spaces.
@@ -78,12 +100,12 @@ fn fill(begin: &str, indent: usize, words: impl Iterator<Item = String>) -> Stri
     let mut text = String::new();
     let mut line = begin.to_string();
     for word in words {
-        if line.len() + 1 + word.len() > COLUMNS {
+        if line.len() + 1 + word.len() > COLUMNS && line.len() > indent {
             text.push_str(line.trim_end());
             text.push('\n');
             line = " ".repeat(indent);
         }
-        if line.len() > indent || indent > 0 {
+        if !line.is_empty() {
             line.push(' ');
         }
         line.push_str(&word);
@@ -94,6 +116,8 @@ fn fill(begin: &str, indent: usize, words: impl Iterator<Item = String>) -> Stri
 #[cfg(test)]
 mod tests {
     use super::*;
+    use crate::args::{taken, Taken};
+    use std::ffi::OsString;
 
     #[test]
     fn columns() {
@@ -107,9 +131,14 @@ mod tests {
 
     #[test]
     fn examples() {
-        for command in COMMANDS.iter().filter(|command| !command.help.is_empty()) {
-            let example = format!("\n    abwakiris {} ", command.name);
-            assert!(command.page().contains(&example), "{} has no example", command.name);
+        for command in COMMANDS {
+            let line = format!("\n    abwakiris {} ", command.name);
+            let page = command.page();
+            assert_eq!(page.matches(&line).count(), 1, "{page}");
+            let example = page.lines().find_map(|text| text.strip_prefix("    abwakiris ")).unwrap_or_default();
+            let words = example.split(" | ").next().unwrap_or_default().split_whitespace();
+            let taken = taken(words.map(OsString::from).collect());
+            assert!(matches!(taken, Ok(Taken::Asked(_))), "{example}: {taken:?}");
         }
     }
 
@@ -117,7 +146,7 @@ mod tests {
     fn wrapping() {
         let words = "word ".repeat(40);
         assert_eq!(wrapped(&words), format!("{}\n{}\n", "word ".repeat(20).trim_end(), "word ".repeat(20).trim_end()));
-        assert_eq!(wrapped("a  b\n\n    as it  is"), "a b\n\n    as it  is\n");
+        assert_eq!(wrapped("a  b\nc\n\n    as it  is\nd"), "a b c\n\n    as it  is\nd\n");
         let long = "x".repeat(200);
         assert_eq!(wrapped(&format!("a {long} b")), format!("a\n{long}\nb\n"));
         assert_eq!(table(&[("a".to_string(), "one"), ("bcd".to_string(), "two")]), "    a    one\n    bcd  two\n");

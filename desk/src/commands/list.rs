@@ -14,19 +14,7 @@ pub const COMMAND: Command = Command {
     usage: "PROGRAM",
     about: "the listing of a program",
     help: "Writes the program as text, one statement a line, as docs/listing.md has it. abwakiris unlist makes the same program of it again. Where the \
-           program does not read it is refused, and no file is written.\n\
-           \n\
-           example:\n\
-           \n\
-           \x20   abwakiris list samples/program-a\n\
-           \n\
-           \x20   program 1\n\
-           \x20   main\n\
-           \x20     init 0 0\n\
-           \x20     init 1 2\n\
-           \x20     merge 2 X 0 X 1\n\
-           \x20     free 0\n\
-           \x20     free 1",
+           program does not read it is refused, and no file is written.",
     takes: (1, 1),
     options: &[Takes::Output],
     json: true,

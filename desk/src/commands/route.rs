@@ -19,13 +19,7 @@ pub const COMMAND: Command = Command {
     about: "the route between two locations",
     help: "Asks the library for the route of a merge between the locations FROM and TO: the shortest path over free locations of the job's region, and \
            among those the smallest from FROM on. The two ends may be occupied. The device is drawn with the route or, where there is no path, with what is \
-           reached from FROM.\n\
-           \n\
-           example:\n\
-           \n\
-           \x20   abwakiris route samples/device-g 0 2 --occupied 1\n\
-           \n\
-           \x20   route: 0 3 4 5 2 (4 edges)",
+           reached from FROM.",
     takes: (3, 3),
     options: &[Takes::Job, Takes::Occupied, Takes::Width],
     json: true,

@@ -12,11 +12,7 @@ pub const COMMAND: Command = Command {
     usage: "TEXT",
     about: "the program of a listing",
     help: "Writes the bytes of the program that TEXT is the listing of. Exactly the text that abwakiris list writes is taken; else it is refused, and no \
-           file is written. The bytes are not for a terminal: name a file, or send them on; -o - writes them there all the same.\n\
-           \n\
-           example:\n\
-           \n\
-           \x20   abwakiris unlist samples/listing-a -o program-a",
+           file is written. The bytes are not for a terminal: name a file, or send them on; -o - writes them there all the same.",
     takes: (1, 1),
     options: &[Takes::Output],
     json: true,

@@ -9,10 +9,10 @@ const EXAMPLES: [(&str, &str); 9] = [
     ("check", "samples/device-g samples/program-a\n\naccepted: samples/program-a on samples/device-g for job 1\ncommands: 5"),
     ("why", "samples/story-device samples/story-program"),
     ("route", "samples/device-g 0 2 --occupied 1\n\nroute: 0 3 4 5 2 (4 edges)\n.."),
-    ("run", "samples/device-g samples/program-a none 10101110"),
+    ("run", "samples/story-device samples/story-program none 10101010101011101010"),
     ("list", "samples/program-a\n\nprogram 1\nmain\n  init 0 0\n  init 1 2\n  merge 2 X 0 X 1\n  free 0\n  free 1"),
     ("unlist", "samples/listing-a -o program-a"),
-    ("show", "samples/device-g samples/program-a none --run 10101110 -o page.html"),
+    ("show", "samples/story-device -o story.svg"),
     ("bundle", "samples/device-g samples/program-a | samples/verdict -\n\nOK 5"),
     ("refusal", "21"),
 ];

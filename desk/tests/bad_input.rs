@@ -205,7 +205,7 @@ fn files_that_cannot_be_read() {
         (room.path("a\nb\x1B[0m"), "a\\nb\\u{1b}[0m: no such file"),
     ];
     let unreadable = room.file("unreadable", b"x");
-    fs::set_permissions(&unreadable, fs::Permissions::from_mode(0)).unwrap();
+    fs::set_permissions(&unreadable, fs::Permissions::from_mode(0o000)).unwrap();
     if File::open(&unreadable).is_err() {
         cases.push((unreadable, "unreadable: may not be read"));
     }

@@ -1,5 +1,6 @@
 //! `abwakiris route`: the route between two locations.
 
+use super::common::{layout, occupied};
 use super::Command;
 use crate::args::{number, Asked, Takes};
 use crate::device::Device;
@@ -8,10 +9,9 @@ use crate::input;
 use crate::json::Json;
 use crate::layout::Layout;
 use crate::picture::{Mark, Picture};
-use crate::said::{trouble, Said, Trouble};
+use crate::said::{Said, Trouble};
 use crate::terminal;
 use abwakiris::{Job, Number, MOST_LOCATIONS};
-use std::ffi::OsStr;
 
 pub const COMMAND: Command = Command {
     name: "route",
@@ -39,7 +39,7 @@ fn does(asked: &Asked) -> Result<Said, Trouble> {
         Ok(device) => device,
         Err(refusal) => return Ok(refused("route", asked.json, refusal, &given)),
     };
-    let scene = Scene { device: &device, job, occupied: occupied(asked, &device)?, ends, width: asked.width()? };
+    let scene = Scene { device: &device, job, occupied: occupied(asked, &device)?, ends, layout: layout(asked, &device)? };
     let mut buffer = [0; MOST_LOCATIONS];
     Ok(match abwakiris::route(&device.bytes, job, &scene.occupied, ends[0], ends[1], &mut buffer) {
         Ok(length) => scene.found(asked.json, &buffer[..length]),
@@ -60,12 +60,12 @@ struct Scene<'a> {
     /// A byte for each location, 1 where it is occupied.
     occupied: Vec<u8>,
     ends: [u64; 2],
-    width: Option<usize>,
+    layout: Layout,
 }
 
 impl Scene<'_> {
     fn found(&self, json: bool, route: &[u8]) -> Said {
-        let edges = route.len() - 1;
+        let edges = route.len().saturating_sub(1);
         let locations: Vec<String> = route.iter().map(u8::to_string).collect();
         let line = format!("route: {} ({edges} {})", locations.join(" "), if edges == 1 { "edge" } else { "edges" });
         let machine = || {
@@ -90,7 +90,7 @@ impl Scene<'_> {
         if route.is_empty() {
             self.reach(&mut picture.marks);
         }
-        terminal::drawn(self.device, &Layout::of(self.device, self.width), &picture)
+        terminal::drawn(self.device, &self.layout, &picture)
     }
 
     /// Marks the free locations that are reached over free ones from the first end.
@@ -105,19 +105,4 @@ impl Scene<'_> {
             }
         }
     }
-}
-
-// as common::occupied
-/// The occupancy that is asked for: a byte for each location, 1 where it is occupied.
-fn occupied(asked: &Asked, device: &Device) -> Result<Vec<u8>, Trouble> {
-    let mut occupied = vec![0; device.locations()];
-    let words = asked.value(Takes::Occupied).map(|value| value.to_string_lossy().into_owned());
-    for word in words.iter().flat_map(|words| words.split(',')) {
-        let location = number(OsStr::new(word.trim()), "--occupied")?;
-        match usize::try_from(location).ok().and_then(|location| occupied.get_mut(location)) {
-            Some(byte) => *byte = 1,
-            None => return trouble(format!("--occupied: there is no location {location}; the device has 0 to {}", device.locations() - 1)),
-        }
-    }
-    Ok(occupied)
 }

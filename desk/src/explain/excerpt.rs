@@ -29,16 +29,15 @@ const COLUMNS: usize = 120;
 impl Excerpt {
     /// A line of a listing and the lines around it, the statement marked.
     pub fn of_line(listing: &Listing, number: usize) -> Excerpt {
-        let lines: Vec<String> = listing.lines.iter().map(|line| line.text.clone()).collect();
-        Excerpt::around(&lines, number, |text| (indent(text), text.len() - indent(text)))
+        let line = |i: usize| listing.lines.get(i - 1).map(|line| line.text.clone());
+        Excerpt::around(number, line, |text| (indent(text), text.len() - indent(text)))
     }
 
-    /// A line of these, numbered from 1, and the lines around it; the mark of the line by its text.
-    pub fn around(lines: &[String], number: usize, mark: impl Fn(&str) -> (usize, usize)) -> Excerpt {
+    /// The line of this number, from 1, and the lines around it, as far as there are any; its mark by its text.
+    pub fn around(number: usize, line: impl Fn(usize) -> Option<String>, mark: impl Fn(&str) -> (usize, usize)) -> Excerpt {
+        let row = |i: usize| line(i).map(|text| Row { number: i, mark: (i == number).then(|| mark(&text)), text });
         let first = number.saturating_sub(AROUND).max(1);
-        let shown = lines.iter().enumerate().skip(first - 1).take(number + AROUND + 1 - first);
-        let row = |(i, text): (usize, &String)| Row { number: i + 1, text: text.clone(), mark: (i + 1 == number).then(|| mark(text)) };
-        Excerpt { head: None, rows: shown.map(row).collect() }
+        Excerpt { head: None, rows: (first..=number + AROUND).filter_map(row).collect() }
     }
 
     /// The last of these lines, which go before a fault.
@@ -69,7 +68,7 @@ impl Excerpt {
     pub fn drawn(&self, width: usize) -> String {
         let mut text = String::new();
         if let Some(head) = &self.head {
-            text.push_str(&format!("{:width$}::: {head}\n", ""));
+            text.push_str(&format!("{:width$} |\n{:width$}::: {head}\n", "", ""));
         }
         text.push_str(&format!("{:width$} |\n", ""));
         for row in &self.rows {
@@ -77,7 +76,7 @@ impl Excerpt {
             text.truncate(text.trim_end_matches(' ').len());
             text.push('\n');
             if let Some((column, length)) = row.mark {
-                let (column, length) = (column.min(COLUMNS), length.min(COLUMNS).max(1));
+                let (column, length) = (column.min(COLUMNS), length.clamp(1, COLUMNS));
                 text.push_str(&format!("{:width$} | {:column$}{}\n", "", "", "^".repeat(length)));
             }
         }
@@ -91,7 +90,8 @@ fn mark(i: usize, marked: usize, room: usize) -> (usize, usize) {
     (3 * i, 3 * marked - 1)
 }
 
-fn indent(text: &str) -> usize {
+/// How many spaces a line begins with.
+pub fn indent(text: &str) -> usize {
     text.len() - text.trim_start_matches(' ').len()
 }
 
@@ -103,7 +103,8 @@ fn cut(text: &str) -> String {
     format!("{} ..", text.chars().take(COLUMNS).collect::<String>())
 }
 
-/// Bytes as one line of ASCII: what cannot be printed is shown by its number.
+/// Bytes as one line of ASCII, as far as it is read: what cannot be printed is shown by its number.
 pub fn printable(bytes: &[u8]) -> String {
-    bytes.iter().flat_map(|&byte| std::ascii::escape_default(byte)).map(char::from).collect::<String>().replace("\\'", "'").replace("\\\"", "\"")
+    let letter = |byte: u8| if (b' '..=b'~').contains(&byte) { char::from(byte).to_string() } else { std::ascii::escape_default(byte).to_string() };
+    cut(&bytes.iter().take(2 * COLUMNS).map(|&byte| letter(byte)).collect::<String>())
 }

@@ -1,5 +1,6 @@
 //! What typing found where it refused, in words: slots, locations, and the lines of the listing that made them what they are.
 
+use super::part::Values;
 use super::typing::{at_end, Found, Holds, Since, Slot, Why};
 use super::words::Of;
 use crate::device::Device;
@@ -36,7 +37,7 @@ pub fn case(found: &Found, program: &Program) -> Of {
 
 impl Words<'_> {
     /// The words in braces of what is asked.
-    pub fn values(&self, found: &Found) -> Vec<(&'static str, String)> {
+    pub fn values(&self, found: &Found) -> Values {
         let slot = |slot: u8| ("{slot}", format!("slot {slot}"));
         let location = |byte: u8| ("{location}", self.location(byte));
         match found.why {

@@ -3,19 +3,24 @@
 mod count;
 mod excerpt;
 mod found;
-mod path;
+mod in_device;
+mod in_listing;
+mod in_no_file;
+mod in_program;
+mod lines;
+mod part;
+mod partial;
+pub mod path;
 pub mod typing;
 pub mod words;
 
-use crate::device::Device;
 use crate::input::Named;
 use crate::json::Json;
-use crate::program::Program;
 use crate::said::Said;
 use abwakiris::{File, Job, Refusal};
 use excerpt::Excerpt;
-use found::Words;
-use words::{filled, Of};
+use part::Part;
+use words::filled;
 
 /// What a call was given, as far as it is known.
 #[derive(Clone, Copy, Debug, Default)]
@@ -71,19 +76,6 @@ pub struct Explained {
     pub see: Option<String>,
 }
 
-/// What a part of this module has to say of a refusal.
-#[derive(Debug, Default)]
-struct Part {
-    at: Option<String>,
-    line: Option<usize>,
-    statement: Option<String>,
-    excerpts: Vec<Excerpt>,
-    case: Option<Of>,
-    values: Vec<(&'static str, String)>,
-    found: Vec<String>,
-    see: Option<String>,
-}
-
 /// The refusal of a call that was given this, in words.
 pub fn explained(refusal: Refusal, given: &Given) -> Explained {
     let mut part = said(refusal, given);
@@ -115,63 +107,16 @@ fn job_of(refusal: Refusal, given: &Given) -> Option<Job> {
 
 /// What there is to say of the refusal.
 fn said(refusal: Refusal, given: &Given) -> Part {
-    match refusal.file {
-        File::Program(_) => given.file(refusal.file).and_then(|named| in_program(refusal, named, given)).unwrap_or_default(),
+    let (number, place) = (refusal.number.number(), refusal.place as usize);
+    let bytes = given.file(refusal.file).map(|named| named.bytes.as_slice());
+    match (refusal.file, bytes) {
+        (File::NoFile, _) => in_no_file::said(number, place, given),
+        (File::Device, Some(bytes)) => in_device::said(number, place, bytes),
+        (File::Schedule, Some(bytes)) => in_no_file::in_schedule(number, place, bytes),
+        (File::Listing, Some(bytes)) => in_listing::said(place, bytes),
+        (File::Program(_), Some(bytes)) => in_program::said(refusal, bytes, given),
         _ => Part::default(),
     }
-}
-
-/// A refusal in a program that reads.
-fn in_program(refusal: Refusal, named: &Named, given: &Given) -> Option<Part> {
-    let program = Program::read(&named.bytes).ok()?;
-    let place = refusal.place as usize;
-    if refusal.number.number() == 20 {
-        return Some(Part { at: Some("the whole program".to_string()), case: Some(Of::Only), found: count::lines(&program), ..Part::default() });
-    }
-    let line = program.listing.number(place);
-    let mut part = Part {
-        at: Some(format!("line {line} of its listing")),
-        line: Some(line),
-        statement: Some(program.listing.text(line).to_string()),
-        excerpts: vec![Excerpt::of_line(&program.listing, line)],
-        ..Part::default()
-    };
-    if let (Some(device), Some(job)) = (given.device.and_then(|device| Device::read(&device.bytes).ok()), job_of(refusal, given)) {
-        let words = Words { device: &device, program: &program, job, body: program.body_at(place) };
-        if refusal.number.number() == 21 {
-            without_path(&mut part, &words, place, given);
-        } else {
-            typed(&mut part, &words, refusal);
-        }
-    }
-    Some(part)
-}
-
-/// What typing found. Where the walk comes to another refusal than the library, nothing is said.
-fn typed(part: &mut Part, words: &Words, refusal: Refusal) {
-    let found = typing::at_refusal(words.device, words.program, words.job);
-    if let Some(found) = found.filter(|found| found.why.number() == refusal.number.number() && found.place == refusal.place as usize) {
-        part.case = Some(found::case(&found, words.program));
-        part.values = words.values(&found);
-        part.found = words.lines(&found);
-    }
-}
-
-/// What is known of a merge without a path, and the command that says more.
-fn without_path(part: &mut Part, words: &Words, place: usize, given: &Given) {
-    part.case = Some(Of::Merge);
-    if let Some((values, found)) = path::at_merge(words, place) {
-        part.values = values;
-        part.found = found;
-    }
-    let name = |named: Option<&Named>, otherwise: &str| named.map_or(otherwise.to_string(), |named| named.name.clone());
-    let program = given.programs[usize::from(words.job.number()) - 1];
-    let job = if words.job == Job::ONE { "" } else { " --job 2" };
-    part.see = Some(format!(
-        "abwakiris why {} {}{job} shows the calls, the device at that moment and the outcomes that lead there",
-        name(given.device, "DEVICE"),
-        name(program, "PROGRAM")
-    ));
 }
 
 impl Explained {

@@ -1,13 +1,14 @@
 //! A merge or a route without a path, as far as it can be told without a walk over the commands.
 
 use super::found::{of, Words};
+use super::part::Values;
 use super::typing::{before, Found, Holds};
 use crate::device::Device;
 use crate::program::{Body, Kind};
 use abwakiris::Job;
 
 /// What is found at a merge: where its qubits are and, in main, which free locations are reached from the first.
-pub fn at_merge(words: &Words, place: usize) -> Option<(Vec<(&'static str, String)>, Vec<String>)> {
+pub(super) fn at_merge(words: &Words, place: usize) -> Option<(Values, Vec<String>)> {
     let (_, statement) = words.program.statement(place)?;
     let (first, second) = if let Kind::Merge { first, second, .. } = statement.kind { (first, second) } else { return None };
     let found = before(words.device, words.program, words.job, place)?;

@@ -232,7 +232,7 @@ impl<'a> Walk<'a> {
             &Kind::Free { slot } | &Kind::Gate { slot } => state.qubit(slot),
             &Kind::Measure { into, slot } => state.unbound(into).or_else(|| state.qubit(slot)),
             &Kind::Merge { into, first, second } => {
-                let itself = || (first == second).then(|| Why::Itself { slot: first });
+                let itself = || (first == second).then_some(Why::Itself { slot: first });
                 state.unbound(into).or_else(|| state.qubit(first)).or_else(|| state.qubit(second)).or_else(itself)
             }
             &Kind::Ref { into, from } => state.unbound(into).or_else(|| state.is(from, Holds::Bool)),
@@ -261,7 +261,7 @@ impl<'a> Walk<'a> {
 
     fn inside(&self, location: u8, parameter: Option<usize>, state: &State) -> Option<Why> {
         let inside = state.body != Body::Main || self.device.has(self.job, usize::from(location));
-        (!inside).then(|| Why::Outside { location, parameter })
+        (!inside).then_some(Why::Outside { location, parameter })
     }
 }
 
@@ -317,15 +317,15 @@ impl State {
     // Each of these gives what is wrong where it is not so.
 
     fn unbound(&self, slot: u8) -> Option<Why> {
-        (self.holds(slot) != Holds::Unbound).then(|| Why::Bound { slot })
+        (self.holds(slot) != Holds::Unbound).then_some(Why::Bound { slot })
     }
 
     fn is(&self, slot: u8, needed: Holds) -> Option<Why> {
-        (self.holds(slot) != needed).then(|| Why::Kind { slot, needed })
+        (self.holds(slot) != needed).then_some(Why::Kind { slot, needed })
     }
 
     fn qubit(&self, slot: u8) -> Option<Why> {
-        (!matches!(self.holds(slot), Holds::Qubit(_))).then(|| Why::Kind { slot, needed: Holds::Qubit(0) })
+        (!matches!(self.holds(slot), Holds::Qubit(_))).then_some(Why::Kind { slot, needed: Holds::Qubit(0) })
     }
 
     /// A location is free where no slot has a qubit there.

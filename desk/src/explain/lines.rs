@@ -173,7 +173,7 @@ impl Lines {
             return Some(wrong);
         }
         match STATEMENTS.iter().find(|(name, _)| name == first) {
-            None => Some(unknown(first)),
+            None => Some(unknown(first, operands.is_empty())),
             Some(("call", _)) => self.call(operands),
             Some((_, form)) if form.len() != operands.len() => Some(format!("`{first}` has {} after it, not {}", many(form.len(), "word"), operands.len())),
             Some((_, form)) => form.chars().zip(operands).find_map(|(operand, word)| self.operand(operand, word)),
@@ -271,10 +271,14 @@ fn is_statement(word: &str) -> bool {
     STATEMENTS.iter().any(|(name, _)| *name == word)
 }
 
-fn unknown(word: &str) -> String {
+/// A word that begins no statement. Where nothing stands after it, it may be the start of one.
+fn unknown(word: &str, alone: bool) -> String {
     let plain = word.to_ascii_lowercase();
     if is_statement(&plain) {
         return format!("{} is written `{plain}`", quoted(word));
+    }
+    if alone && STATEMENTS.iter().any(|(name, _)| name.starts_with(word)) {
+        return format!("{} is no whole line, and none that begins so can stand here", quoted(word));
     }
     let names: Vec<&str> = STATEMENTS.iter().map(|(name, _)| *name).collect();
     format!("{} begins no statement; they begin with {}", quoted(word), names.join(", "))

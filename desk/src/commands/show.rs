@@ -1,20 +1,170 @@
 //! `abwakiris show`: the device drawn, or a run as a page that plays it.
 
-use super::Command;
+use super::{common, Command};
 use crate::args::{Asked, Takes};
+use crate::device::Device;
+use crate::explain::{refused, Given};
+use crate::input::{self, Named};
+use crate::page::page;
+use crate::picture::{Mark, Picture};
+use crate::program::Program;
+use crate::replay::{replay, Replay};
 use crate::said::{trouble, Said, Trouble};
+use crate::{svg, terminal};
+use abwakiris::{Job, Refusal};
+use std::ffi::OsStr;
+use std::path::Path;
 
 pub const COMMAND: Command = Command {
     name: "show",
     usage: "DEVICE [FIRST [SECOND]]",
     about: "the device drawn, or a run as a page that plays it",
-    help: "",
+    help: "\
+Without -o the picture is printed. -o FILE.svg writes it as SVG.
+
+    show DEVICE                       the device, and whose each location is
+    show DEVICE --job 1               the region of a job
+    show DEVICE --occupied 3,4        with these locations occupied
+    show DEVICE FIRST SECOND --run S  the device after a run of both programs under the schedule S
+    show DEVICE FIRST SECOND --run S -o FILE.html
+                                      a page that plays the run step by step, in any browser
+
+FIRST is the program of job 1, SECOND that of job 2; none stands for a program that does nothing, and SECOND may be left out.
+A device whose edges form a grid is drawn as that grid, any other so that neighbours stay near; --width N draws rows of N.",
     takes: (1, 3),
     options: &[Takes::Job, Takes::Occupied, Takes::Run, Takes::Width, Takes::Output],
     json: false,
     does,
 };
 
-fn does(_asked: &Asked) -> Result<Said, Trouble> {
-    trouble("not built yet")
+/// What is written.
+#[derive(Clone, Copy, PartialEq, Eq)]
+enum Form {
+    Terminal,
+    Svg,
+    Page,
+}
+
+/// The files of a run.
+struct Files {
+    programs: [Named; 2],
+    schedule: Named,
+}
+
+fn does(asked: &Asked) -> Result<Said, Trouble> {
+    let form = form(asked)?;
+    let named = input::file(&asked.words[0])?;
+    let files = files(asked, form)?;
+    let job_number = asked.number(Takes::Job)?;
+    let mut given = Given { device: Some(&named), job_number, ..Given::default() };
+    if let Some(files) = &files {
+        given.programs = [Some(&files.programs[0]), Some(&files.programs[1])];
+        given.schedule = Some(&files.schedule);
+    }
+    match shown(asked, form, &named, files.as_ref()) {
+        Ok(said) => said,
+        Err(refusal) => Ok(refused(COMMAND.name, false, refusal, &given)),
+    }
+}
+
+/// The form that the name after `-o` asks for.
+fn form(asked: &Asked) -> Result<Form, Trouble> {
+    let name = match asked.value(Takes::Output) {
+        Some(name) => name,
+        None => return Ok(Form::Terminal),
+    };
+    let ending = Path::new(name).extension().map(|ending| ending.to_string_lossy().to_lowercase());
+    match ending.as_deref() {
+        Some("svg") => Ok(Form::Svg),
+        Some("html") => Ok(Form::Page),
+        _ => trouble(format!("-o takes a name that ends in .svg or .html, not `{}`", name.to_string_lossy())),
+    }
+}
+
+/// The files of the run, where one is asked for.
+fn files(asked: &Asked, form: Form) -> Result<Option<Files>, Trouble> {
+    let none = OsStr::new("none");
+    let program = |i: usize| common::job_program(asked.words.get(i).map_or(none, |word| word.as_os_str()));
+    match (asked.value(Takes::Run), asked.words.get(1)) {
+        (Some(_), None) => trouble("--run needs the program of job 1, or the word none, after the device"),
+        (Some(_), _) if asked.value(Takes::Occupied).is_some() => trouble("--occupied is for a device without a run: in a run the programs say what is occupied"),
+        (Some(schedule), _) => Ok(Some(Files { programs: [program(1)?, program(2)?], schedule: input::schedule(schedule)? })),
+        (None, Some(_)) => trouble("a program is drawn with a run: --run SCHEDULE says which"),
+        (None, None) if form == Form::Page => trouble("a page plays a run: it needs the programs, and --run SCHEDULE"),
+        (None, None) => Ok(None),
+    }
+}
+
+/// What is said where the library takes the files.
+fn shown(asked: &Asked, form: Form, named: &Named, files: Option<&Files>) -> Result<Result<Said, Trouble>, Refusal> {
+    let device = Device::read(&named.bytes)?;
+    let about = match asked.number(Takes::Job) {
+        Ok(number) => number.map(Job::try_from).transpose()?,
+        Err(trouble) => return Ok(Err(trouble)),
+    };
+    let run = files.map(|files| run(&device, files)).transpose()?;
+    Ok(drawn(asked, form, &named.name, &device, about, run.as_ref().zip(files)))
+}
+
+/// A run, and the programs as they were read.
+type Run = ([Program; 2], Replay);
+
+fn run(device: &Device, files: &Files) -> Result<Run, Refusal> {
+    let [first, second] = &files.programs;
+    let programs = [Program::read(&first.bytes)?, Program::read(&second.bytes)?];
+    let replay = replay(device, [&programs[0], &programs[1]], &files.schedule.bytes)?;
+    Ok((programs, replay))
+}
+
+fn drawn(asked: &Asked, form: Form, name: &str, device: &Device, about: Option<Job>, run: Option<(&Run, &Files)>) -> Result<Said, Trouble> {
+    let layout = common::layout(asked, device)?;
+    let picture = match run {
+        Some(((_, replay), _)) => after(device, about, name, replay),
+        None => with_occupied(asked, device, about, name)?,
+    };
+    let bytes = match (form, run) {
+        (Form::Terminal, _) => return Ok(Said::accepted(terminal::drawn(device, &layout, &picture))),
+        (Form::Page, Some(((programs, replay), files))) => {
+            let named = [(files.programs[0].name.as_str(), &programs[0]), (files.programs[1].name.as_str(), &programs[1])];
+            page(device, &layout, named, replay)
+        }
+        _ => svg::drawn(device, &layout, &picture),
+    };
+    let file = asked.value(Takes::Output).unwrap_or_default();
+    common::write(file, bytes.as_bytes())?;
+    Ok(Said::accepted(format!("written: {}\n", file.to_string_lossy())))
+}
+
+/// The device with what `--occupied` says.
+fn with_occupied(asked: &Asked, device: &Device, about: Option<Job>, name: &str) -> Result<Picture, Trouble> {
+    let mut picture = Picture::of(device, about, title(device, about, name));
+    for (mark, byte) in picture.marks.iter_mut().zip(common::occupied(asked, device)?) {
+        if byte != 0 {
+            *mark = Mark::Occupied;
+        }
+    }
+    Ok(picture)
+}
+
+/// What the picture is of.
+fn title(device: &Device, about: Option<Job>, name: &str) -> String {
+    let (n, edges) = (device.locations(), device.edges.len());
+    let of = |owner: u8| device.owners.iter().filter(|&&byte| byte == owner).count();
+    let many = |count: usize, what: &str| format!("{count} {what}{}", if count == 1 { "" } else { "s" });
+    let all = format!("{name}: {} and {}", many(n, "location"), many(edges, "edge"));
+    match about {
+        Some(job) => format!("{all}; {} in the region of {job}", of(job.number())),
+        None => format!("{all}; job 1 has {}, job 2 has {}, nobody {}", of(1), of(2), of(0)),
+    }
+}
+
+/// The device as a run leaves it.
+fn after(device: &Device, about: Option<Job>, name: &str, replay: &Replay) -> Picture {
+    let steps = match replay.steps.len() {
+        1 => "1 step".to_string(),
+        steps => format!("{steps} steps"),
+    };
+    let title = format!("{name} after {steps}; job 1 moved {} times, job 2 {}", replay.moved.first, replay.moved.second);
+    let slots = replay.steps.last().map_or(&[][..], |step| &step.slots);
+    Picture::of(device, about, title).with_map(&replay.map, slots)
 }

@@ -74,6 +74,24 @@ impl Part {
         self.near.len()
     }
 
+    /// The fewest edges from one location to each.
+    fn steps(&self, from: usize) -> Vec<i32> {
+        let mut steps = vec![i32::MAX; self.len()];
+        steps[from] = 0;
+        let mut order = vec![from];
+        let mut next = 0;
+        while let Some(&location) = order.get(next) {
+            next += 1;
+            for &near in &self.near[location] {
+                if steps[near] == i32::MAX {
+                    steps[near] = steps[location] + 1;
+                    order.push(near);
+                }
+            }
+        }
+        steps
+    }
+
     /// Its cells, from row 0 and column 0 on.
     fn cells(&self) -> Vec<(usize, usize)> {
         from_zero(&fold::folded(self).or_else(|| grid::shaped(self)).unwrap_or_else(|| near::placed(self)))

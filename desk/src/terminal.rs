@@ -190,8 +190,7 @@ impl<'a> Sheet<'a> {
 
     /// A line for each kind of mark and edge that occurs.
     fn legend(&self) -> String {
-        let mut lines: Vec<(String, String)> =
-            self.picture.legend(self.device).into_iter().map(|(look, sign, means)| (mark(look, &sign), means)).collect();
+        let mut lines: Vec<(String, String)> = self.picture.legend(self.device).into_iter().map(|(look, sign, means)| (mark(look, &sign), means)).collect();
         let ways: Vec<Way> = self.device.edges.iter().map(|&(a, b)| self.picture.way(self.device, a, b)).collect();
         if ways.contains(&Way::Route) {
             lines.push(("=== ||".to_string(), "the route".to_string()));

@@ -87,7 +87,9 @@ fn files(asked: &Asked, form: Form) -> Result<Option<Files>, Trouble> {
     let program = |i: usize| common::job_program(asked.words.get(i).map_or(none, |word| word.as_os_str()));
     match (asked.value(Takes::Run), asked.words.get(1)) {
         (Some(_), None) => trouble("--run needs the program of job 1, or the word none, after the device"),
-        (Some(_), _) if asked.value(Takes::Occupied).is_some() => trouble("--occupied is for a device without a run: in a run the programs say what is occupied"),
+        (Some(_), _) if asked.value(Takes::Occupied).is_some() => {
+            trouble("--occupied is for a device without a run: in a run the programs say what is occupied")
+        }
         (Some(schedule), _) => Ok(Some(Files { programs: [program(1)?, program(2)?], schedule: input::schedule(schedule)? })),
         (None, Some(_)) => trouble("a program is drawn with a run: --run SCHEDULE says which"),
         (None, None) if form == Form::Page => trouble("a page plays a run: it needs the programs, and --run SCHEDULE"),

@@ -47,8 +47,10 @@ fn diagonal((a, b): (usize, usize), width: usize) -> bool {
 
 /// The cells of a part that is a grid, whatever its numbering: every edge joins neighbours.
 pub fn shaped(part: &Part) -> Option<Vec<Cell>> {
-    if part.near.iter().any(|near| near.len() > 4) {
-        return None;
+    let steps = part.steps(0);
+    let is_like = |(a, near): (usize, &Vec<usize>)| near.len() <= 4 && near.iter().all(|&b| steps[a] % 2 != steps[b] % 2);
+    if !part.near.iter().enumerate().all(is_like) {
+        return None; // too many neighbours, or a ring of odd length
     }
     let cells = Search::new(part).found()?;
     let cells = turned(&cells);
@@ -100,19 +102,27 @@ struct Search<'a> {
     taken: Vec<bool>,
     /// What was chosen: the location, and the cells that it has not been at yet.
     chosen: Vec<(usize, Vec<Cell>)>,
+    /// The fewest edges between any two locations. Their cells can be no farther apart.
+    steps: Vec<Vec<i32>>,
 }
 
 impl Search<'_> {
     fn new(part: &Part) -> Search<'_> {
         let side = 2 * part.len() + 3;
-        Search { part, cells: vec![None; part.len()], taken: vec![false; side * side], chosen: vec![] }
+        Search {
+            part,
+            cells: vec![None; part.len()],
+            taken: vec![false; side * side],
+            chosen: vec![],
+            steps: (0..part.len()).map(|from| part.steps(from)).collect(),
+        }
     }
 
     /// A corner first; then one after the other, and back where one has no cell left. It gives up after a number of steps.
     fn found(mut self) -> Option<Vec<Cell>> {
         let corner = (0..self.part.len()).min_by_key(|&location| (self.part.near[location].len(), location))?;
         self.chosen.push((corner, vec![(0, 0)]));
-        for _ in 0..20 * self.part.len() + 1000 {
+        for _ in 0..10 * self.part.len() + 500 {
             if !self.goes_on() {
                 return None;
             }
@@ -148,6 +158,12 @@ impl Search<'_> {
         beside.min_by_key(|(_, left)| left.len())
     }
 
+    /// Whether a location at this cell could still be joined to all that are placed.
+    fn is_in_reach(&self, location: usize, (row, column): Cell) -> bool {
+        let mut placed = self.cells.iter().zip(&self.steps[location]).filter_map(|(cell, steps)| cell.map(|cell| (cell, steps)));
+        placed.all(|(cell, &steps)| (cell.0 - row).abs() + (cell.1 - column).abs() <= steps)
+    }
+
     /// The cells that are left for a location with placed neighbours.
     fn left(&self, location: usize) -> Option<Vec<Cell>> {
         let placed: Vec<usize> = self.part.near[location].iter().copied().filter(|&near| self.cells[near].is_some()).collect();
@@ -155,7 +171,8 @@ impl Search<'_> {
         let cell = self.cells[first]?;
         let before = self.part.near[first].iter().find_map(|&near| self.cells[near]);
         let on = before.map(|before| (cell.0 - before.0, cell.1 - before.1));
-        let fits = |&cell: &Cell| !self.taken[self.index(cell)] && placed.iter().all(|&near| self.cells[near].map_or(false, |at| are_near(at, cell)));
+        let is_near = |cell: Cell| placed.iter().all(|&near| self.cells[near].map_or(false, |at| are_near(at, cell)));
+        let fits = |&cell: &Cell| !self.taken[self.index(cell)] && is_near(cell) && self.is_in_reach(location, cell);
         let mut left: Vec<Cell> = round(cell, on).into_iter().filter(fits).collect();
         left.reverse();
         Some(left)

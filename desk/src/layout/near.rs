@@ -114,7 +114,7 @@ impl Board<'_> {
 
 /// Two numbers for each location: how much farther it is from one pole than from the other, for two pairs of poles that lie across each other.
 fn orders(part: &Part) -> (Vec<i32>, Vec<i32>) {
-    let steps = |from: usize| steps(part, from);
+    let steps = |from: usize| part.steps(from);
     let far = |steps: &[i32]| (0..part.len()).max_by_key(|&location| (steps[location], usize::MAX - location)).unwrap_or(0);
     let first = steps(far(&steps(0)));
     let second = steps(far(&first));
@@ -125,22 +125,4 @@ fn orders(part: &Part) -> (Vec<i32>, Vec<i32>) {
     let fourth = steps(aside);
     let down = third.iter().zip(&fourth).map(|(a, b)| a - b).collect();
     (across, down)
-}
-
-/// The fewest edges from one location to each.
-fn steps(part: &Part, from: usize) -> Vec<i32> {
-    let mut steps = vec![i32::MAX / 4; part.len()];
-    steps[from] = 0;
-    let mut order = vec![from];
-    let mut next = 0;
-    while let Some(&location) = order.get(next) {
-        next += 1;
-        for &near in &part.near[location] {
-            if steps[near] > steps[location] + 1 {
-                steps[near] = steps[location] + 1;
-                order.push(near);
-            }
-        }
-    }
-    steps
 }

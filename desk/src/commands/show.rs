@@ -11,7 +11,7 @@ use crate::program::Program;
 use crate::replay::{replay, Replay};
 use crate::said::{trouble, Said, Trouble};
 use crate::{svg, terminal};
-use abwakiris::{Job, Refusal};
+use abwakiris::{File, Job, Refusal};
 use std::ffi::OsStr;
 use std::path::Path;
 
@@ -112,8 +112,9 @@ fn shown(asked: &Asked, form: Form, named: &Named, files: Option<&Files>) -> Res
 type Run = ([Program; 2], Replay);
 
 fn run(device: &Device, files: &Files) -> Result<Run, Refusal> {
+    let read = |job: Job, named: &Named| Program::read(&named.bytes).map_err(|refusal| Refusal { file: File::Program(Some(job)), ..refusal });
     let [first, second] = &files.programs;
-    let programs = [Program::read(&first.bytes)?, Program::read(&second.bytes)?];
+    let programs = [read(Job::ONE, first)?, read(Job::TWO, second)?];
     let replay = replay(device, [&programs[0], &programs[1]], &files.schedule.bytes)?;
     Ok((programs, replay))
 }

@@ -22,6 +22,7 @@ pub mod replay;
 pub mod said;
 pub mod svg;
 pub mod terminal;
+pub mod why;
 
 use said::{Said, Trouble};
 use std::ffi::OsString;

@@ -1,0 +1,119 @@
+//! Who holds which location where a trail ends, and which line made the qubit.
+
+use super::trail::Trail;
+use super::visits::{Left, Visits};
+use crate::program::{Block, Body, Kind};
+use std::collections::BTreeSet;
+
+/// An occupied location.
+#[derive(Clone, Debug)]
+pub struct Held {
+    pub location: usize,
+    /// The slots that hold its qubit, main's first: an argument is in a slot of the caller and in one of the callee.
+    pub holders: Vec<(Body, u8)>,
+    /// The offsets of the statements that may have made it.
+    pub made: Vec<usize>,
+}
+
+impl Held {
+    /// The slot in the innermost body that has the qubit.
+    pub fn slot(&self) -> Option<u8> {
+        self.holders.last().map(|&(_, slot)| slot)
+    }
+}
+
+/// The occupied locations, rising.
+pub fn held(visits: &Visits<'_>, trail: &Trail<'_>) -> Vec<Held> {
+    let valid = valid(trail);
+    let made: Vec<Made> = trail.legs.iter().map(|leg| makers(visits, visits.program.body(leg.visit.body), leg.site.at)).collect();
+    let at = |location: usize| {
+        let mut held = Held { location, holders: vec![], made: vec![] };
+        for (i, leg) in trail.legs.iter().enumerate() {
+            for slot in (0..32).filter(|&slot| valid[i][slot] && leg.standing.slots[slot] == Some(location)) {
+                held.holders.push((leg.visit.body, slot as u8));
+                if !made[i][slot].is_empty() {
+                    held.made = made[i][slot].iter().copied().collect();
+                }
+            }
+        }
+        held
+    };
+    trail.last().standing.occupied.list().into_iter().map(at).collect()
+}
+
+/// Which slots of each body still have their qubit: one that is given to a callee has it as long as the callee does.
+fn valid(trail: &Trail<'_>) -> Vec<[bool; 32]> {
+    let mut valid = vec![[false; 32]; trail.legs.len()];
+    for (i, leg) in trail.legs.iter().enumerate().rev() {
+        let mut slots = leg.standing.slots.map(|held| held.is_some());
+        if let (Kind::Call { slots: given, .. }, Some(callee)) = (&leg.site.kind, trail.legs.get(i + 1)) {
+            for (argument, &slot) in given.iter().enumerate() {
+                let slot = usize::from(slot);
+                slots[slot] = valid[i + 1][argument] && callee.standing.slots[argument] == leg.standing.slots[slot];
+            }
+        }
+        valid[i] = slots;
+    }
+    valid
+}
+
+/// For each slot the statements that may have made its qubit; none where it was given.
+type Made = [BTreeSet<usize>; 32];
+
+/// The makers when the statement at `site` comes.
+fn makers(visits: &Visits<'_>, body: &Block, site: usize) -> Made {
+    let mut made = Made::default();
+    over(visits, body, site, &mut made);
+    made
+}
+
+/// Goes over a block up to the site; whether it is in this block.
+fn over(visits: &Visits<'_>, block: &Block, site: usize, made: &mut Made) -> bool {
+    for statement in &block.statements {
+        if statement.at == site {
+            return true;
+        }
+        match &statement.kind {
+            Kind::Init { slot, .. } => made[usize::from(*slot)] = BTreeSet::from([statement.at]),
+            Kind::Free { slot } => made[usize::from(*slot)].clear(),
+            Kind::Call { function, slots, .. } => {
+                for (argument, &slot) in slots.iter().enumerate() {
+                    let makers = &mut made[usize::from(slot)];
+                    match visits.left(*function, argument) {
+                        Left::Gone => makers.clear(),
+                        Left::Remade => {
+                            makers.insert(statement.at);
+                        }
+                        Left::Same => {}
+                    }
+                }
+            }
+            Kind::If { then, otherwise, .. } => {
+                let mut other = made.clone();
+                if over(visits, then, site, made) {
+                    return true;
+                }
+                if over(visits, otherwise, site, &mut other) {
+                    *made = other;
+                    return true;
+                }
+                unite(made, &other);
+            }
+            Kind::While { body, .. } => {
+                let before = made.clone();
+                if over(visits, body, site, made) {
+                    return true;
+                }
+                unite(made, &before);
+            }
+            _ => {}
+        }
+    }
+    false
+}
+
+fn unite(made: &mut Made, other: &Made) {
+    for (makers, others) in made.iter_mut().zip(other) {
+        makers.extend(others);
+    }
+}

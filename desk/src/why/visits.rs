@@ -1,0 +1,260 @@
+//! Bodies as they are come to: a visit is a body at actual locations, with what is occupied when it begins.
+//!
+//! In a program that is typed the visit settles where every qubit of the body is at each of its statements, whatever the outcomes: both blocks of an if end
+//! alike, and a loop keeps its qubits. So a body is gone over once for each visit, and what was seen there is remembered.
+
+use super::region::{Locations, Region};
+use crate::program::{Block, Body, Kind, Program, Statement};
+use std::collections::HashMap;
+use std::rc::Rc;
+
+/// The number of a visit.
+pub type Id = usize;
+
+/// A body at actual locations.
+#[derive(Clone, Debug, PartialEq, Eq, Hash)]
+pub struct Visit {
+    pub body: Body,
+    /// The actual location of each parameter; none for main.
+    pub locations: Vec<usize>,
+    /// What is occupied when it begins.
+    pub occupied: Locations,
+}
+
+/// What is met in a visit, in the check's order. Callees without a merge are left out.
+#[derive(Clone, Copy, Debug)]
+pub enum Met {
+    /// The merge at this offset has no path.
+    Blocked(usize),
+    /// The call at this offset is this visit.
+    Call(usize, Id),
+}
+
+/// Where the qubits are at a statement.
+#[derive(Clone, Copy, Debug, Default)]
+pub struct Standing {
+    /// The location of the qubit in each slot.
+    pub slots: [Option<usize>; 32],
+    pub occupied: Locations,
+}
+
+/// What a call leaves of an argument.
+#[derive(Clone, Copy, Debug, PartialEq, Eq)]
+pub enum Left {
+    /// The callee ends without it.
+    Gone,
+    /// The qubit that was given.
+    Same,
+    /// A qubit in its place that the callee may have made.
+    Remade,
+}
+
+/// What callers need to know of a function.
+#[derive(Clone, Debug)]
+struct Summary {
+    /// Whether a merge is in it or in a function that it calls.
+    merges: bool,
+    arguments: Vec<Left>,
+}
+
+/// All visits of a program by one job, as far as they were asked for.
+pub struct Visits<'a> {
+    pub program: &'a Program,
+    pub region: Region<'a>,
+    functions: Vec<Summary>,
+    ids: HashMap<Visit, Id>,
+    visits: Vec<Rc<Visit>>,
+    met: Vec<Option<Rc<Vec<Met>>>>,
+    clear: Vec<Option<bool>>,
+}
+
+impl<'a> Visits<'a> {
+    pub fn of(program: &'a Program, region: Region<'a>) -> Visits<'a> {
+        let mut visits = Visits { program, region, functions: vec![], ids: HashMap::new(), visits: vec![], met: vec![], clear: vec![] };
+        for function in &program.functions {
+            let parameters: Vec<usize> = (0..function.parameters).collect();
+            let mut standing = Standing::default();
+            (0..function.arguments).for_each(|i| standing.slots[i] = Some(i));
+            let mut merges = false;
+            let mut freed = [false; 32];
+            visits.go(&function.body, Some(&parameters), &mut standing, &mut |statement, _| {
+                merges |= match &statement.kind {
+                    Kind::Merge { .. } => true,
+                    Kind::Call { function, .. } => visits.merges(*function),
+                    _ => false,
+                };
+                visits.frees(statement).into_iter().for_each(|slot| freed[slot] = true);
+            });
+            let left = |i: usize| match standing.slots[i] {
+                Some(location) if location == i && freed[i] => Left::Remade,
+                Some(location) if location == i => Left::Same,
+                _ => Left::Gone,
+            };
+            let arguments = (0..function.arguments).map(left).collect();
+            visits.functions.push(Summary { merges, arguments });
+        }
+        visits
+    }
+
+    /// The visit of main.
+    pub fn main(&mut self) -> Id {
+        self.id(Visit { body: Body::Main, locations: vec![], occupied: Locations::default() })
+    }
+
+    pub fn id(&mut self, visit: Visit) -> Id {
+        if let Some(&id) = self.ids.get(&visit) {
+            return id;
+        }
+        let id = self.visits.len();
+        self.visits.push(Rc::new(visit.clone()));
+        self.met.push(None);
+        self.clear.push(None);
+        self.ids.insert(visit, id);
+        id
+    }
+
+    pub fn visit(&self, id: Id) -> Rc<Visit> {
+        Rc::clone(&self.visits[id])
+    }
+
+    /// Whether a merge is in a function or below it.
+    pub fn merges(&self, function: usize) -> bool {
+        self.functions.get(function).map_or(false, |summary| summary.merges)
+    }
+
+    /// What a call leaves of an argument.
+    pub fn left(&self, function: usize, argument: usize) -> Left {
+        self.functions.get(function).and_then(|summary| summary.arguments.get(argument)).copied().unwrap_or(Left::Gone)
+    }
+
+    /// The slots whose qubit a statement may free.
+    fn frees(&self, statement: &Statement) -> Vec<usize> {
+        match &statement.kind {
+            Kind::Free { slot } => vec![usize::from(*slot)],
+            Kind::Call { function, slots, .. } => {
+                let freed = slots.iter().enumerate().filter(|(i, _)| self.left(*function, *i) != Left::Same);
+                freed.map(|(_, &slot)| usize::from(slot)).collect()
+            }
+            _ => vec![],
+        }
+    }
+
+    /// What is met in a visit.
+    pub fn met(&mut self, id: Id) -> Rc<Vec<Met>> {
+        if let Some(met) = &self.met[id] {
+            return Rc::clone(met);
+        }
+        let visit = self.visit(id);
+        let mut seen = vec![];
+        let mut calls = vec![];
+        self.over(&visit, &mut |statement, standing| match &statement.kind {
+            Kind::Merge { first, second, .. } => {
+                let ends = (standing.slots[usize::from(*first)], standing.slots[usize::from(*second)]);
+                if let (Some(first), Some(second)) = ends {
+                    if !self.region.joined(&standing.occupied, first, second) {
+                        seen.push((statement.at, None));
+                    }
+                }
+            }
+            Kind::Call { function, locations, .. } if self.merges(*function) => {
+                seen.push((statement.at, Some(calls.len())));
+                let locations = actual(locations, visit.parameters());
+                calls.push(Visit { body: Body::Function(*function), locations, occupied: standing.occupied });
+            }
+            _ => {}
+        });
+        let ids: Vec<Id> = calls.into_iter().map(|visit| self.id(visit)).collect();
+        let met = seen.into_iter().map(|(at, call)| call.map_or(Met::Blocked(at), |call| Met::Call(at, ids[call]))).collect();
+        let met = Rc::new(met);
+        self.met[id] = Some(Rc::clone(&met));
+        met
+    }
+
+    /// Whether every merge of a visit and of those below it has a path. It goes as deep as functions call each other.
+    pub fn is_clear(&mut self, id: Id) -> bool {
+        if let Some(clear) = self.clear[id] {
+            return clear;
+        }
+        let clear = self.met(id).iter().all(|met| match *met {
+            Met::Blocked(_) => false,
+            Met::Call(_, below) => self.is_clear(below),
+        });
+        self.clear[id] = Some(clear);
+        clear
+    }
+
+    /// Where the qubits are in a visit when this statement comes.
+    pub fn standing(&self, visit: &Visit, at: usize) -> Standing {
+        let mut there = Standing::default();
+        self.over(visit, &mut |statement, standing| {
+            if statement.at == at {
+                there = *standing;
+            }
+        });
+        there
+    }
+
+    /// Goes over the body of a visit.
+    fn over(&self, visit: &Visit, see: &mut dyn FnMut(&'a Statement, &Standing)) {
+        let mut standing = Standing { occupied: visit.occupied, ..Standing::default() };
+        if let Body::Function(number) = visit.body {
+            for (i, &location) in visit.locations.iter().enumerate().take(self.program.functions[number].arguments) {
+                standing.slots[i] = Some(location);
+            }
+        }
+        self.go(self.program.body(visit.body), visit.parameters(), &mut standing, see);
+    }
+
+    /// Goes over a block in the check's order and shows each statement with where the qubits are before it.
+    fn go(&self, block: &'a Block, parameters: Option<&[usize]>, standing: &mut Standing, see: &mut dyn FnMut(&'a Statement, &Standing)) {
+        for statement in &block.statements {
+            see(statement, standing);
+            match &statement.kind {
+                Kind::Init { slot, location, .. } => {
+                    let location = actual_one(*location, parameters);
+                    standing.slots[usize::from(*slot)] = Some(location);
+                    standing.occupied.put(location);
+                }
+                Kind::Free { slot } => standing.lose(*slot),
+                Kind::If { then, otherwise, .. } => {
+                    let mut other = *standing;
+                    self.go(then, parameters, standing, see);
+                    self.go(otherwise, parameters, &mut other, see);
+                }
+                Kind::While { body, .. } => self.go(body, parameters, standing, see),
+                Kind::Call { function, slots, .. } => {
+                    let gone = slots.iter().enumerate().filter(|(i, _)| self.left(*function, *i) == Left::Gone);
+                    gone.for_each(|(_, &slot)| standing.lose(slot));
+                }
+                _ => {}
+            }
+        }
+    }
+}
+
+impl Visit {
+    /// The actual locations of the parameters, where location bytes name such.
+    fn parameters(&self) -> Option<&[usize]> {
+        match self.body {
+            Body::Main => None,
+            Body::Function(_) => Some(&self.locations),
+        }
+    }
+}
+
+impl Standing {
+    fn lose(&mut self, slot: u8) {
+        if let Some(location) = self.slots[usize::from(slot)].take() {
+            self.occupied.take(location);
+        }
+    }
+}
+
+/// The locations that location bytes mean.
+fn actual(bytes: &[u8], parameters: Option<&[usize]>) -> Vec<usize> {
+    bytes.iter().map(|&byte| actual_one(byte, parameters)).collect()
+}
+
+fn actual_one(byte: u8, parameters: Option<&[usize]>) -> usize {
+    parameters.map_or(usize::from(byte), |actual| actual.get(usize::from(byte)).copied().unwrap_or(usize::MAX))
+}

@@ -1,20 +1,106 @@
 //! `abwakiris why`: why a program is refused: the trail, the device there, the outcomes that lead there.
 
-use super::Command;
+use super::{common, Command};
 use crate::args::{Asked, Takes};
-use crate::said::{trouble, Said, Trouble};
+use crate::device::Device;
+use crate::explain::{explained, refused, Explained, Given};
+use crate::input;
+use crate::json::Json;
+use crate::program::Program;
+use crate::said::{Said, Trouble};
+use crate::why::words::Words;
+use crate::why::Why;
+use abwakiris::{Job, Number, Refusal};
+use std::ffi::OsStr;
 
 pub const COMMAND: Command = Command {
     name: "why",
     usage: "DEVICE PROGRAM",
     about: "why a program is refused: the trail, the device there, the outcomes that lead there",
-    help: "",
+    help: "Asks the library as abwakiris check does. Of a merge without a path (21) it shows how the check comes there, over calls with their locations and \
+           branches with their guards; the device at that moment; the qubits in the way; a schedule of this job alone that is stuck there, the shortest where \
+           it can be known; and a run that begins alike and does not halt. Each schedule was run by the library. Where no outcomes lead there it says so.\n\
+           \n\
+           example:\n\
+           \n\
+           \x20   abwakiris why samples/story-device samples/story-program",
     takes: (2, 2),
     options: &[Takes::Job, Takes::Width],
     json: true,
     does,
 };
 
-fn does(_asked: &Asked) -> Result<Said, Trouble> {
-    trouble("not built yet")
+fn does(asked: &Asked) -> Result<Said, Trouble> {
+    let (device, program) = (input::file(&asked.words[0])?, input::file(&asked.words[1])?);
+    let given = Given { device: Some(&device), ..Given::default() };
+    let job = match asked.job()? {
+        Ok(job) => job,
+        Err(refusal) => {
+            let given = Given { programs: [Some(&program), None], job_number: asked.number(Takes::Job)?, ..given };
+            return Ok(refused("why", asked.json, refusal, &given));
+        }
+    };
+    let mut given = Given { job: Some(job), ..given };
+    given.programs[usize::from(job.number()) - 1] = Some(&program);
+    match abwakiris::check(&device.bytes, &program.bytes, job) {
+        Ok(count) => Ok(Said::of(
+            true,
+            asked.json,
+            || format!("accepted: {} on {} for {job}\ncommands: {count}\nnothing to explain\n", program.name, device.name),
+            || Json::object([("command", "why".into()), ("verdict", "accepted".into()), ("job", job.number().into()), ("count", count.into())]),
+        )),
+        Err(refusal) if refusal.number == Number::NoPath => without_path(asked, refusal, &given, job),
+        Err(refusal) => Ok(refused("why", asked.json, refusal, &given)),
+    }
+}
+
+/// What there is to say of a merge without a path. Where the tool's own walk does not come to it, the library's refusal is all.
+fn without_path(asked: &Asked, refusal: Refusal, given: &Given, job: Job) -> Result<Said, Trouble> {
+    let read = given.device.zip(given.file(refusal.file)).and_then(|(device, program)| Some((Device::read(&device.bytes).ok()?, Program::read(&program.bytes).ok()?)));
+    if let Some((device, program)) = &read {
+        if let Some(why) = Why::of(device, program, job, refusal.place as usize) {
+            let [device_name, program_name] = [&asked.words[0], &asked.words[1]].map(|word| in_shell(word));
+            let words = Words { why: &why, device, program, job, names: [&device_name, &program_name] };
+            let said = in_words(refusal, given, &words);
+            let head = Json::object([("command", "why".into()), ("verdict", "refused".into()), ("job", job.number().into())]);
+            let layout = common::layout(asked, device)?;
+            let text = || said.text() + &words.text(&layout);
+            return Ok(Said::of(false, asked.json, text, || words.json(head.with("refusal", said.json()))));
+        }
+    }
+    Ok(refused("why", asked.json, refusal, given))
+}
+
+/// The refusal, with the locations of the call that the trail goes over.
+fn in_words(refusal: Refusal, given: &Given, words: &Words) -> Explained {
+    let mut said = explained(refusal, given);
+    said.see = None; // this is the command that says more
+    if words.why.trail.legs.len() > 1 {
+        let [first, second] = words.why.trail.ends;
+        said.found.push(format!("in the call that the check comes by they are at locations {first} and {second}"));
+    }
+    said
+}
+
+/// A file's name as a shell takes it, and as `abwakiris run` does: there `none` is no file, and a name does not begin with a dash.
+fn in_shell(word: &OsStr) -> String {
+    let name = word.to_string_lossy();
+    let path = if name == "none" || name.starts_with('-') && name != "-" { format!("./{name}") } else { name.into_owned() };
+    let is_plain = |letter: char| letter.is_ascii_alphanumeric() || "_-./+,:@%=".contains(letter);
+    if !path.is_empty() && path.chars().all(is_plain) {
+        return path;
+    }
+    format!("'{}'", path.replace('\'', "'\\''"))
+}
+
+#[cfg(test)]
+mod tests {
+    use super::*;
+
+    #[test]
+    fn names_in_a_shell() {
+        for (name, written) in [("a/b-1.qls", "a/b-1.qls"), ("none", "./none"), ("-x", "./-x"), ("-", "-"), ("a b", "'a b'"), ("it's", "'it'\\''s'"), ("", "''")] {
+            assert_eq!(in_shell(OsStr::new(name)), written);
+        }
+    }
 }

@@ -3,11 +3,11 @@
 //! What a body does depends on no bool of another. So the shortest run along a trail is the shortest run to the site in each of its bodies, one after the
 //! other.
 
-use super::search::{Against, Run, Search, Start, Where};
+use super::search::{Against, Found, Run, Search, Start, Where};
 use super::steps::{all_moved_until, records, schedule, write, Step};
 use super::trail::Trail;
 use crate::program::Body;
-use abwakiris::{Number, Told};
+use abwakiris::{Number, Told, MOST_STEPS};
 
 /// What the search for outcomes came to.
 #[derive(Clone, Debug)]
@@ -29,37 +29,39 @@ pub enum Lead {
 /// The outcomes that lead to the merge at the end of a trail.
 pub fn lead(search: &mut Search<'_>, trail: &Trail<'_>) -> Lead {
     let runs: Vec<Run> = trail.legs.iter().map(|leg| to_site(search, Where::Visit(leg.id), leg.site.at)).collect();
-    let mut steps = vec![];
-    let mut fewest = runs.len() as u64; // the calls, and the merge itself
-    let mut shortest = true;
     for (leg, run) in trail.legs.iter().zip(&runs) {
         if let Run::Never(against) = run {
             return Lead::Never { body: leg.visit.body, against: against.clone() };
         }
     }
-    for (leg, run) in trail.legs.iter().zip(&runs) {
-        match run {
-            Run::Found(found) => {
-                fewest = fewest.saturating_add(found.steps);
-                shortest &= found.shortest;
-                let written = write(search, Where::Visit(leg.id), 0, &found.hops, &mut steps);
-                if written.is_none() {
-                    return Lead::TooLong { fewest: None };
-                }
-                steps.push(Step::plain(leg.site.at));
-            }
-            _ => return Lead::GivenUp,
-        }
+    let found: Vec<Found> = runs.into_iter().filter_map(|run| if let Run::Found(found) = run { Some(found) } else { None }).collect();
+    if found.len() < trail.legs.len() {
+        return Lead::GivenUp;
     }
-    if is_stuck_there(search, trail, &steps) {
-        Lead::Found { steps, shortest }
-    } else {
-        Lead::GivenUp
+    let shortest = found.iter().all(|found| found.shortest);
+    match written(search, trail, &found) {
+        Some(steps) if is_stuck_there(search, trail, &steps) => Lead::Found { steps, shortest },
+        Some(_) => Lead::GivenUp,
+        None => {
+            // the calls, and the merge itself
+            let fewest = found.iter().fold(found.len() as u64, |sum, found| sum.saturating_add(found.steps));
+            Lead::TooLong { fewest: (shortest && fewest < u64::MAX).then_some(fewest) }
+        }
     }
 }
 
+/// The steps through all bodies of a trail. None where a schedule cannot have so many.
+fn written(search: &mut Search<'_>, trail: &Trail<'_>, found: &[Found]) -> Option<Vec<Step>> {
+    let mut steps = vec![];
+    for (leg, found) in trail.legs.iter().zip(found) {
+        write(search, Where::Visit(leg.id), 0, &found.hops, &mut steps)?;
+        steps.push(Step::plain(leg.site.at));
+    }
+    (steps.len() <= MOST_STEPS).then_some(steps)
+}
+
 /// A run through a body to a statement.
-fn to_site(search: &mut Search<'_>, place: Where, at: usize) -> Run {
+pub fn to_site(search: &mut Search<'_>, place: Where, at: usize) -> Run {
     match search.flow.graph(search.body(place)).at(at) {
         Some(site) => search.run(place, Start::ENTRY, site),
         None => Run::Unknown,

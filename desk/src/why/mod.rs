@@ -5,9 +5,11 @@
 //! decide nothing: the merge that they name is the one of the library's refusal, each corridor is the library's route, and each schedule was run by it.
 
 pub mod beside;
+pub mod elsewhere;
 pub mod flow;
 pub mod held;
 pub mod lead;
+mod json;
 pub mod possible;
 pub mod region;
 pub mod search;
@@ -16,3 +18,54 @@ pub mod trail;
 pub mod visits;
 pub mod way;
 pub mod wishes;
+pub mod words;
+
+use crate::device::Device;
+use crate::program::Program;
+use abwakiris::Job;
+use beside::{beside, Beside};
+use elsewhere::{elsewhere, Elsewhere};
+use flow::Flow;
+use held::{held, Held};
+use lead::{lead, Lead};
+use region::Region;
+use search::Search;
+use trail::Trail;
+use visits::Visits;
+use way::Way;
+
+/// The most states that are looked at for the outcomes, and as many again for a run beside them.
+const MOST_STATES: usize = 400_000;
+
+/// All that there is to say.
+#[derive(Clone, Debug)]
+pub struct Why<'a> {
+    pub trail: Trail<'a>,
+    pub held: Vec<Held>,
+    pub way: Way,
+    pub lead: Lead,
+    /// The states that were looked at for it.
+    pub states: usize,
+    /// A run that does not halt, where outcomes were found that halt the job.
+    pub beside: Option<Beside>,
+    /// Another merge that halts the job, where no outcomes lead to this one.
+    pub elsewhere: Option<Elsewhere>,
+}
+
+impl<'a> Why<'a> {
+    /// Why the library refused with 21 at this place; none where the walk comes to another merge, or to none.
+    pub fn of(device: &'a Device, program: &'a Program, job: Job, place: usize) -> Option<Why<'a>> {
+        let mut visits = Visits::of(program, Region::of(device, job));
+        let trail = Trail::find(&mut visits).filter(|trail| trail.merge().at == place)?;
+        let held = held(&visits, &trail);
+        let way = Way::of(&visits.region, &trail);
+        let flow = Flow::of(program);
+        let mut search = Search::of(&flow, visits, MOST_STATES);
+        let lead = lead(&mut search, &trail);
+        let states = search.states;
+        search.allow(MOST_STATES);
+        let beside = if let Lead::Found { steps, .. } = &lead { Some(beside(&mut search, steps)) } else { None };
+        let elsewhere = if let Lead::Never { .. } = &lead { Some(elsewhere(&mut search)) } else { None };
+        Some(Why { trail, held, way, lead, states, beside, elsewhere })
+    }
+}

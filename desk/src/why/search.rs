@@ -267,6 +267,7 @@ impl<'s, 'a> Seek<'s, 'a> {
 
     fn run(mut self) -> Run {
         if self.possible[self.goal].is_none() {
+            self.search.states += 1;
             self.stand_against_goal();
         }
         self.open(self.goal, Wishes::default(), (0, 0), Hop::Step(self.goal, None), usize::MAX);

@@ -48,7 +48,7 @@ impl<'a> Trail<'a> {
     }
 
     /// The trail over these sites, each in its visit.
-    pub fn over(visits: &mut Visits<'a>, sites: &[(Id, usize)]) -> Option<Trail<'a>> {
+    pub fn over(visits: &Visits<'a>, sites: &[(Id, usize)]) -> Option<Trail<'a>> {
         let legs: Vec<Leg> = sites.iter().map(|&(id, at)| Leg::of(visits, id, at)).collect::<Option<_>>()?;
         let last = legs.last()?;
         if let Kind::Merge { first, second, .. } = &last.site.kind {

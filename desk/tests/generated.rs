@@ -75,7 +75,7 @@ fn questions(case: &Case, turn: usize) -> Vec<Question> {
         Case::Route { device, job, occupancy, first, second, .. } => {
             let n = abwakiris::locations(device).unwrap_or(0);
             let occupied: Vec<usize> = (0..n.min(occupancy.len())).filter(|&location| occupancy[location] != 0).collect();
-            vec![route(device, *first, *second, *job, &occupied), route(device, *first, *second, *job, &[]), show_for(device, *job)]
+            vec![route(device, *first, *second, *job, &occupied), route(device, *first, *second, *job, &[]), show_for(device, 1 + turn as u64 % 2)]
         }
         Case::Run { device, one, two, schedule, .. } => of_run(device, one, two, schedule, turn),
         Case::WriteListing { program, .. } => of_program(program),

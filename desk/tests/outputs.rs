@@ -13,6 +13,8 @@ mod files;
 mod form;
 #[path = "parts/machine_line.rs"]
 mod machine_line;
+#[path = "parts/pictures.rs"]
+mod pictures;
 #[path = "parts/question.rs"]
 mod question;
 #[path = "parts/read_json.rs"]
@@ -33,7 +35,6 @@ use scratch::Scratch;
 use seen::Seen;
 use std::collections::BTreeSet;
 use std::path::Path;
-use std::process::Stdio;
 
 /// All cases, each in a folder of its own.
 #[test]
@@ -83,20 +84,22 @@ fn line_tried(folder: &Path, line: &Line, faults: &mut Faults) -> String {
     lacks("it should say", &said, &line.says, faults);
     let digits = question::spaced(&line.stuck_by).replace(' ', "");
     faults.unless(out.replace(' ', "").contains(&digits), || format!("it should print the schedule {digits}"));
+    if question.command() == "show" && seen.status == Some(0) && line.writes.is_empty() {
+        pictures::of_terminal(question, &out, faults);
+    }
     let mut text = seen.stored();
     for &(file, is_stored) in &line.writes {
         text += &written(&folder.join(file), file, is_stored, faults);
     }
-    if takes_json(line) {
-        text += &for_machines(folder, line, &seen, faults);
+    if let Some(words) = question.for_machines() {
+        text += &for_machines(folder, line, &words, &seen, faults);
     }
     text
 }
 
 /// What comes of the same command line with `--json`, as it is stored; nothing where it cannot be tried, which is said as it was without.
-fn for_machines(folder: &Path, line: &Line, plain: &Seen, faults: &mut Faults) -> String {
-    let words = [&line.question.words[..], &["--json".to_string()]].concat();
-    let seen = seen::seen(folder, &words, &line.input);
+fn for_machines(folder: &Path, line: &Line, words: &[String], plain: &Seen, faults: &mut Faults) -> String {
+    let seen = seen::seen(folder, words, &line.input);
     form::of_any(&line.question, &seen, folder, faults);
     if let Answer::Trouble = line.question.answer {
         faults.unless(seen.error == plain.error, || "with --json something else is said".to_string());
@@ -127,18 +130,14 @@ fn written(path: &Path, name: &str, is_stored: bool, faults: &mut Faults) -> Str
     let bytes = std::fs::read(path).unwrap_or_default();
     let _ = std::fs::remove_file(path);
     faults.unless(!bytes.is_empty(), || format!("it should write {name}"));
+    if name.ends_with(".svg") {
+        pictures::of_svg(&String::from_utf8_lossy(&bytes), faults);
+    }
     if is_stored {
         seen::part(&format!("file {name}"), &bytes)
     } else {
         format!("--- file {name}, which another test looks into\n")
     }
-}
-
-/// Whether a line is also run for machines: its command takes `--json`, and something comes of it.
-fn takes_json(line: &Line) -> bool {
-    let words = &line.question.words;
-    let takes = COMMANDS.iter().any(|command| command.json && command.name == line.question.command());
-    takes && !words.iter().any(|word| word == "--help")
 }
 
 /// The number and the place that a case names are the library's.
@@ -204,21 +203,4 @@ fn every_stored_file_has_its_case() {
     let cases = cases::all();
     let names: Vec<&str> = cases.iter().map(|case| case.name).collect();
     assert_eq!(stored::without_case(&names), Vec::<String>::new(), "stored files that belong to no case");
-}
-
-/// A reader that goes away early changes no status; output that cannot be written is said.
-#[test]
-fn standard_output() {
-    let scratch = Scratch::new("standard-output");
-    std::fs::write(scratch.path().join("device"), files::grid()).expect("a file");
-    let words = ["show".to_string(), "device".to_string()];
-    let mut child = seen::command(scratch.path(), &words).spawn().expect("the tool starts");
-    drop(child.stdout.take());
-    let output = child.wait_with_output().expect("the tool ends");
-    assert_eq!((output.status.code(), String::from_utf8_lossy(&output.stderr).as_ref()), (Some(0), ""));
-    if let Ok(full) = std::fs::OpenOptions::new().write(true).open("/dev/full") {
-        let output = seen::command(scratch.path(), &words).stdout(Stdio::from(full)).output().expect("the tool runs");
-        assert_eq!(output.status.code(), Some(2));
-        assert!(String::from_utf8_lossy(&output.stderr).contains("standard output cannot be written"));
-    }
 }

@@ -48,7 +48,7 @@ fn outside() -> Vec<Case> {
     vec![
         on(&two(), "check-13-other-job", &only(&[init(0, 4)]), 13, 8).finds(&["location 4", "job 2"]).says(&["init 0 4"]),
         on(&shared(), "check-13-nobody", &only(&[init(0, 5)]), 13, 8).finds(&["location 5", "nobody"]),
-        of("check-13-beyond", &only(&[magic(0, 255)]), 13, 8).finds(&["location 255", "6"]),
+        of("check-13-beyond", &only(&[magic(0, 255)]), 13, 8).finds(&["location 255", "0 to 5"]),
         on(&shared(), "check-13-call", &called, 13, 12).finds(&["location 4", "job 2"]).says(&["call 0 at 4"]),
         case("check-13-job-2", check(&two(), &program_c(), 2)).refused(13, 11).finds(&["location 1", "job 1"]),
         case("check-13-job-2-has-none", check(&grid(), &program_a(), 2)).refused(13, 8).finds(&["location 0", "job 1"]),
@@ -82,9 +82,9 @@ fn elsewhere() -> Vec<Case> {
     let exchanged = calling(&[function(2, 2, &[])], &[init(0, 0), init(1, 1), call(0, &[0, 1], &[1, 0])]);
     let inside = calling(&[function(2, 1, &[]), function(3, 2, &[call(0, &[1, 2], &[0])])], &[]);
     vec![
-        of("check-16-elsewhere", &one, 16, 15).finds(&["slot 2 is at location 4", "location 3"]).says(&["call 0 at 3 5 with 2"]),
-        of("check-16-exchanged", &exchanged, 16, 18).finds(&["slot 1 is at location 1", "location 0"]),
-        of("check-16-function", &inside, 16, 14).finds(&["slot 0 is at parameter 0", "parameter 1"]),
+        of("check-16-elsewhere", &one, 16, 15).finds(&["slot 2", "location 4", "location 3"]).says(&["call 0 at 3 5 with 2"]),
+        of("check-16-exchanged", &exchanged, 16, 18).finds(&["slot 1", "location 1", "location 0"]),
+        of("check-16-function", &inside, 16, 14).finds(&["slot 0", "parameter 0", "parameter 1"]),
     ]
 }
 

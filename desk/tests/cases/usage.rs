@@ -22,9 +22,9 @@ fn words() -> Case {
         .and(trouble(&["help", "chekc"]))
         .says(&["chekc"])
         .and(trouble(&["check", "device"]))
-        .says(&["usage: abwakiris check DEVICE PROGRAM"])
+        .says(&["abwakiris check DEVICE PROGRAM"])
         .and(trouble(&["check", "device", "program", "more"]))
-        .says(&["usage: abwakiris check DEVICE PROGRAM"])
+        .says(&["abwakiris check DEVICE PROGRAM"])
         .and(trouble(&["--json"]))
 }
 
@@ -100,11 +100,11 @@ fn written() -> Case {
 
 fn schedules() -> Case {
     case("usage-schedules", with_files(&["run", "device", "program", "none", "101"]))
-        .says(&["odd number of hex digits"])
+        .says(&["101", "hex digits"])
         .and(with_files(&["run", "device", "program", "none", "10 1g"]))
         .says(&["no such file", "hex digits"])
         .and(with_files(&["run", "device", "program", "none", "schedule"]))
-        .says(&["schedule: no such file"])
+        .says(&["schedule", "no such file"])
         .and(with_files(&["run", "device", "program", "none"]))
-        .says(&["usage: abwakiris run DEVICE FIRST SECOND SCHEDULE"])
+        .says(&["abwakiris run DEVICE FIRST SECOND SCHEDULE"])
 }

@@ -42,9 +42,7 @@ impl Here {
             faults.same("status", question.answer.status(), status(&said));
             first_line(question, &said, &mut faults);
         }
-        let takes_json = taken_json(question);
-        let words = [&question.words[..], &["--json".to_string()]].concat();
-        if let Some(said) = self.said(&words, &mut faults).filter(|_| takes_json) {
+        if let Some(said) = question.for_machines().and_then(|words| self.said(&words, &mut faults)) {
             faults.same("status with --json", question.answer.status(), status(&said));
             if let Ok(said) = said {
                 machine_line::value(question, &said.out, &mut faults);
@@ -74,10 +72,6 @@ impl Here {
 
 fn status(said: &Result<Said, Trouble>) -> u8 {
     said.as_ref().map_or(2, |said| u8::from(!said.accepted))
-}
-
-fn taken_json(question: &Question) -> bool {
-    abwakiris_desk::commands::COMMANDS.iter().any(|command| command.json && command.name == question.command())
 }
 
 /// A refusal for people begins with its number and its words.

@@ -29,9 +29,9 @@ pub fn of_refusal(question: &Question, refusal: &Refusal, out: &str, faults: &mu
     let first = format!("refused {}: {}\n", refusal.number.number(), refusal.number.words());
     faults.unless(out.starts_with(&first), || format!("it should begin with {first:?}"));
     if let Some(name) = question.name(refusal.file) {
-        let place = format!("  --> {name}:{}", refusal.place);
-        let found = out.lines().any(|line| line == place || line.starts_with(&format!("{place},")));
-        faults.unless(found, || format!("a line should be {place:?}"));
+        let place = format!("--> {name}:{}", refusal.place);
+        let is_place = |line: &str| line == place || line.starts_with(&format!("{place},"));
+        faults.unless(out.lines().any(|line| is_place(line.trim_start())), || format!("a line should begin with {place:?}"));
     }
     for part in ["asked", "mend"] {
         let mark = format!("= {part}: ");

@@ -19,7 +19,8 @@ pub fn value(question: &Question, out: &[u8], faults: &mut Faults) -> Json {
         Answer::Accepted(members) => {
             faults.same("verdict", "accepted", text(member(&value, "verdict")));
             for (name, should) in members {
-                faults.same(name, should, member(&value, name));
+                let found = member(&value, name);
+                faults.unless(has(found, should), || format!("{name} should have {should} and is {found}"));
             }
         }
         Answer::Refused(refusal) => {
@@ -31,12 +32,22 @@ pub fn value(question: &Question, out: &[u8], faults: &mut Faults) -> Json {
     value
 }
 
+/// Whether a value has all of another: an object may have more members.
+fn has(found: &Json, should: &Json) -> bool {
+    match (found, should) {
+        (Json::List(found), Json::List(should)) => found.len() == should.len() && found.iter().zip(should).all(|(found, should)| has(found, should)),
+        (Json::Object(_), Json::Object(members)) => members.iter().all(|(name, should)| has(member(found, name), should)),
+        _ => found == should,
+    }
+}
+
 fn refused(question: &Question, refusal: &Refusal, told: &Json, faults: &mut Faults) {
     faults.same("number", &Json::from(refusal.number.number()), member(told, "number"));
     faults.same("words", refusal.number.words(), text(member(told, "words")));
     faults.same("place", &Json::from(refusal.place), member(told, "place"));
     faults.same("file", file(refusal.file), text(member(told, "file")));
-    faults.same("name", question.name(refusal.file).unwrap_or(""), text(member(told, "name")));
+    let name = text(member(told, "name")).rsplit('/').next();
+    faults.same("name", question.name(refusal.file).or(Some("")), name);
     for name in ["asked", "mend"] {
         faults.unless(!text(member(told, name)).is_empty(), || format!("{name} should be a text"));
     }

@@ -2,11 +2,9 @@
 
 #![allow(dead_code)] // each test asks some of them
 
-use abwakiris::{File, Job, Refusal, RECORD_BYTES};
+use abwakiris::{File, Job, Record, Records, Refusal, Told, RECORD_BYTES};
+use abwakiris_desk::commands::COMMANDS;
 use abwakiris_desk::json::Json;
-
-/// The name that a schedule on the command line goes by.
-pub const SCHEDULE: &str = "the schedule";
 
 pub struct Question {
     /// The words after `abwakiris`, without `--json`. A file goes by its name below.
@@ -47,7 +45,7 @@ impl Answer {
 impl Question {
     pub fn new(words: &[&str], files: Vec<(&'static str, Vec<u8>)>, answer: Answer) -> Question {
         let words = words.iter().map(|word| word.to_string()).collect();
-        Question { words, files, answer, programs: ["program"; 2], schedule: SCHEDULE }
+        Question { words, files, answer, programs: ["program"; 2], schedule: "the schedule (hex digits)" }
     }
 
     /// The command.
@@ -60,6 +58,14 @@ impl Question {
     pub fn with(mut self, words: &[&str]) -> Question {
         self.words.extend(words.iter().map(|word| word.to_string()));
         self
+    }
+
+    /// The words that ask the same for machines; none where the command takes no `--json`, or what it makes goes to a file.
+    pub fn for_machines(&self) -> Option<Vec<String>> {
+        let takes = COMMANDS.iter().any(|command| command.json && command.name == self.command());
+        let is_other = self.words.iter().any(|word| word == "-o" || word == "--help");
+        let words = self.words.iter().cloned();
+        (takes && !is_other).then(|| words.clone().take(1).chain(["--json".to_string()]).chain(words.skip(1)).collect())
     }
 
     /// The name of the file that a refusal is in, as it is given here.
@@ -129,7 +135,18 @@ fn ran(device: &[u8], programs: [Option<&[u8]>; 2], schedule: &[u8]) -> Answer {
     let mut records = vec![0; RECORD_BYTES * schedule.len()];
     let mut map = vec![0; abwakiris::locations(device).unwrap_or(0)];
     let moved = abwakiris::run(device, first, second, schedule, &mut records, &mut map);
-    Answer::of(moved.map(|moved| vec![("moved", Json::list([moved.first, moved.second])), ("map", Json::list(map))]))
+    let steps = || Json::list(Records::new(&records).map(step));
+    Answer::of(moved.map(|moved| vec![("moved", Json::list([moved.first, moved.second])), ("map", Json::list(map)), ("steps", steps())]))
+}
+
+/// What a line for machines has of a step, by its record.
+fn step(record: Record) -> Json {
+    let (told, number) = match record.told {
+        Told::Moved => ("moved", None),
+        Told::Finished => ("finished", None),
+        Told::Stuck(number) => ("stuck", Some(number.number())),
+    };
+    Json::object([("told", told.into()), ("number", number.into()), ("edges", record.edges.into()), ("offset", record.offset.into())])
 }
 
 /// A run under a schedule in hex digits on the command line.
@@ -145,7 +162,7 @@ pub fn run_by_file(device: &[u8], first: Option<&[u8]>, second: Option<&[u8]>, s
     let mut question = run(device, first, second, schedule);
     question.words[4] = "schedule".to_string();
     question.files.push(("schedule", file.to_vec()));
-    question.schedule = "schedule";
+    question.schedule = if file == schedule { "schedule (bytes)" } else { "schedule (hex digits)" };
     question
 }
 
@@ -177,12 +194,13 @@ pub fn spaced(bytes: &[u8]) -> String {
 }
 
 pub fn list(program: &[u8]) -> Question {
-    let answer = Answer::of(abwakiris::write_listing(program).map(|_| vec![]));
+    let line = |line: &str| Json::object([("text", line.into())]);
+    let answer = Answer::of(abwakiris::write_listing(program).map(|text| vec![("lines", Json::list(text.lines().map(line)))]));
     Question::new(&["list", "program"], vec![("program", program.to_vec())], answer)
 }
 
 pub fn unlist(text: &[u8]) -> Question {
-    let answer = Answer::of(abwakiris::read_listing(text).map(|_| vec![]));
+    let answer = Answer::of(abwakiris::read_listing(text).map(|program| vec![("hex", spaced(&program).replace(' ', "").into())]));
     Question::new(&["unlist", "text"], vec![("text", text.to_vec())], answer)
 }
 

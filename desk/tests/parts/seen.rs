@@ -12,16 +12,11 @@ pub struct Seen {
     pub error: Vec<u8>,
 }
 
-/// The command, not started yet, in a folder and with nothing of this computer around it.
-pub fn command(folder: &Path, words: &[String]) -> Command {
+/// Runs a command line in a folder, with these bytes on its standard input and nothing of this computer around it.
+pub fn seen(folder: &Path, words: &[String], input: &[u8]) -> Seen {
     let mut command = Command::new(env!("CARGO_BIN_EXE_abwakiris"));
     command.args(words).current_dir(folder).env_clear().stdin(Stdio::piped()).stdout(Stdio::piped()).stderr(Stdio::piped());
-    command
-}
-
-/// Runs a command line, with these bytes on its standard input.
-pub fn seen(folder: &Path, words: &[String], input: &[u8]) -> Seen {
-    let mut child = command(folder, words).spawn().expect("the tool starts");
+    let mut child = command.spawn().expect("the tool starts");
     // a command that does not read goes without it
     let _ = child.stdin.take().map(|mut pipe| pipe.write_all(input));
     let output = child.wait_with_output().expect("the tool ends");

@@ -17,7 +17,7 @@ pub struct Stuck {
     pub found: String,
     /// The locations that it is about; for a merge without a path its two ends.
     pub about: Vec<usize>,
-    /// The free locations that are reached from the first end of a merge without a path, nearest first.
+    /// The free locations that are reached from the first end of a merge without a path, rising.
     pub reached: Vec<usize>,
 }
 
@@ -151,7 +151,7 @@ impl<'a> Before<'a> {
         None
     }
 
-    /// The free locations of the region that are reached from this one, nearest first.
+    /// The free locations of the region that are reached from this one, rising.
     fn reached(&self, from: usize) -> Vec<usize> {
         let mut seen = vec![from];
         let mut next = 0;
@@ -163,7 +163,9 @@ impl<'a> Before<'a> {
                 }
             }
         }
-        seen.split_off(1)
+        let mut reached = seen.split_off(1);
+        reached.sort_unstable();
+        reached
     }
 }
 

@@ -151,7 +151,8 @@ impl Reader<'_> {
         let header = match self.bytes.get(at..at + 2) {
             Some(header) => (header[0], header[1]),
             None => {
-                let found = format!("f says that there are {} functions, and {} of the file are left for function {number}", self.bytes[5], self.left(at));
+                let left = many(self.bytes.len().saturating_sub(at), "byte");
+                let found = format!("by f there are {}, and the file has {left} left for function {number}", many(usize::from(self.bytes[5]), "function"));
                 return self.stop(8, at, 2, format!("the header of function {number}"), Of::Header, found);
             }
         };
@@ -173,11 +174,6 @@ impl Reader<'_> {
         let read = self.block(self.bytes.len(), 1, &name, "the file");
         self.functions.push(header);
         read
-    }
-
-    /// How many bytes of the file are left at a place.
-    fn left(&self, at: usize) -> String {
-        many(self.bytes.len().saturating_sub(at), "byte")
     }
 
     /// A block of this name, which must end within what is around it.

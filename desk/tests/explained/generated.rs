@@ -1,18 +1,15 @@
 //! Generated calls of every kind: whatever is refused is put into words without a panic, and the walks of the tool come to the library's number and place.
 
 use crate::generator::{self, Case, Random};
+use crate::named;
 use abwakiris::{check, read_device, read_listing, read_program, route, run, write_listing, File, Job, Refusal};
 use abwakiris_desk::device::Device;
 use abwakiris_desk::explain::{explained, typing, Explained, Given};
-use abwakiris_desk::input::Named;
 use abwakiris_desk::program::Program;
 
 const CASES: u64 = 4_000;
+const TEXTS: u64 = 60;
 const SEED: u64 = 15;
-
-fn named(name: &str, bytes: &[u8]) -> Named {
-    Named { name: name.to_string(), bytes: bytes.to_vec() }
-}
 
 /// What a call was given and why it was refused, in words; none where it was not.
 fn refused(case: &Case) -> Option<Explained> {
@@ -108,18 +105,19 @@ fn whole(explained: &Explained, text: &str, json: &str, index: u64) {
     assert!(!in_file || text.contains(&format!(":{}", explained.refusal.place)), "case {index} has no place:\n{text}");
 }
 
+/// Texts that stand beside a listing in one way or another: of each that is none the tool says what is wrong.
 #[test]
-fn scratch() {
-    for index in 0..3000 {
-        let case = generator::listing_case(&mut Random::new(SEED, index));
-        for text in &case.texts {
+fn texts_that_are_no_listing() {
+    let mut times = 0;
+    for index in 0..TEXTS {
+        for text in &generator::listing_case(&mut Random::new(SEED, index)).texts {
             let text = named("text", text);
             if let Err(refusal) = read_listing(&text.bytes) {
                 let explained = explained(refusal, &Given { text: Some(&text), ..Given::default() });
-                let line = explained.statement.clone().unwrap();
-                println!("{:?} <- {:60.60}", explained.found, line);
                 whole(&explained, &explained.text(), &explained.json().to_string(), index);
+                times += 1;
             }
         }
     }
+    assert!(times > 1_000, "only {times} texts are refused");
 }

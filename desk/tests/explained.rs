@@ -9,6 +9,7 @@ mod page;
 
 // The files, the generator and the reference of the repository's own tests, which call one another by these names.
 #[rustfmt::skip]
+#[allow(clippy::all)]
 #[path = "../../tests"]
 mod shared {
     pub mod files;

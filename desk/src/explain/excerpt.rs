@@ -1,6 +1,8 @@
 //! The lines of a file around a place, with their numbers and a mark under what the refusal is about.
 
 use crate::listing::Listing;
+use std::collections::BTreeSet;
+use std::ops::RangeInclusive;
 
 /// Some lines of a file, or some rows of its bytes.
 #[derive(Clone, Debug, PartialEq, Eq)]
@@ -8,6 +10,8 @@ pub struct Excerpt {
     /// What it shows, where that is not the place itself.
     pub head: Option<String>,
     pub rows: Vec<Row>,
+    /// By how much the numbers of neighbours differ.
+    step: usize,
 }
 
 #[derive(Clone, Debug, PartialEq, Eq)]
@@ -21,30 +25,37 @@ pub struct Row {
 
 /// How many lines are shown before a line and after it.
 const AROUND: usize = 2;
+/// The most other lines that are shown.
+const OTHERS: usize = 6;
 /// How many bytes a row has.
 const BYTES: usize = 16;
 /// The most columns of a line that are shown.
 const COLUMNS: usize = 120;
 
 impl Excerpt {
-    /// A line of a listing and the lines around it, the statement marked.
-    pub fn of_line(listing: &Listing, number: usize) -> Excerpt {
+    /// A line of a listing with the statement marked, the lines around it, and some others that have to do with it.
+    pub fn of_line(listing: &Listing, number: usize, others: &BTreeSet<usize>) -> Excerpt {
         let line = |i: usize| listing.lines.get(i - 1).map(|line| line.text.clone());
-        Excerpt::around(number, line, |text| (indent(text), text.len() - indent(text)))
+        let shown = near(number).chain(others.iter().copied().take(OTHERS)).collect();
+        Excerpt::of(shown, number, line, |text| (indent(text), text.len() - indent(text)))
     }
 
-    /// The line of this number, from 1, and the lines around it, as far as there are any; its mark by its text.
+    /// The line of this number, from 1, and the lines around it; its mark by its text.
     pub fn around(number: usize, line: impl Fn(usize) -> Option<String>, mark: impl Fn(&str) -> (usize, usize)) -> Excerpt {
+        Excerpt::of(near(number).collect(), number, line, mark)
+    }
+
+    /// Lines by their numbers, as far as there are such lines, and the mark of one of them.
+    fn of(shown: BTreeSet<usize>, number: usize, line: impl Fn(usize) -> Option<String>, mark: impl Fn(&str) -> (usize, usize)) -> Excerpt {
         let row = |i: usize| line(i).map(|text| Row { number: i, mark: (i == number).then(|| mark(&text)), text });
-        let first = number.saturating_sub(AROUND).max(1);
-        Excerpt { head: None, rows: (first..=number + AROUND).filter_map(row).collect() }
+        Excerpt { head: None, rows: shown.into_iter().filter_map(row).collect(), step: 1 }
     }
 
     /// The last of these lines, which go before a fault.
     pub fn of_last(lines: &[&str], head: String) -> Excerpt {
         let from = lines.len().saturating_sub(2 * AROUND);
         let rows = lines.iter().enumerate().skip(from).map(|(i, text)| Row { number: i + 1, text: (*text).to_string(), mark: None });
-        Excerpt { head: Some(head), rows: rows.collect() }
+        Excerpt { head: Some(head), rows: rows.collect(), step: 1 }
     }
 
     /// The bytes at a place in hex, so many of them marked, after the row before. The place may be the end, where the next byte would stand.
@@ -56,7 +67,7 @@ impl Excerpt {
             let mark = (first == start).then(|| mark(place - start, marked, (after - first).max(place - start + 1)));
             Row { number: first, text: text.join(" "), mark }
         };
-        Excerpt { head: None, rows: start.checked_sub(BYTES).into_iter().chain([start]).map(row).collect() }
+        Excerpt { head: None, rows: start.checked_sub(BYTES).into_iter().chain([start]).map(row).collect(), step: BYTES }
     }
 
     /// How wide its numbers are.
@@ -71,7 +82,10 @@ impl Excerpt {
             text.push_str(&format!("{:width$} |\n{:width$}::: {head}\n", "", ""));
         }
         text.push_str(&format!("{:width$} |\n", ""));
-        for row in &self.rows {
+        for (i, row) in self.rows.iter().enumerate() {
+            if i > 0 && self.rows[i - 1].number + self.step != row.number {
+                text.push_str("...\n");
+            }
             text.push_str(&format!("{:width$} | {}", row.number, cut(&row.text)));
             text.truncate(text.trim_end_matches(' ').len());
             text.push('\n');
@@ -82,6 +96,11 @@ impl Excerpt {
         }
         text
     }
+}
+
+/// The numbers of the lines around one.
+fn near(number: usize) -> RangeInclusive<usize> {
+    number.saturating_sub(AROUND).max(1)..=number + AROUND
 }
 
 /// The columns of a mark under so many bytes from the i-th on, of a row that has room for so many.

@@ -6,14 +6,17 @@ use super::words::Of;
 use crate::device::Device;
 use crate::program::{Body, Kind, Program};
 use abwakiris::Job;
+use std::cell::RefCell;
+use std::collections::BTreeSet;
 
 /// What the words are about.
-#[derive(Clone, Copy)]
 pub struct Words<'a> {
     pub device: &'a Device,
     pub program: &'a Program,
     pub job: Job,
     pub body: Body,
+    /// The lines of the listing that were named.
+    pub named: RefCell<BTreeSet<usize>>,
 }
 
 /// The case of the refusal.
@@ -35,7 +38,11 @@ pub fn case(found: &Found, program: &Program) -> Of {
     }
 }
 
-impl Words<'_> {
+impl<'a> Words<'a> {
+    pub fn new(device: &'a Device, program: &'a Program, job: Job, body: Body) -> Words<'a> {
+        Words { device, program, job, body, named: RefCell::default() }
+    }
+
     /// The words in braces of what is asked.
     pub fn values(&self, found: &Found) -> Values {
         let slot = |slot: u8| ("{slot}", format!("slot {slot}"));
@@ -66,7 +73,9 @@ impl Words<'_> {
 
     /// The line of an offset.
     fn line(&self, at: usize) -> String {
-        format!("line {}", self.program.listing.number(at))
+        let number = self.program.listing.number(at);
+        self.named.borrow_mut().insert(number);
+        format!("line {number}")
     }
 
     /// What a location byte means in this body.

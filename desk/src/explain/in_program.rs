@@ -9,6 +9,7 @@ use crate::device::Device;
 use crate::input::Named;
 use crate::program::Program;
 use abwakiris::{Job, Refusal};
+use std::collections::BTreeSet;
 
 /// What there is to say of a refusal in these bytes.
 pub fn said(refusal: Refusal, bytes: &[u8], given: &Given) -> Part {
@@ -26,21 +27,19 @@ pub fn said(refusal: Refusal, bytes: &[u8], given: &Given) -> Part {
 fn at_line(refusal: Refusal, program: &Program, given: &Given) -> Part {
     let place = refusal.place as usize;
     let line = program.listing.number(place);
-    let mut part = Part {
-        at: Some(format!("line {line} of its listing")),
-        line: Some(line),
-        statement: Some(program.listing.text(line).to_string()),
-        excerpts: vec![Excerpt::of_line(&program.listing, line)],
-        ..Part::default()
-    };
+    let mut part =
+        Part { at: Some(format!("line {line} of its listing")), line: Some(line), statement: Some(program.listing.text(line).to_string()), ..Part::default() };
+    let mut others = BTreeSet::new();
     if let (Some(device), Some(job)) = (given.device.and_then(|device| Device::read(&device.bytes).ok()), job_of(refusal, given)) {
-        let words = Words { device: &device, program, job, body: program.body_at(place) };
+        let words = Words::new(&device, program, job, program.body_at(place));
         if refusal.number.number() == 21 {
             without_path(&mut part, &words, place, given);
         } else {
             typed(&mut part, &words, refusal);
         }
+        others = words.named.into_inner();
     }
+    part.excerpts.push(Excerpt::of_line(&program.listing, line, &others));
     part
 }
 
@@ -61,7 +60,7 @@ fn without_path(part: &mut Part, words: &Words, place: usize, given: &Given) {
         part.values = values;
         part.found = found;
     }
-    let name = |named: Option<&Named>, otherwise: &str| named.map_or(otherwise.to_string(), |named| named.name.clone());
+    let name = |named: Option<&Named>, otherwise: &str| named.filter(|named| is_word(&named.name)).map_or(otherwise.to_string(), |named| named.name.clone());
     let program = given.programs[usize::from(words.job.number()) - 1];
     let job = if words.job == Job::ONE { "" } else { " --job 2" };
     part.see = Some(format!(
@@ -69,4 +68,9 @@ fn without_path(part: &mut Part, words: &Words, place: usize, given: &Given) {
         name(given.device, "DEVICE"),
         name(program, "PROGRAM")
     ));
+}
+
+/// Whether a name can stand in a command line as it is. That of standard input cannot: it is read up.
+fn is_word(name: &str) -> bool {
+    !name.chars().any(|letter| letter.is_whitespace() || letter.is_control() || "'\"\\$`*?&|;<>()!#".contains(letter))
 }

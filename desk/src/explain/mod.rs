@@ -1,7 +1,7 @@
 //! A refusal in words: where it is, what the rule asks, what was found there, and what usually mends it.
 
 mod count;
-mod excerpt;
+pub mod excerpt;
 mod found;
 mod in_device;
 mod in_listing;

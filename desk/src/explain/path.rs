@@ -34,7 +34,7 @@ fn qubit(found: &Found, slot: u8) -> Option<u8> {
 /// The free locations of a region that are reached from an end over free locations, rising.
 pub fn reached(device: &Device, job: Job, free: impl Fn(usize) -> bool, end: usize) -> Vec<usize> {
     let mut is_reached = vec![false; device.locations()];
-    let mut waiting = vec![end];
+    let mut waiting: Vec<usize> = Some(end).filter(|&end| end < device.locations()).into_iter().collect();
     while let Some(here) = waiting.pop() {
         for &next in device.near(here) {
             if next != end && device.has(job, next) && free(next) && !is_reached[next] {

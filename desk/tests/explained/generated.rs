@@ -7,7 +7,7 @@ use abwakiris_desk::device::Device;
 use abwakiris_desk::explain::{explained, typing, Explained, Given};
 use abwakiris_desk::program::Program;
 
-const CASES: u64 = 4_000;
+const CASES: u64 = 8_000;
 const TEXTS: u64 = 60;
 const SEED: u64 = 15;
 
@@ -80,9 +80,11 @@ fn routed(device: &[u8], number: u64, occupancy: &[u8], ends: [u64; 2], length: 
 
 #[test]
 fn whatever_is_refused() {
-    let mut times = [0; 28];
+    let (mut times, mut checks) = ([0; 28], 0);
     for index in 0..CASES {
-        if let Some(explained) = refused(&generator::case(&mut Random::new(SEED, index))) {
+        let case = generator::case(&mut Random::new(SEED, index));
+        checks += u64::from(matches!(case, Case::Check { .. }));
+        if let Some(explained) = refused(&case) {
             let (text, json) = (explained.text(), explained.json().to_string());
             times[usize::from(explained.refusal.number.number())] += 1;
             whole(&explained, &text, &json, index);
@@ -90,6 +92,7 @@ fn whatever_is_refused() {
     }
     let missing: Vec<usize> = (1..28).filter(|&number| times[number] == 0).collect();
     assert!(missing.is_empty(), "no case is refused by {missing:?}");
+    assert!(checks > CASES / 4, "only {checks} of the cases are checks");
 }
 
 /// All that is to be said is there.

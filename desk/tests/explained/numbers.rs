@@ -218,6 +218,14 @@ fn loops_that_lose_a_qubit() {
     on_g(&called).is(19, 33, &["it went in the call of line 11: function 1 ends without its argument 0, gone in its call of line 5"]);
 }
 
+/// Lines that have to do with the fault are shown with it, wherever they stand.
+#[test]
+fn lines_that_have_to_do_with_it() {
+    let program = only(&[vec![init(0, 0), init(1, 1)], vec![gate(0); 6], vec![init(3, 1), gate(0), gate(0), gate(0)]].concat());
+    let excerpt = "   |\n 4 |   init 1 1\n...\n 9 |   gate H 0\n10 |   gate H 0\n11 |   init 3 1\n   |   ^^^^^^^^\n12 |   gate H 0\n13 |   gate H 0\n   |\n";
+    on_g(&program).is(14, 32, &[excerpt, "location 1 has the qubit in slot 1, since line 4"]);
+}
+
 #[test]
 fn counts() {
     let functions = chain(1, 0, &[init(0, 0), free(0)], 15, 2);

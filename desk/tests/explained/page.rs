@@ -3,8 +3,10 @@
 use crate::{checked, listed, named, routed};
 use crate::{files, Seen};
 use abwakiris::{read_device, read_listing, read_program, run, Number, Refusal};
+use abwakiris_desk::args::{self, Taken};
 use abwakiris_desk::explain::words::{general, Row, ROWS};
 use abwakiris_desk::explain::{explained, Given};
+use abwakiris_desk::json::Json;
 
 const PAGE: &str = include_str!("../../../docs/refusals.md");
 
@@ -39,6 +41,33 @@ fn lines(row: &Row) -> Vec<String> {
         lines.push(format!("- Asked{of}: {}. Mend: {}.", general(case.asked), general(case.mend)));
     }
     lines
+}
+
+/// What the command says where it is asked for this.
+fn said(words: &[&str]) -> String {
+    match args::taken(words.iter().map(Into::into).collect()).unwrap() {
+        Taken::Asked(asked) => String::from_utf8((asked.command.does)(&asked).unwrap().out).unwrap(),
+        Taken::Help(page) => page,
+    }
+}
+
+/// `abwakiris refusal` says the same, in words and for machines.
+#[test]
+fn the_command_says_the_same() {
+    let (all, machine) = (said(&["refusal"]), said(&["refusal", "--json"]));
+    assert_eq!((all.lines().count(), machine.lines().count()), (ROWS.len(), 1));
+    for row in ROWS {
+        let number = row.number.to_string();
+        let (text, json) = (said(&["refusal", &number]), said(&["refusal", &number, "--json"]));
+        let head = Number::of(row.number).to_string();
+        assert!(all.contains(&head) && text.starts_with(&head), "{text}");
+        for words in row.cases.iter().flat_map(|case| [general(case.asked), general(case.mend)]).chain([row.when, row.place, row.adds].map(str::to_string)) {
+            let quoted = Json::from(words.as_str()).to_string();
+            assert!(text.contains(&words) && json.contains(&quoted) && machine.contains(&quoted), "{number} does not say\n{words}");
+        }
+    }
+    let asked = args::taken(vec!["refusal".into(), "28".into()]);
+    assert!(matches!(asked, Ok(Taken::Asked(asked)) if (asked.command.does)(&asked).is_err()));
 }
 
 /// Every word of the table is a plain sentence without its end, and ASCII.
@@ -123,25 +152,16 @@ fn examples_are_refused_so() {
     let examples = examples();
     for example in &examples {
         let what = match example.kind {
-            "check" => "program whose check is",
-            "listing" => "text that is",
-            kind => return_kind(kind),
+            "check" => "program whose check".to_string(),
+            "listing" => "text that".to_string(),
+            kind => format!("{kind} that"),
         };
-        assert_eq!(example.before, format!("A {what} refused with {} at {}:", example.number, example.place));
+        assert_eq!(example.before, format!("A {what} is refused with {} at {}:", example.number, example.place));
         refused(example).is(example.number, example.place, &[]);
     }
     let in_words = [20, 22, 24, 25, 26];
     for row in ROWS {
         assert!(in_words.contains(&row.number) || examples.iter().any(|example| example.number == row.number), "{} has no example", row.number);
-    }
-}
-
-fn return_kind(kind: &'static str) -> &'static str {
-    match kind {
-        "device" => "device that is",
-        "program" => "program that is",
-        "route" => "route that is",
-        _ => "schedule that is",
     }
 }
 

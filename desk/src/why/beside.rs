@@ -92,16 +92,16 @@ struct Open<'a> {
 fn opened<'a>(search: &mut Search<'a>, begun: &[Step]) -> Vec<Open<'a>> {
     let program = search.visits.program;
     let mut machine = Machine::new(program);
-    let mut ids = vec![search.visits.main()];
+    let mut visits = vec![Visit { body: Body::Main, locations: vec![], occupied: Locations::default() }];
     let mut occupied = Locations::default();
     for step in begun {
         match machine.next() {
             Next::Statement(Statement { kind: Kind::Call { function, locations, .. }, .. }) => {
                 let locations = locations.iter().map(|&byte| machine.frame().location(byte)).collect();
-                ids.push(search.visits.id(Visit { body: Body::Function(*function), locations, occupied }));
+                visits.push(Visit { body: Body::Function(*function), locations, occupied });
             }
             Next::Return(_) => {
-                ids.pop();
+                visits.pop();
             }
             _ => {}
         }
@@ -113,14 +113,13 @@ fn opened<'a>(search: &mut Search<'a>, begun: &[Step]) -> Vec<Open<'a>> {
     }
     let mut next = machine.next().offset().filter(|_| matches!(machine.next(), Next::Statement(_)));
     let mut open = vec![];
-    for (frame, &id) in machine.frames.iter().zip(&ids).rev() {
+    for (frame, visit) in machine.frames.iter().zip(visits).rev() {
         let graph = search.flow.graph(frame.body);
         let at_call = open.is_empty();
         let step = next.and_then(|at| graph.at(at)).map_or(graph.end(), |step| if at_call { step } else { graph.steps[step].next });
         let values = frame.slots.iter().enumerate().filter(|(_, held)| matches!(held, Slot::Bool(true) | Slot::Reference(true)));
         let values = values.fold(0, |values, (slot, _)| values | 1 << slot);
-        let place = search.place(id);
-        open.push(Open { place, start: Start { step, values }, call: frame.call });
+        open.push(Open { place: search.place(visit), start: Start { step, values }, call: frame.call });
         next = frame.call.map(|call| call.at);
     }
     open

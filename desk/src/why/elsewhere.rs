@@ -26,8 +26,8 @@ pub enum Elsewhere {
 /// Another merge without a path that outcomes lead to.
 pub fn elsewhere(search: &mut Search<'_>) -> Elsewhere {
     let main = search.visits.main();
-    let mut walk = Walk { search, seen: HashSet::from([main]), left: MOST_SITES, unknown: false };
-    match walk.visit(main, &mut vec![]) {
+    let mut walk = Walk { search, seen: HashSet::new(), left: MOST_SITES, unknown: false };
+    match main.and_then(|main| walk.visit(main, &mut vec![])) {
         Some((at, steps)) => Elsewhere::Found { at, steps },
         None if walk.unknown => Elsewhere::GivenUp,
         None => Elsewhere::Nowhere,
@@ -49,10 +49,7 @@ impl Walk<'_, '_> {
                 Met::Blocked(at) => (at, None),
                 Met::Call(at, below) => (at, Some(below)),
             };
-            if below.map_or(false, |below| self.seen.contains(&below) || self.search.visits.is_clear(below)) {
-                continue;
-            }
-            if !self.is_reached(id, at) {
+            if below.map_or(false, |below| self.seen.contains(&below)) || !self.is_reached(id, at) {
                 continue;
             }
             sites.push((id, at));

@@ -13,7 +13,7 @@
 
 use super::flow::{Before, Does, Flow, Graph, Number};
 use super::possible::{after, possible, Values};
-use super::visits::{Id, Met, Visits};
+use super::visits::{Id, Met, Visit, Visits};
 use super::wishes::Wishes;
 use crate::program::Body;
 use std::cmp::Reverse;
@@ -160,13 +160,9 @@ impl<'a> Search<'a> {
         }
     }
 
-    /// A visit, which is clear where all merges in it and below have a path.
-    pub fn place(&mut self, id: Id) -> Where {
-        if self.visits.is_clear(id) {
-            Where::Clear(self.visits.visit(id).body)
-        } else {
-            Where::Visit(id)
-        }
+    pub fn place(&mut self, visit: Visit) -> Where {
+        let body = visit.body;
+        self.visits.id(visit).map_or(Where::Clear(body), Where::Visit)
     }
 
     /// The callee of the call at an offset.
@@ -174,7 +170,7 @@ impl<'a> Search<'a> {
         if let Where::Visit(id) = place {
             for met in self.visits.met(id).iter() {
                 match *met {
-                    Met::Call(call, below) if call == at => return self.place(below),
+                    Met::Call(call, below) if call == at => return Where::Visit(below),
                     _ => {}
                 }
             }

@@ -42,8 +42,16 @@ pub struct Entered<'a> {
 impl<'a> Trail<'a> {
     /// The trail to the first merge that has no path.
     pub fn find(visits: &mut Visits<'a>) -> Option<Trail<'a>> {
-        let main = visits.main();
-        let sites = first(visits, main)?;
+        let mut sites = vec![];
+        let mut below = visits.main();
+        while let Some(id) = below {
+            let (at, next) = match *visits.met(id).first()? {
+                Met::Blocked(at) => (at, None),
+                Met::Call(at, next) => (at, Some(next)),
+            };
+            sites.push((id, at));
+            below = next;
+        }
         Trail::over(visits, &sites)
     }
 
@@ -77,22 +85,6 @@ impl<'a> Leg<'a> {
         let standing = visits.standing(&visit, at);
         Some(Leg { id, visit, entered, site, standing })
     }
-}
-
-/// The sites on the way to the first merge without a path in a visit.
-fn first(visits: &mut Visits<'_>, id: Id) -> Option<Vec<(Id, usize)>> {
-    for met in visits.met(id).iter() {
-        match *met {
-            Met::Blocked(at) => return Some(vec![(id, at)]),
-            Met::Call(at, below) if !visits.is_clear(below) => {
-                let mut sites = vec![(id, at)];
-                sites.extend(first(visits, below)?);
-                return Some(sites);
-            }
-            Met::Call(..) => {}
-        }
-    }
-    None
 }
 
 /// The statement at an offset, with the blocks that are gone into on the way to it.

@@ -1,15 +1,19 @@
 //! Bodies as they are come to: a visit is a body at actual locations, with what is occupied when it begins.
 //!
 //! In a program that is typed the visit settles where every qubit of the body is at each of its statements, whatever the outcomes: both blocks of an if end
-//! alike, and a loop keeps its qubits. So a body is gone over once for each visit, and what was seen there is remembered.
+//! alike, and a loop keeps its qubits. So a body is gone over once for each visit, and what was seen there is remembered. A visit is clear where every merge in
+//! it and below it has a path; only those that are not get a number.
 
 use super::region::{Locations, Region};
 use crate::program::{Block, Body, Kind, Program, Statement};
 use std::collections::HashMap;
 use std::rc::Rc;
 
-/// The number of a visit.
+/// The number of a visit that is not clear.
 pub type Id = usize;
+
+/// The most visits of which it is remembered whether they are clear.
+const MOST_REMEMBERED: usize = 100_000;
 
 /// A body at actual locations.
 #[derive(Clone, Debug, PartialEq, Eq, Hash)]
@@ -21,13 +25,19 @@ pub struct Visit {
     pub occupied: Locations,
 }
 
-/// What is met in a visit, in the check's order. Callees without a merge are left out.
+/// What is met in a visit, in the check's order. Calls that are clear are left out.
 #[derive(Clone, Copy, Debug)]
 pub enum Met {
     /// The merge at this offset has no path.
     Blocked(usize),
     /// The call at this offset is this visit.
     Call(usize, Id),
+}
+
+/// The same, before it is known which calls are clear.
+enum Seen {
+    Blocked(usize),
+    Call(usize, Visit),
 }
 
 /// Where the qubits are at a statement.
@@ -62,15 +72,15 @@ pub struct Visits<'a> {
     pub program: &'a Program,
     pub region: Region<'a>,
     functions: Vec<Summary>,
-    ids: HashMap<Visit, Id>,
+    ids: HashMap<Rc<Visit>, Id>,
     visits: Vec<Rc<Visit>>,
     met: Vec<Option<Rc<Vec<Met>>>>,
-    clear: Vec<Option<bool>>,
+    clear: HashMap<Visit, bool>,
 }
 
 impl<'a> Visits<'a> {
     pub fn of(program: &'a Program, region: Region<'a>) -> Visits<'a> {
-        let mut visits = Visits { program, region, functions: vec![], ids: HashMap::new(), visits: vec![], met: vec![], clear: vec![] };
+        let mut visits = Visits { program, region, functions: vec![], ids: HashMap::new(), visits: vec![], met: vec![], clear: HashMap::new() };
         for function in &program.functions {
             let parameters: Vec<usize> = (0..function.parameters).collect();
             let mut standing = Standing::default();
@@ -96,21 +106,24 @@ impl<'a> Visits<'a> {
         visits
     }
 
-    /// The visit of main.
-    pub fn main(&mut self) -> Id {
+    /// The visit of main; none where it is clear.
+    pub fn main(&mut self) -> Option<Id> {
         self.id(Visit { body: Body::Main, locations: vec![], occupied: Locations::default() })
     }
 
-    pub fn id(&mut self, visit: Visit) -> Id {
+    /// The number of a visit; none where it is clear.
+    pub fn id(&mut self, visit: Visit) -> Option<Id> {
         if let Some(&id) = self.ids.get(&visit) {
-            return id;
+            return Some(id);
         }
-        let id = self.visits.len();
-        self.visits.push(Rc::new(visit.clone()));
+        if self.is_clear(&visit) {
+            return None;
+        }
+        let (id, visit) = (self.visits.len(), Rc::new(visit));
+        self.visits.push(Rc::clone(&visit));
         self.met.push(None);
-        self.clear.push(None);
         self.ids.insert(visit, id);
-        id
+        Some(id)
     }
 
     pub fn visit(&self, id: Id) -> Rc<Visit> {
@@ -144,43 +157,52 @@ impl<'a> Visits<'a> {
         if let Some(met) = &self.met[id] {
             return Rc::clone(met);
         }
-        let visit = self.visit(id);
-        let mut seen = vec![];
-        let mut calls = vec![];
-        self.over(&visit, &mut |statement, standing| match &statement.kind {
-            Kind::Merge { first, second, .. } => {
-                let ends = (standing.slots[usize::from(*first)], standing.slots[usize::from(*second)]);
-                if let (Some(first), Some(second)) = ends {
-                    if !self.region.joined(&standing.occupied, first, second) {
-                        seen.push((statement.at, None));
-                    }
-                }
+        let mut met = vec![];
+        for seen in self.seen(&self.visit(id)) {
+            match seen {
+                Seen::Blocked(at) => met.push(Met::Blocked(at)),
+                Seen::Call(at, visit) => met.extend(self.id(visit).map(|id| Met::Call(at, id))),
             }
-            Kind::Call { function, locations, .. } if self.merges(*function) => {
-                seen.push((statement.at, Some(calls.len())));
-                let locations = actual(locations, visit.parameters());
-                calls.push(Visit { body: Body::Function(*function), locations, occupied: standing.occupied });
-            }
-            _ => {}
-        });
-        let ids: Vec<Id> = calls.into_iter().map(|visit| self.id(visit)).collect();
-        let met = seen.into_iter().map(|(at, call)| call.map_or(Met::Blocked(at), |call| Met::Call(at, ids[call]))).collect();
+        }
         let met = Rc::new(met);
         self.met[id] = Some(Rc::clone(&met));
         met
     }
 
     /// Whether every merge of a visit and of those below it has a path. It goes as deep as functions call each other.
-    pub fn is_clear(&mut self, id: Id) -> bool {
-        if let Some(clear) = self.clear[id] {
+    fn is_clear(&mut self, visit: &Visit) -> bool {
+        if let Some(&clear) = self.clear.get(visit) {
             return clear;
         }
-        let clear = self.met(id).iter().all(|met| match *met {
-            Met::Blocked(_) => false,
-            Met::Call(_, below) => self.is_clear(below),
+        let clear = self.seen(visit).iter().all(|seen| match seen {
+            Seen::Blocked(_) => false,
+            Seen::Call(_, below) => self.is_clear(below),
         });
-        self.clear[id] = Some(clear);
+        if self.clear.len() < MOST_REMEMBERED {
+            self.clear.insert(visit.clone(), clear);
+        }
         clear
+    }
+
+    /// The merges without a path and the calls of a visit. Callees without a merge are left out.
+    fn seen(&self, visit: &Visit) -> Vec<Seen> {
+        let mut seen = vec![];
+        self.over(visit, &mut |statement, standing| match &statement.kind {
+            Kind::Merge { first, second, .. } => {
+                let ends = (standing.slots[usize::from(*first)], standing.slots[usize::from(*second)]);
+                if let (Some(first), Some(second)) = ends {
+                    if !self.region.joined(&standing.occupied, first, second) {
+                        seen.push(Seen::Blocked(statement.at));
+                    }
+                }
+            }
+            Kind::Call { function, locations, .. } if self.merges(*function) => {
+                let locations = actual(locations, visit.parameters());
+                seen.push(Seen::Call(statement.at, Visit { body: Body::Function(*function), locations, occupied: standing.occupied }));
+            }
+            _ => {}
+        });
+        seen
     }
 
     /// Where the qubits are in a visit when this statement comes.

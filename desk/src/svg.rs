@@ -29,7 +29,7 @@ pub fn drawn(device: &Device, layout: &Layout, picture: &Picture) -> String {
          height=\"{height}\" font-family=\"DejaVu Sans, Verdana, Helvetica, Arial, sans-serif\">\n<title>{}</title>\n<defs>\n{}</defs>\n\
          <rect width=\"{width}\" height=\"{height}\" fill=\"#ffffff\"/>\n",
         escaped(&picture.title),
-        cell::PATTERNS,
+        cell::patterns(),
     );
     for layer in [sheet.words(), sheet.plates(), sheet.edges(), sheet.squares(), sheet.route(), sheet.marks(), sheet.legend()] {
         text.push_str(&layer);
@@ -296,10 +296,8 @@ fn number((x, y): Point, anchor: &str, number: &str) -> String {
 /// A line as the route is drawn.
 fn thick(points: &[Point]) -> String {
     let d = path(points);
-    format!(
-        "<path d=\"{d}\" fill=\"none\" stroke=\"#ffffff\" stroke-width=\"11\"/><path d=\"{d}\" fill=\"none\" stroke=\"{}\" stroke-width=\"6\" stroke-dasharray=\"11 4\"/>\n",
-        cell::ROUTE
-    )
+    let line = |stroke: &str, width: i32, more: &str| format!("<path d=\"{d}\" fill=\"none\" stroke=\"{stroke}\" stroke-width=\"{width}\"{more}/>\n");
+    line("#ffffff", 11, "") + &line(cell::ROUTE, 6, " stroke-dasharray=\"11 4\"")
 }
 
 /// A line cut so that it ends at the disc of its last point, and the head of an arrow there.

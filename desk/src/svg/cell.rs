@@ -15,11 +15,16 @@ pub const REACHED_INK: &str = "#00694d";
 const GREY: &str = "#8a8a8a";
 
 /// The patterns that cells and plates are filled with.
-pub const PATTERNS: &str = "\
-<pattern id=\"dots\" width=\"8\" height=\"8\" patternUnits=\"userSpaceOnUse\"><circle cx=\"4\" cy=\"4\" r=\"1.3\" fill=\"#00694d\"/></pattern>
-<pattern id=\"hatch\" width=\"7\" height=\"7\" patternUnits=\"userSpaceOnUse\" patternTransform=\"rotate(45)\"><rect width=\"2\" height=\"7\" fill=\"#a8a8a8\"/></pattern>
-<pattern id=\"stripes\" width=\"10\" height=\"10\" patternUnits=\"userSpaceOnUse\" patternTransform=\"rotate(-45)\"><rect width=\"2\" height=\"10\" fill=\"#eebf94\"/></pattern>
-";
+pub fn patterns() -> String {
+    let pattern = |id: &str, side: i32, turned: i32, shape: &str| {
+        format!(
+            "<pattern id=\"{id}\" width=\"{side}\" height=\"{side}\" patternUnits=\"userSpaceOnUse\" patternTransform=\"rotate({turned})\">{shape}</pattern>\n"
+        )
+    };
+    pattern("dots", 8, 0, &format!("<circle cx=\"4\" cy=\"4\" r=\"1.3\" fill=\"{REACHED_INK}\"/>"))
+        + &pattern("hatch", 7, 45, "<rect width=\"2\" height=\"7\" fill=\"#a8a8a8\"/>")
+        + &pattern("stripes", 10, -45, "<rect width=\"2\" height=\"10\" fill=\"#eebf94\"/>")
+}
 
 /// What the plate under a cell says of its region.
 #[derive(Clone, Copy, PartialEq, Eq)]

@@ -147,11 +147,14 @@ fn is_clear(layout: &Layout, a: usize, b: usize) -> bool {
     layout.cells.iter().filter(|&&(row, column)| within(row, a_row, b_row) && within(column, a_column, b_column)).count() == 2
 }
 
-/// The lanes that are taken in each gap: for each lane the stretches of it, in half rows or columns.
+/// The stretches of a lane that are taken, in half rows or columns.
+type Lane = Vec<(usize, usize)>;
+
+/// The lanes of each gap.
 #[derive(Default)]
 struct Lanes {
     /// By the axis, 0 for gaps between rows, and the gap.
-    gaps: HashMap<(u8, usize), Vec<Vec<(usize, usize)>>>,
+    gaps: HashMap<(u8, usize), Vec<Lane>>,
 }
 
 impl Lanes {
@@ -169,7 +172,7 @@ impl Lanes {
     fn free(&mut self, axis: u8, gap: usize, from: usize, to: usize) -> usize {
         let (from, to) = (from.min(to), from.max(to));
         let lanes = self.gaps.entry((axis, gap)).or_default();
-        let is_free = |lane: &Vec<(usize, usize)>| lane.iter().all(|&(start, end)| end < from || to < start);
+        let is_free = |lane: &Lane| lane.iter().all(|&(start, end)| end < from || to < start);
         match lanes.iter().position(is_free) {
             Some(lane) => {
                 lanes[lane].push((from, to));

@@ -79,7 +79,7 @@ impl Board<'_> {
 
     /// Tries places beside neighbours. What may become worse by a change falls from a few edges to nothing.
     fn improve(&mut self) {
-        let tries = 1000 + 400 * self.part.len();
+        let tries = 500 + 200 * self.part.len();
         for i in 0..tries {
             let allowed = (12 - (i * 16 / tries) as i32).max(0);
             let location = self.any(self.part.len());

@@ -109,9 +109,9 @@ impl Asked {
     /// Takes an option, whose value may be the next word.
     fn take(&mut self, word: &OsStr, rest: &mut impl Iterator<Item = OsString>) -> Result<(), Trouble> {
         let (name, given) = parts(word);
-        if name == "--json" && self.command.json {
-            self.json = true;
-            return given.map_or(Ok(()), |_| trouble("--json takes no value"));
+        if name == "--help" || name == "--json" && self.command.json {
+            self.json = true; // a help without a value was answered before
+            return given.map_or(Ok(()), |_| trouble(format!("{} takes no value", shown(name))));
         }
         let option = Takes::named(name).filter(|option| self.command.options.contains(option)).ok_or_else(|| unknown_option(self.command, name))?;
         let value = given.map_or_else(|| next_value(option.written(), rest), |value| Ok(value.to_os_string()))?;
@@ -329,6 +329,7 @@ mod tests {
             ("check d p --job 18446744073709551616", "--job takes a number up to 18446744073709551615, not `18446744073709551616`"),
             ("check d p --job 1 --job 1", "--job is given twice"),
             ("check d p --json=1", "--json takes no value"),
+            ("check d p --help=1", "--help takes no value"),
             ("list p -o --json", "-o takes a value, and `--json` stands there; -o=--json where it is the value"),
             ("check - -", "standard input, -, is given twice"),
             ("show - p q --run -", "standard input, -, is given twice"),

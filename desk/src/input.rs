@@ -24,7 +24,7 @@ pub struct Named {
 /// Where it is missing, a directory, not readable, or longer than is read.
 pub fn file(name: &OsStr) -> Result<Named, Trouble> {
     if name == "-" {
-        let bytes = all(std::io::stdin().lock(), false).map_err(|why| Trouble(format!("standard input: {why}")))?;
+        let bytes = all(std::io::stdin().lock(), Waits::Long).map_err(|why| Trouble(format!("standard input: {why}")))?;
         return Ok(Named { name: "standard input".to_string(), bytes });
     }
     if name.is_empty() {
@@ -47,7 +47,12 @@ fn file_bytes(name: &OsStr) -> Result<Vec<u8>, String> {
     if about.len() > MOST_BYTES {
         return Err(format!("has {} bytes, and no file of more than {MOST_BYTES} is read", about.len()));
     }
-    all(opened, about.file_type().is_fifo())
+    let waits = match about.file_type() {
+        kind if kind.is_fifo() => Waits::ForWriter(Instant::now() + PATIENCE),
+        kind if kind.is_char_device() => Waits::Long,
+        _ => Waits::Not,
+    };
+    all(opened, waits)
 }
 
 /// Opens a file without waiting, as a pipe without a writer would have it.
@@ -57,10 +62,9 @@ fn open(name: &OsStr) -> std::io::Result<File> {
 }
 
 /// All of a source, which may be a pipe or endless, but no more than shows that it is too long.
-fn all(source: impl Read, is_pipe: bool) -> Result<Vec<u8>, String> {
+fn all(source: impl Read, waits: Waits) -> Result<Vec<u8>, String> {
     let mut bytes = vec![];
-    let source = Patient { source, waits_until: is_pipe.then(|| Instant::now() + PATIENCE) };
-    source.take(MOST_BYTES + 1).read_to_end(&mut bytes).map_err(|wrong| unread(&wrong))?;
+    Patient { source, waits }.take(MOST_BYTES + 1).read_to_end(&mut bytes).map_err(|wrong| unread(&wrong))?;
     if bytes.len() as u64 > MOST_BYTES {
         return Err(format!("longer than {MOST_BYTES} bytes, which are the most that is read"));
     }
@@ -78,27 +82,38 @@ fn unread(wrong: &std::io::Error) -> String {
 /// How long a pipe may be without a writer before its first byte.
 const PATIENCE: Duration = Duration::from_secs(1);
 
-/// A source that does not wait by itself. A pipe with a writer is waited for, one that nobody writes to is not for long.
+/// Whether a source that has nothing yet is waited for.
+#[derive(Clone, Copy)]
+enum Waits {
+    /// Not at all: a file has all its bytes.
+    Not,
+    /// As long as it takes: standard input, a terminal, a pipe that somebody writes to.
+    Long,
+    /// Until then: a pipe that nobody writes to yet.
+    ForWriter(Instant),
+}
+
+/// A source that does not wait by itself, waited for.
 struct Patient<R> {
     source: R,
-    /// For a pipe of which nothing is known yet.
-    waits_until: Option<Instant>,
+    waits: Waits,
 }
 
 impl<R: Read> Read for Patient<R> {
     fn read(&mut self, buffer: &mut [u8]) -> std::io::Result<usize> {
         loop {
             let read = self.source.read(buffer);
-            match (&read, self.waits_until) {
-                // nobody has it open for writing
-                (Ok(0), Some(end)) if Instant::now() < end => {}
-                (Ok(0), Some(_)) => return Err(std::io::Error::new(ErrorKind::Other, "a pipe that nobody writes to")),
-                // somebody has, and has written nothing yet
-                (Err(wrong), _) if wrong.kind() == ErrorKind::WouldBlock => self.waits_until = None,
-                _ => {
-                    self.waits_until = None;
-                    return read;
+            let is_early = matches!(&read, Err(wrong) if wrong.kind() == ErrorKind::WouldBlock);
+            match (&read, self.waits) {
+                (Ok(0), Waits::ForWriter(end)) if Instant::now() >= end => return Err(std::io::Error::new(ErrorKind::Other, "a pipe that nobody writes to")),
+                (Ok(0), Waits::ForWriter(_)) => {}
+                (_, Waits::Long | Waits::ForWriter(_)) => {
+                    self.waits = Waits::Long;
+                    if !is_early {
+                        return read;
+                    }
                 }
+                (_, Waits::Not) => return read,
             }
             std::thread::sleep(Duration::from_millis(2));
         }
@@ -216,8 +231,8 @@ mod tests {
 
     #[test]
     fn sources() {
-        assert_eq!(all(std::io::repeat(7).take(MOST_BYTES), false).unwrap().len() as u64, MOST_BYTES);
-        assert_eq!(all(std::io::repeat(7), false), Err("longer than 1048576 bytes, which are the most that is read".to_string()));
-        assert_eq!(all(std::io::empty(), true), Err("cannot be read: a pipe that nobody writes to".to_string()));
+        assert_eq!(all(std::io::repeat(7).take(MOST_BYTES), Waits::Not).unwrap().len() as u64, MOST_BYTES);
+        assert_eq!(all(std::io::repeat(7), Waits::Long), Err("longer than 1048576 bytes, which are the most that is read".to_string()));
+        assert_eq!(all(std::io::empty(), Waits::ForWriter(Instant::now())), Err("cannot be read: a pipe that nobody writes to".to_string()));
     }
 }

@@ -353,7 +353,7 @@ fn refusals_are_the_library_s() {
         ("unlist BAD", b"", 27),
         ("show BAD", b"", 1),
         ("show D BAD P --run 10", b"", 1),
-        ("show D P P --run BAD", b"\x30", 23),
+        ("show D P P --run BAD", b"\x80", 23),
     ] {
         with_bad(line, &room.file("bad", bytes)).is_refused(number);
     }

@@ -4,10 +4,9 @@ use super::{Command, COMMANDS};
 
 const COLUMNS: usize = 100;
 
-/// An example of each command, and what it prints where that is short.
-const EXAMPLES: [(&str, &str); 9] = [
+/// An example of each command whose help has none, and what it prints where that is short.
+const EXAMPLES: [(&str, &str); 8] = [
     ("check", "samples/device-g samples/program-a\n\naccepted: samples/program-a on samples/device-g for job 1\ncommands: 5"),
-    ("why", "samples/story-device samples/story-program"),
     ("route", "samples/device-g 0 2 --occupied 1\n\nroute: 0 3 4 5 2 (4 edges)\n.."),
     ("run", "samples/story-device samples/story-program none 10101010101011101010"),
     ("list", "samples/program-a\n\nprogram 1\nmain\n  init 0 0\n  init 1 2\n  merge 2 X 0 X 1\n  free 0\n  free 1"),

@@ -10,7 +10,11 @@ mod repository {
     pub mod reference;
 }
 
+#[path = "parts/read_json.rs"]
+mod read_json;
+
 use abwakiris::{Job, Records, Told};
+use abwakiris_desk::json::Json;
 use abwakiris_desk::layout::Layout;
 use abwakiris_desk::page::page;
 use abwakiris_desk::program::Program;
@@ -23,62 +27,48 @@ use std::collections::BTreeMap;
 use std::path::{Path, PathBuf};
 use std::process::Command;
 
-// A reader of JSON
-
-#[derive(Clone, Debug, PartialEq)]
-enum Json {
-    Null,
-    Bool(bool),
-    Number(usize),
-    Text(String),
-    List(Vec<Json>),
-    Object(BTreeMap<String, Json>),
-}
-
-struct Reader<'a> {
-    left: std::iter::Peekable<std::str::Chars<'a>>,
-}
-
-impl Json {
-    fn read(text: &str) -> Json {
-        let mut reader = Reader { left: text.chars().peekable() };
-        let value = reader.value();
-        assert_eq!(reader.left.next(), None);
-        value
-    }
-
+/// What the tests ask of a value.
+trait Value {
     /// A member; null where it is left out.
+    fn of(&self, name: &str) -> &Json;
+    fn has(&self, name: &str) -> bool;
+    /// The values of a list; none where it is left out.
+    fn list(&self) -> &[Json];
+    /// A number; none for null.
+    fn maybe(&self) -> Option<usize>;
+    fn number(&self) -> usize;
+    fn numbers(&self) -> Vec<usize>;
+    fn text(&self) -> &str;
+}
+
+impl Value for Json {
     fn of(&self, name: &str) -> &Json {
-        match self {
-            Json::Object(members) => members.get(name).unwrap_or(&Json::Null),
-            other => panic!("{name} of {other:?}"),
-        }
+        assert!(matches!(self, Json::Object(_)), "{name} of {self}");
+        read_json::member(self, name)
     }
 
     fn has(&self, name: &str) -> bool {
-        matches!(self, Json::Object(members) if members.contains_key(name))
+        matches!(self, Json::Object(members) if members.iter().any(|(own, _)| own == name))
     }
 
-    /// The values of a list; none where it is left out.
     fn list(&self) -> &[Json] {
         match self {
             Json::List(values) => values,
             Json::Null => &[],
-            other => panic!("no list: {other:?}"),
+            other => panic!("no list: {other}"),
+        }
+    }
+
+    fn maybe(&self) -> Option<usize> {
+        match self {
+            Json::Number(number) => Some(usize::try_from(*number).unwrap()),
+            Json::Null => None,
+            other => panic!("no number: {other}"),
         }
     }
 
     fn number(&self) -> usize {
-        self.maybe().unwrap_or_else(|| panic!("no number: {self:?}"))
-    }
-
-    fn maybe(&self) -> Option<usize> {
-        if let Json::Number(number) = self {
-            Some(*number)
-        } else {
-            assert_eq!(*self, Json::Null);
-            None
-        }
+        self.maybe().expect("a number")
     }
 
     fn numbers(&self) -> Vec<usize> {
@@ -86,76 +76,8 @@ impl Json {
     }
 
     fn text(&self) -> &str {
-        if let Json::Text(text) = self {
-            text
-        } else {
-            panic!("no text: {self:?}")
-        }
-    }
-}
-
-impl Reader<'_> {
-    fn value(&mut self) -> Json {
-        match self.left.peek().copied() {
-            Some('{') => {
-                let members = self.items('}', |reader| {
-                    let name = reader.string();
-                    assert_eq!(reader.left.next(), Some(':'));
-                    (name, reader.value())
-                });
-                Json::Object(members.into_iter().collect())
-            }
-            Some('[') => Json::List(self.items(']', Reader::value)),
-            Some('"') => Json::Text(self.string()),
-            Some(digit) if digit.is_ascii_digit() => Json::Number(self.word(|letter| letter.is_ascii_digit()).parse().unwrap()),
-            _ => match self.word(|letter| letter.is_ascii_lowercase()).as_str() {
-                "null" => Json::Null,
-                "true" => Json::Bool(true),
-                "false" => Json::Bool(false),
-                other => panic!("no value: {other}"),
-            },
-        }
-    }
-
-    fn items<T>(&mut self, end: char, item: impl Fn(&mut Self) -> T) -> Vec<T> {
-        let mut items = vec![];
-        self.left.next();
-        while self.left.peek() != Some(&end) {
-            items.push(item(self));
-            if self.left.peek() == Some(&',') {
-                self.left.next();
-            }
-        }
-        self.left.next();
-        items
-    }
-
-    fn word(&mut self, of: impl Fn(char) -> bool) -> String {
-        let mut word = String::new();
-        while let Some(letter) = self.left.peek().copied().filter(|letter| of(*letter)) {
-            word.push(letter);
-            self.left.next();
-        }
-        word
-    }
-
-    fn string(&mut self) -> String {
-        let mut text = String::new();
-        self.left.next();
-        loop {
-            match self.left.next().unwrap() {
-                '"' => return text,
-                '\\' => match self.left.next().unwrap() {
-                    'n' => text.push('\n'),
-                    'u' => {
-                        let code: String = (0..4).map(|_| self.left.next().unwrap()).collect();
-                        text.push(char::from_u32(u32::from_str_radix(&code, 16).unwrap()).unwrap());
-                    }
-                    other => text.push(other),
-                },
-                other => text.push(other),
-            }
-        }
+        assert!(matches!(self, Json::Text(_)), "no text: {self}");
+        read_json::text(self)
     }
 }
 
@@ -188,7 +110,7 @@ impl Run {
 fn data(page: &str) -> Json {
     let begins = "<script type=\"application/json\" id=\"run\">";
     let at = page.find(begins).unwrap() + begins.len();
-    Json::read(&page[at..at + page[at..].find("</script").unwrap()])
+    read_json::read(&page[at..at + page[at..].find("</script").unwrap()]).unwrap()
 }
 
 /// Three rows of five locations, the last column job 2's. Job 1 has a controlled X over the whole row; then, with outcome 1, it puts an ancilla down in the

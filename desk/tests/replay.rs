@@ -197,7 +197,7 @@ fn rows_of_one_run() {
         "13|1|-1|6|merge 3 X 0 X 1|stuck 21: no path",
     ];
     assert_eq!(text, expected);
-    let found = "line 6, merge 3 X 0 X 1: slot 0 is at location 0, slot 1 at location 2; no free location is next to 0";
+    let found = "line 6, merge 3 X 0 X 1: slot 0 is at location 0, slot 1 at location 2; no free location is reached from 0";
     assert_eq!(rows::became(programs[0], &run, Job::ONE), ["moved 3 steps, stuck 21 from step 7 on: no path", found]);
     assert_eq!(rows::became(programs[1], &run, Job::TWO), ["moved 5 steps, finished"]);
 }

@@ -1,5 +1,6 @@
 //! `abwakiris run`: a run of two jobs, step by step, and the map that it leaves.
 
+use super::common::{job_program, layout};
 use super::Command;
 use crate::args::{Asked, Takes};
 use crate::device::Device;
@@ -7,14 +8,13 @@ use crate::explain::{refused, Given};
 use crate::input::{self, Named};
 use crate::json::Json;
 use crate::layout::Layout;
-use crate::picture::{Mark, Picture};
+use crate::picture::Picture;
 use crate::program::Program;
 use crate::replay::rows::{at, became, counted, rows, Row};
 use crate::replay::{index, of_files, Item, Replay, Step};
 use crate::said::{Said, Trouble};
 use crate::terminal;
 use abwakiris::{Job, Told};
-use std::ffi::OsStr;
 
 pub const COMMAND: Command = Command {
     name: "run",
@@ -35,23 +35,15 @@ fn does(asked: &Asked) -> Result<Said, Trouble> {
     let device = input::file(&asked.words[0])?;
     let programs = [job_program(&asked.words[1])?, job_program(&asked.words[2])?];
     let schedule = input::schedule(&asked.words[3])?;
-    let width = asked.number(Takes::Width)?.map(|width| usize::try_from(width).unwrap_or(usize::MAX));
     let given = Given { device: Some(&device), programs: [Some(&programs[0]), Some(&programs[1])], schedule: Some(&schedule), ..Given::default() };
     match of_files(&device.bytes, [&programs[0].bytes, &programs[1].bytes], &schedule.bytes) {
         Err(refusal) => Ok(refused("run", asked.json, refusal, &given)),
         Ok((device, read, replay)) => {
+            let layout = layout(asked, &device)?;
             let run = Run { given: &given, device, programs: [&read[0], &read[1]], replay: &replay };
-            Ok(Said::of(true, asked.json, || run.text(width), || run.json()))
+            Ok(Said::of(true, asked.json, || run.text(&layout), || run.json()))
         }
     }
-}
-
-// as common::job_program
-fn job_program(word: &OsStr) -> Result<Named, Trouble> {
-    if word == "none" {
-        return Ok(Named { name: "none".to_string(), bytes: Program::empty().bytes });
-    }
-    input::file(word)
 }
 
 /// A run that the library accepted.
@@ -67,7 +59,7 @@ impl Run<'_> {
         file.map_or(String::new(), |named| named.name.clone())
     }
 
-    fn text(&self, width: Option<usize>) -> String {
+    fn text(&self, layout: &Layout) -> String {
         let steps = counted(self.replay.steps.len());
         let [first, second] = self.given.programs.map(|program| self.name(program));
         let mut text = format!("accepted: {first} as job 1 and {second} as job 2 on {}, {steps}\n\n", self.name(self.given.device));
@@ -81,21 +73,14 @@ impl Run<'_> {
             text.push_str(&format!("{job}: {lines}\n"));
         }
         text.push('\n');
-        text.push_str(&terminal::drawn(&self.device, &Layout::of(&self.device, width), &self.map(&steps)));
+        text.push_str(&terminal::drawn(&self.device, layout, &self.map(&steps)));
         text
     }
 
     /// The map that the library left, with the slots as they were followed.
     fn map(&self, steps: &str) -> Picture {
-        let mut picture = Picture::of_map(&self.device, &self.replay.map, format!("the map after {steps}"));
-        if let Some(last) = self.replay.steps.last() {
-            for (mark, slot) in picture.marks.iter_mut().zip(&last.slots) {
-                if let Mark::Held(_, held) = mark {
-                    *held = *slot;
-                }
-            }
-        }
-        picture
+        let slots = self.replay.steps.last().map_or(&[][..], |step| &step.slots);
+        Picture::of(&self.device, None, format!("the map after {steps}")).with_map(&self.replay.map, slots)
     }
 
     fn json(&self) -> Json {

@@ -116,7 +116,8 @@
   /** A step in words, as [class, text]. */
   function words() {
     if (!state.step) {
-      return { head: [['', 'The start']], more: [['', count ? `${plural(count, 'step')} to come. Nothing is on the device.` : 'This run has no steps. Nothing is on the device.']] };
+      const follow = count ? `${plural(count, 'step')} to come.` : 'This run has no steps.';
+      return { head: [['', 'The start']], more: [['', `${follow} Nothing is on the device.`]] };
     }
     const step = current();
     const head = [['', `Step ${state.step} of ${count}`], [`of${step.job}`, `${step.job === 1 ? '\u25cf' : '\u25c6'} job ${step.job}`]];

@@ -1,6 +1,7 @@
 //! Words for a job that got stuck: what its statement met. That it is stuck, and for which reason, is the library's record.
 
 use crate::device::Device;
+use crate::explain::path::{listed, reached};
 use crate::machine::{Frame, Machine, Slot};
 use crate::program::{Kind, Statement};
 use abwakiris::{Job, Number};
@@ -67,13 +68,10 @@ impl Stuck {
 
 /// What is reached from an end, in words.
 fn reach(from: usize, reached: &[usize]) -> String {
-    const MOST: usize = 12;
-    let list: Vec<String> = reached.iter().take(MOST).map(usize::to_string).collect();
-    match reached.len() {
-        0 => format!("no free location is next to {from}"),
-        1 => format!("of the free locations only {} is reached from {from}", list[0]),
-        n if n > MOST => format!("{n} free locations are reached from {from}, and none of them is next to the other end"),
-        _ => format!("of the free locations only {} are reached from {from}", list.join(", ")),
+    match reached {
+        [] => format!("no free location is reached from {from}"),
+        [one] => format!("of the free locations only {one} is reached from {from}"),
+        many => format!("of the free locations {} are reached from {from}", listed(many)),
     }
 }
 
@@ -153,19 +151,7 @@ impl<'a> Before<'a> {
 
     /// The free locations of the region that are reached from this one, rising.
     fn reached(&self, from: usize) -> Vec<usize> {
-        let mut seen = vec![from];
-        let mut next = 0;
-        while let Some(&at) = seen.get(next) {
-            next += 1;
-            for &near in self.device.near(at) {
-                if self.device.has(self.job, near) && self.map.get(near) == Some(&0) && !seen.contains(&near) {
-                    seen.push(near);
-                }
-            }
-        }
-        let mut reached = seen.split_off(1);
-        reached.sort_unstable();
-        reached
+        reached(self.device, self.job, |location| self.map.get(location) == Some(&0), from)
     }
 }
 

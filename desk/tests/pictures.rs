@@ -682,6 +682,7 @@ mod show {
         folder.write("bad", b"QLG\x00\x02........");
         assert!(folder.show(&["bad"]).1.starts_with("refused 3: "));
         assert!(folder.show(&["device", "--job", "3"]).1.starts_with("refused 25: "));
+        folder.refuses(&["bad", "--width", "0"], "--width takes a number from 1 on");
         let (status, out, error) = folder.show(&["bad", "-o", "x.svg"]);
         assert_eq!((status, error.as_str()), (Some(1), ""), "{out}");
         assert_eq!(folder.names(), ["bad", "device"]);
@@ -714,5 +715,6 @@ mod show {
     fn nothing_is_occupied_where_nothing_is_named() {
         let folder = Folder::new("none");
         assert_eq!(folder.show(&["device", "--occupied", ""]), folder.show(&["device"]));
+        assert_eq!(folder.show(&["device", "-o", "-"]), folder.show(&["device"]));
     }
 }

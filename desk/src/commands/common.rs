@@ -44,16 +44,25 @@ pub fn job_program(word: &OsStr) -> Result<Named, Trouble> {
     file(word)
 }
 
+/// The width that `--width` gives.
+///
+/// # Errors
+///
+/// Where it is no number, or 0.
+pub fn width(asked: &Asked) -> Result<Option<usize>, Trouble> {
+    match asked.number(Takes::Width)? {
+        Some(0) => trouble("--width takes a number from 1 on, not 0"),
+        width => Ok(width.map(|width| usize::try_from(width).unwrap_or(usize::MAX))),
+    }
+}
+
 /// The layout of a device, in rows of so many locations where `--width` is given.
 ///
 /// # Errors
 ///
 /// Where the width is no number, or 0.
 pub fn layout(asked: &Asked, device: &Device) -> Result<Layout, Trouble> {
-    match asked.number(Takes::Width)? {
-        Some(0) => trouble("--width takes a number from 1 on, not 0"),
-        width => Ok(Layout::of(device, width.map(|width| usize::try_from(width).unwrap_or(usize::MAX)))),
-    }
+    Ok(Layout::of(device, width(asked)?))
 }
 
 /// Writes a file whole: beside its place first, so that an error leaves what was there.

@@ -51,18 +51,25 @@ struct Files {
     schedule: Named,
 }
 
+/// What the library has taken.
+struct Scene {
+    device: Device,
+    about: Option<Job>,
+    run: Option<([Program; 2], Replay)>,
+}
+
 fn does(asked: &Asked) -> Result<Said, Trouble> {
-    let form = form(asked)?;
-    let named = input::file(&asked.words[0])?;
+    let (form, job_number) = (form(asked)?, asked.number(Takes::Job)?);
+    common::width(asked)?; // what is no number is told before any refusal
     let files = files(asked, form)?;
-    let job_number = asked.number(Takes::Job)?;
-    let mut given = Given { device: Some(&named), job_number, ..Given::default() };
+    let device = input::file(&asked.words[0])?;
+    let mut given = Given { device: Some(&device), job_number, ..Given::default() };
     if let Some(files) = &files {
         given.programs = [Some(&files.programs[0]), Some(&files.programs[1])];
         given.schedule = Some(&files.schedule);
     }
-    match shown(asked, form, &named, files.as_ref()) {
-        Ok(said) => said,
+    match Scene::read(job_number, &device, files.as_ref()) {
+        Ok(scene) => scene.drawn(asked, form, &given),
         Err(refusal) => Ok(refused(COMMAND.name, false, refusal, &given)),
     }
 }
@@ -70,8 +77,8 @@ fn does(asked: &Asked) -> Result<Said, Trouble> {
 /// The form that the name after `-o` asks for.
 fn form(asked: &Asked) -> Result<Form, Trouble> {
     let name = match asked.value(Takes::Output) {
-        Some(name) => name,
-        None => return Ok(Form::Terminal),
+        Some(name) if name != "-" => name,
+        _ => return Ok(Form::Terminal),
     };
     let ending = Path::new(name).extension().map(|ending| ending.to_string_lossy().to_lowercase());
     match ending.as_deref() {
@@ -97,21 +104,49 @@ fn files(asked: &Asked, form: Form) -> Result<Option<Files>, Trouble> {
     }
 }
 
-/// What is said where the library takes the files.
-fn shown(asked: &Asked, form: Form, named: &Named, files: Option<&Files>) -> Result<Result<Said, Trouble>, Refusal> {
-    let device = Device::read(&named.bytes)?;
-    let about = match asked.number(Takes::Job) {
-        Ok(number) => number.map(Job::try_from).transpose()?,
-        Err(trouble) => return Ok(Err(trouble)),
-    };
-    let run = files.map(|files| run(&device, files)).transpose()?;
-    Ok(drawn(asked, form, &named.name, &device, about, run.as_ref().zip(files)))
+impl Scene {
+    /// Asks the library whether it takes all of this.
+    fn read(job: Option<u64>, device: &Named, files: Option<&Files>) -> Result<Scene, Refusal> {
+        let about = job.map(Job::try_from).transpose()?;
+        let device = Device::read(&device.bytes)?;
+        let run = files.map(|files| run(&device, files)).transpose()?;
+        Ok(Scene { device, about, run })
+    }
+
+    /// Prints the picture, or writes it.
+    fn drawn(&self, asked: &Asked, form: Form, given: &Given) -> Result<Said, Trouble> {
+        let layout = common::layout(asked, &self.device)?;
+        let picture = self.picture(asked, name(given.device))?;
+        let text = match (form, &self.run) {
+            (Form::Terminal, _) => return Ok(Said::accepted(terminal::drawn(&self.device, &layout, &picture))),
+            (Form::Page, Some(([first, second], replay))) => {
+                page(&self.device, &layout, [(name(given.programs[0]), first), (name(given.programs[1]), second)], replay)
+            }
+            _ => svg::drawn(&self.device, &layout, &picture),
+        };
+        let file = asked.value(Takes::Output).unwrap_or_default();
+        common::write(file, text.as_bytes())?;
+        Ok(Said::accepted(format!("written: {}\n", file.to_string_lossy())))
+    }
+
+    /// The device as the run leaves it, or with what `--occupied` says.
+    fn picture(&self, asked: &Asked, name: &str) -> Result<Picture, Trouble> {
+        if let Some((_, replay)) = &self.run {
+            let slots = replay.steps.last().map_or(&[][..], |step| &step.slots);
+            return Ok(Picture::of(&self.device, self.about, after(name, replay)).with_map(&replay.map, slots));
+        }
+        let mut picture = Picture::of(&self.device, self.about, title(&self.device, self.about, name));
+        for (mark, byte) in picture.marks.iter_mut().zip(common::occupied(asked, &self.device)?) {
+            if byte != 0 {
+                *mark = Mark::Occupied;
+            }
+        }
+        Ok(picture)
+    }
 }
 
-/// A run, and the programs as they were read.
-type Run = ([Program; 2], Replay);
-
-fn run(device: &Device, files: &Files) -> Result<Run, Refusal> {
+/// The run of the files, and the programs as they were read.
+fn run(device: &Device, files: &Files) -> Result<([Program; 2], Replay), Refusal> {
     let read = |job: Job, named: &Named| Program::read(&named.bytes).map_err(|refusal| Refusal { file: File::Program(Some(job)), ..refusal });
     let [first, second] = &files.programs;
     let programs = [read(Job::ONE, first)?, read(Job::TWO, second)?];
@@ -119,55 +154,26 @@ fn run(device: &Device, files: &Files) -> Result<Run, Refusal> {
     Ok((programs, replay))
 }
 
-fn drawn(asked: &Asked, form: Form, name: &str, device: &Device, about: Option<Job>, run: Option<(&Run, &Files)>) -> Result<Said, Trouble> {
-    let layout = common::layout(asked, device)?;
-    let picture = match run {
-        Some(((_, replay), _)) => after(device, about, name, replay),
-        None => with_occupied(asked, device, about, name)?,
-    };
-    let bytes = match (form, run) {
-        (Form::Terminal, _) => return Ok(Said::accepted(terminal::drawn(device, &layout, &picture))),
-        (Form::Page, Some(((programs, replay), files))) => {
-            let named = [(files.programs[0].name.as_str(), &programs[0]), (files.programs[1].name.as_str(), &programs[1])];
-            page(device, &layout, named, replay)
-        }
-        _ => svg::drawn(device, &layout, &picture),
-    };
-    let file = asked.value(Takes::Output).unwrap_or_default();
-    common::write(file, bytes.as_bytes())?;
-    Ok(Said::accepted(format!("written: {}\n", file.to_string_lossy())))
+fn name(file: Option<&Named>) -> &str {
+    file.map_or("", |named| &named.name)
 }
 
-/// The device with what `--occupied` says.
-fn with_occupied(asked: &Asked, device: &Device, about: Option<Job>, name: &str) -> Result<Picture, Trouble> {
-    let mut picture = Picture::of(device, about, title(device, about, name));
-    for (mark, byte) in picture.marks.iter_mut().zip(common::occupied(asked, device)?) {
-        if byte != 0 {
-            *mark = Mark::Occupied;
-        }
-    }
-    Ok(picture)
-}
-
-/// What the picture is of.
+/// What a picture of a device is of.
 fn title(device: &Device, about: Option<Job>, name: &str) -> String {
-    let (n, edges) = (device.locations(), device.edges.len());
     let of = |owner: u8| device.owners.iter().filter(|&&byte| byte == owner).count();
-    let many = |count: usize, what: &str| format!("{count} {what}{}", if count == 1 { "" } else { "s" });
-    let all = format!("{name}: {} and {}", many(n, "location"), many(edges, "edge"));
+    let all = format!("{name}: {} and {}", many(device.locations(), "location"), many(device.edges.len(), "edge"));
     match about {
         Some(job) => format!("{all}; {} in the region of {job}", of(job.number())),
         None => format!("{all}; job 1 has {}, job 2 has {}, nobody {}", of(1), of(2), of(0)),
     }
 }
 
-/// The device as a run leaves it.
-fn after(device: &Device, about: Option<Job>, name: &str, replay: &Replay) -> Picture {
-    let steps = match replay.steps.len() {
-        1 => "1 step".to_string(),
-        steps => format!("{steps} steps"),
-    };
-    let title = format!("{name} after {steps}; job 1 moved {} times, job 2 {}", replay.moved.first, replay.moved.second);
-    let slots = replay.steps.last().map_or(&[][..], |step| &step.slots);
-    Picture::of(device, about, title).with_map(&replay.map, slots)
+/// What a picture after a run is of.
+fn after(name: &str, replay: &Replay) -> String {
+    let steps = many(replay.steps.len(), "step");
+    format!("{name} after {steps}: job 1 moved {}, job 2 moved {}", replay.moved.first, replay.moved.second)
+}
+
+fn many(count: usize, what: &str) -> String {
+    format!("{count} {what}{}", if count == 1 { "" } else { "s" })
 }

@@ -74,9 +74,9 @@ pub fn mark((x, y): Point, look: Look, sign: &str) -> String {
         Look::Reached => disc(middle, 7, "#ffffff", REACHED_INK, 3),
         Look::Route => String::new(),
         Look::Free => disc(middle, 3, GREY, "none", 0),
-        Look::Of(0) => letters(middle, sign, 20, GREY),
-        Look::Of(1) => letters(middle, sign, 20, "#00588c"),
-        Look::Of(_) => letters(middle, sign, 20, "#9c4000"),
+        Look::Of(0) => letters(middle, sign, 16, GREY),
+        Look::Of(1) => letters(middle, sign, 16, "#4d8fbd"),
+        Look::Of(_) => letters(middle, sign, 16, "#b5773f"),
         Look::Outside => letters(middle, sign, 18, "#5a5a5a"),
     }
 }

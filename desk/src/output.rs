@@ -4,6 +4,7 @@ use crate::said::{reason, shown, trouble, Said, Trouble};
 use std::ffi::OsStr;
 use std::io::ErrorKind;
 use std::os::unix::fs::{FileTypeExt, MetadataExt};
+use std::path::{Path, PathBuf};
 
 /// What was said, its output in this file where one is named. A file that is there already is written anew.
 ///
@@ -30,7 +31,7 @@ pub fn bytes_into(file: Option<&OsStr>, what: &str, bytes: Vec<u8>) -> Result<Sa
     into(file, Said::accepted(bytes))
 }
 
-/// Writes a file.
+/// Writes a file whole: beside its place first, so that an error leaves what was there.
 ///
 /// # Errors
 ///
@@ -39,14 +40,31 @@ pub fn write(name: &OsStr, bytes: &[u8]) -> Result<(), Trouble> {
     if name.is_empty() {
         return trouble("-o takes the name of a file, and the one given is empty");
     }
-    std::fs::write(name, bytes).map_err(|wrong| {
-        let why = match wrong.kind() {
-            ErrorKind::NotFound => "there is no such folder".to_string(),
-            ErrorKind::PermissionDenied => "may not be written".to_string(),
-            _ => format!("cannot be written: {}", reason(&wrong)),
-        };
-        Trouble(format!("{}: {why}", shown(name)))
+    let refused = |why: &str| trouble(format!("{}: {why}", shown(name)));
+    let place = std::fs::canonicalize(name).unwrap_or_else(|_| PathBuf::from(name)); // a link stays a link
+    let there = std::fs::metadata(&place);
+    let written = match &there {
+        Ok(about) if about.is_dir() => return refused("is a directory"),
+        Ok(about) if about.permissions().readonly() => return refused("may not be written"),
+        Ok(about) if !about.is_file() => std::fs::write(&place, bytes), // a pipe or a device
+        _ => beside(&place, bytes),
+    };
+    written.or_else(|wrong| match wrong.kind() {
+        ErrorKind::NotFound => refused("there is no such folder"),
+        ErrorKind::PermissionDenied => refused("may not be written"),
+        _ => refused(&format!("cannot be written: {}", reason(&wrong))),
     })
+}
+
+/// Writes a file under a name that no other process takes, and gives it its own name where all is written.
+fn beside(place: &Path, bytes: &[u8]) -> std::io::Result<()> {
+    let mut name = place.as_os_str().to_os_string();
+    name.push(format!(".{}.part", std::process::id()));
+    let written = std::fs::write(&name, bytes).and_then(|()| std::fs::rename(&name, place));
+    if written.is_err() {
+        let _ = std::fs::remove_file(&name); // it may not even be there
+    }
+    written
 }
 
 /// Whether standard output is a terminal: a character device with the major number of one, as Linux numbers them.

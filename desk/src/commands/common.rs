@@ -1,4 +1,4 @@
-//! What several commands take or do alike: occupied locations, a job's program, the width of a picture, a file that is written.
+//! What several commands take alike: occupied locations, a job's program, the width of a picture.
 
 use crate::args::{number, Asked, Takes};
 use crate::device::Device;
@@ -7,8 +7,6 @@ use crate::layout::Layout;
 use crate::program::Program;
 use crate::said::{trouble, Trouble};
 use std::ffi::OsStr;
-use std::io::Error;
-use std::path::{Path, PathBuf};
 
 /// The occupancy that `--occupied` gives: a byte for each location, 1 where it is occupied.
 ///
@@ -63,33 +61,4 @@ pub fn width(asked: &Asked) -> Result<Option<usize>, Trouble> {
 /// Where the width is no number, or 0.
 pub fn layout(asked: &Asked, device: &Device) -> Result<Layout, Trouble> {
     Ok(Layout::of(device, width(asked)?))
-}
-
-/// Writes a file whole: beside its place first, so that an error leaves what was there.
-///
-/// # Errors
-///
-/// Where it cannot be written.
-pub fn write(name: &OsStr, bytes: &[u8]) -> Result<(), Trouble> {
-    let refused = |wrong: Error| Trouble(format!("{}: cannot be written: {wrong}", name.to_string_lossy()));
-    let place = std::fs::canonicalize(name).unwrap_or_else(|_| PathBuf::from(name)); // a link stays a link
-    match std::fs::metadata(&place) {
-        Ok(about) if about.is_dir() => return trouble(format!("{}: is a directory", name.to_string_lossy())),
-        Ok(about) if about.permissions().readonly() => return trouble(format!("{}: may not be written", name.to_string_lossy())),
-        Ok(about) if !about.is_file() => return std::fs::write(&place, bytes).map_err(refused),
-        _ => {}
-    }
-    let beside = beside(&place);
-    let written = std::fs::write(&beside, bytes).and_then(|()| std::fs::rename(&beside, &place));
-    written.map_err(|wrong| {
-        let _ = std::fs::remove_file(&beside); // it may not even be there
-        refused(wrong)
-    })
-}
-
-/// A name beside a place, which no other process takes.
-fn beside(place: &Path) -> PathBuf {
-    let mut name = place.as_os_str().to_os_string();
-    name.push(format!(".{}.part", std::process::id()));
-    PathBuf::from(name)
 }

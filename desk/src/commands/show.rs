@@ -10,7 +10,7 @@ use crate::picture::{Mark, Picture};
 use crate::program::Program;
 use crate::replay::{replay, Replay};
 use crate::said::{trouble, Said, Trouble};
-use crate::{svg, terminal};
+use crate::{output, svg, terminal};
 use abwakiris::{File, Job, Refusal};
 use std::ffi::OsStr;
 use std::path::Path;
@@ -125,7 +125,7 @@ impl Scene {
             _ => svg::drawn(&self.device, &layout, &picture),
         };
         let file = asked.value(Takes::Output).unwrap_or_default();
-        common::write(file, text.as_bytes())?;
+        output::write(file, text.as_bytes())?;
         Ok(Said::accepted(format!("written: {}\n", file.to_string_lossy())))
     }
 

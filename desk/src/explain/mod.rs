@@ -16,8 +16,9 @@ pub mod words;
 
 use crate::input::Named;
 use crate::json::Json;
-use crate::said::Said;
+use crate::said::{shown, Said};
 use abwakiris::{File, Job, Refusal};
+use std::ffi::OsStr;
 use excerpt::Excerpt;
 use part::Part;
 use words::filled;
@@ -146,7 +147,7 @@ impl Explained {
         }
         let name = self.name.clone().unwrap_or_else(|| self.refusal.file.to_string());
         let at = self.at.as_ref().map_or(String::new(), |at| format!(", {at}"));
-        Some(format!("{}:{}{at}", shown(&name), self.refusal.place))
+        Some(format!("{}:{}{at}", shown(OsStr::new(&name)), self.refusal.place))
     }
 
     /// The lines below the excerpt.
@@ -186,11 +187,6 @@ fn kind(file: File) -> &'static str {
         File::Program(_) => "program",
         _ => "unknown",
     }
-}
-
-/// A name on one line.
-fn shown(name: &str) -> String {
-    name.chars().map(|letter| if letter.is_control() { '?' } else { letter }).collect()
 }
 
 /// What a command says where the library refused.

@@ -697,7 +697,7 @@ mod show {
         folder.refuses(&["device", "none"], "--run SCHEDULE");
         folder.refuses(&["device", "--run", "10"], "--run needs the program of job 1");
         folder.refuses(&["device", "none", "--run", "10", "--occupied", "1"], "--occupied is for a device without a run");
-        folder.refuses(&["device", "none", "--run", "1"], "an odd number of hex digits");
+        folder.refuses(&["device", "none", "--run", "1"], "a step has two");
         folder.refuses(&["device", "--occupied", "3,21"], "the device has no location 21; its locations are 0 to 20");
         folder.refuses(&["device", "--occupied", "3,,4"], "each location of --occupied takes a number, not ``");
         folder.refuses(&["device", "--occupied", "99999999999999999999"], "a number");

@@ -156,7 +156,7 @@ impl Picture {
     /// The looks that occur, each with its sign and what it means.
     pub fn legend(&self, device: &Device) -> Vec<(Look, String, String)> {
         let mut looks: Vec<Look> = (0..device.locations()).map(|location| self.look(device, location)).collect();
-        looks.sort_unstable();
+        looks.sort_unstable_by_key(|&look| (look == Look::Of(0), look)); // nobody's last
         looks.dedup();
         looks.iter().map(|&look| (look, self.sign_of(look), self.means(look, &looks))).collect()
     }

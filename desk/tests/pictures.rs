@@ -433,8 +433,8 @@ fn a_map_as_it_is_printed() {
   [1]     a qubit of job 1
   [2:sN]  a qubit of job 2, in slot N
    *      free, and on the route
-   -      a location of nobody
    2      free, in the region of job 2
+   -      a location of nobody
   === ||  the route
   :: :    an edge in no region
 ";

@@ -143,34 +143,59 @@
   const DOWN = isGrid ? 10 : 8;
   const RADIUS = isGrid ? 26 : 21;
   const picture = byId('device');
-  const taken = new Set(cells.map(String));
+  const byCell = new Map(cells.map((cell, location) => [String(cell), location]));
   const x = (location) => cells[location][1] * PITCH;
   const y = (location) => cells[location][0] * PITCH + DOWN;
   const layers = {};
   let qubits = [];
 
-  function gcd(a, b) {
-    return b ? gcd(b, a % b) : a;
+  /** The location whose square a point is in; none for the space between. */
+  function squareAt([right, down]) {
+    const [row, column] = [Math.round((down - DOWN) / PITCH), Math.round(right / PITCH)];
+    const inside = Math.max(Math.abs(down - DOWN - row * PITCH), Math.abs(right - column * PITCH)) < HALF + 3;
+    return inside ? byCell.get(`${row},${column}`) : undefined;
   }
 
-  /** Whether the straight line between two locations runs over another one. */
-  function hidden(a, b) {
-    const [down, right] = [cells[b][0] - cells[a][0], cells[b][1] - cells[a][1]];
-    const parts = gcd(Math.abs(down), Math.abs(right));
-    for (let i = 1; i < parts; i += 1) {
-      if (taken.has(String([cells[a][0] + (down / parts) * i, cells[a][1] + (right / parts) * i]))) return true;
-    }
-    return false;
+  /** A point of the curve from one location over the tip of a bow to another. */
+  function pointOn(a, b, tip, t) {
+    return [x, y].map((of, i) => (1 - t) * (1 - t) * of(a) + 2 * t * (1 - t) * tip[i] + t * t * of(b));
   }
 
-  /** The line from one location to the next, straight or bowed round what is between. */
-  function lineTo(from, to) {
-    const [a, b] = [Math.min(from, to), Math.max(from, to)];
-    if (!hidden(a, b)) return `L${x(to)} ${y(to)}`;
+  function tipOf(a, b, bow) {
     const [dx, dy] = [x(b) - x(a), y(b) - y(a)];
     const length = Math.hypot(dx, dy);
-    const bow = (PITCH * (0.9 + length / PITCH / 8)) * ((a + b) % 2 ? 1 : -1);
-    return `Q${(x(a) + x(b)) / 2 - (dy / length) * bow} ${(y(a) + y(b)) / 2 + (dx / length) * bow} ${x(to)} ${y(to)}`;
+    return [(x(a) + x(b)) / 2 - (dy / length) * bow, (y(a) + y(b)) / 2 + (dx / length) * bow];
+  }
+
+  /** How many points of a curve are in squares of other locations. */
+  function hits(a, b, tip) {
+    let found = 0;
+    for (let t = 0.04; t < 1; t += 0.04) {
+      const at = squareAt(pointOn(a, b, tip, t));
+      if (at !== undefined && at !== a && at !== b) found += 1;
+    }
+    return found;
+  }
+
+  /** The tip of the flattest bow that runs over the fewest other locations; none for a straight line. */
+  function bowed(a, b) {
+    if (near([a, b])) return null;
+    let best = null;
+    for (const bow of [0, 0.5, -0.5, 0.9, -0.9, 1.3, -1.3, 1.8, -1.8, 2.4, -2.4]) {
+      const tip = tipOf(a, b, bow * PITCH);
+      const found = hits(a, b, tip);
+      if (!best || found < best.found) best = { bow, tip, found };
+      if (!found) break;
+    }
+    return best.bow ? best.tip : null;
+  }
+
+  const bows = new Map(edges.map(([a, b]) => [`${a},${b}`, bowed(a, b)]));
+
+  /** The line from one location to the next. */
+  function lineTo(from, to) {
+    const tip = bows.get(`${Math.min(from, to)},${Math.max(from, to)}`);
+    return tip ? `Q${tip[0].toFixed(1)} ${tip[1].toFixed(1)} ${x(to)} ${y(to)}` : `L${x(to)} ${y(to)}`;
   }
 
   function along(route) {
@@ -190,10 +215,23 @@
     return `M${-radius} 0a${radius} ${radius} 0 1 0 ${2 * radius} 0a${radius} ${radius} 0 1 0 ${-2 * radius} 0Z`;
   }
 
+  /** The sides of the picture: the cells, and what is bowed round them. */
+  function extent(rows, columns) {
+    const sides = [-56, -56, (columns - 1) * PITCH + 56, (rows - 1) * PITCH + 56];
+    for (const [a, b] of edges) {
+      const tip = bows.get(`${a},${b}`);
+      const [right, down] = tip ? pointOn(a, b, tip, 0.5) : [0, 0];
+      [sides[0], sides[1]] = [Math.min(sides[0], right - 20), Math.min(sides[1], down - 20)];
+      [sides[2], sides[3]] = [Math.max(sides[2], right + 20), Math.max(sides[3], down + 20)];
+    }
+    return sides;
+  }
+
   function drawDevice() {
     const rows = Math.max(...cells.map((cell) => cell[0])) + 1;
     const columns = Math.max(...cells.map((cell) => cell[1])) + 1;
-    picture.setAttribute('viewBox', `-56 -56 ${(columns - 1) * PITCH + 112} ${(rows - 1) * PITCH + 112}`);
+    const [left, top, right, bottom] = extent(rows, columns);
+    picture.setAttribute('viewBox', `${left} ${top} ${right - left} ${bottom - top}`);
     picture.style.maxWidth = `${columns * 140}px`;
     const play = byId('play');
     play.style.setProperty('--wide', `${columns * 140 + 40}px`);
@@ -242,6 +280,8 @@
     if (route.length) {
       shape(layers.under, 'path', { class: 'casing', d: along(route) });
       shape(layers.under, 'path', { class: 'route', d: along(route) });
+      // a line may run over other locations where the edges are no grid's
+      if (!isGrid) for (const location of route) shape(layers.under, 'circle', { class: 'stop', cx: x(location), cy: y(location), r: 6 });
       ring('end', route[0]);
       ring('end', route[route.length - 1]);
     }
@@ -256,22 +296,22 @@
     about.forEach((location) => ring('stuck', location));
     if (number !== 21 || about.length !== 2) return;
     const [a, b] = about;
-    const [dx, dy] = [x(b) - x(a), y(b) - y(a)];
-    const length = Math.hypot(dx, dy);
-    const bow = Math.min(120, length / 3);
-    const top = [(x(a) + x(b)) / 2 + (dy / length) * bow, (y(a) + y(b)) / 2 - (dx / length) * bow];
-    const on = (t) => [x, y].map((of, i) => (1 - t) * (1 - t) * of(a) + 2 * t * (1 - t) * top[i] + t * t * of(b));
-    shape(layers.under, 'path', { class: 'torn', d: `M${x(a)} ${y(a)}Q${top[0]} ${top[1]} ${x(b)} ${y(b)}` });
-    const [right, down] = roomiest([0.5, 0.45, 0.55, 0.4, 0.6, 0.35, 0.65, 0.3, 0.7].map(on));
+    const tip = tipOf(a, b, -Math.min(120, Math.hypot(x(b) - x(a), y(b) - y(a)) / 3));
+    shape(layers.under, 'path', { class: 'torn', d: `M${x(a)} ${y(a)}Q${tip[0]} ${tip[1]} ${x(b)} ${y(b)}` });
+    const middle = [0, 1, -1, 2, -2, 3, -3, 4, -4, 5, -5, 6, -6, 7, -7, 8, -8].map((i) => pointOn(a, b, tip, 0.5 + i / 40));
+    const [right, down] = roomiest(middle);
     const group = shape(layers.top, 'g', { transform: `translate(${right} ${down})` });
     shape(group, 'circle', { class: 'cross-back', r: 21 });
     shape(group, 'path', { class: 'cross', d: 'M-9 -9L9 9M-9 9L9 -9' });
   }
 
-  /** The point that is farthest from every qubit; the first of those that are far enough. */
+  /** The point that hides least: far from every qubit and from every number; the first of those that are far enough. */
   function roomiest(points) {
-    const held = state.held.map(({ job }, location) => (job ? location : -1)).filter((location) => location >= 0);
-    const away = ([right, down]) => Math.min(70, ...held.map((location) => Math.hypot(x(location) - right, y(location) - down)));
+    const away = ([right, down]) => owners.reduce((least, _, location) => {
+      const number = Math.hypot(x(location) - HALF + 20 - right, y(location) - DOWN - HALF + 15 - down) / 40;
+      const qubit = state.held[location].job ? Math.hypot(x(location) - right, y(location) - down) / (RADIUS + 24) : 1;
+      return Math.min(least, number, qubit);
+    }, 1);
     return points.reduce((best, point) => (away(point) > away(best) ? point : best));
   }
 

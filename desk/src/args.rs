@@ -109,7 +109,7 @@ impl Asked {
     /// Takes an option, whose value may be the next word.
     fn take(&mut self, word: &OsStr, rest: &mut impl Iterator<Item = OsString>) -> Result<(), Trouble> {
         let (name, given) = parts(word);
-        if name == "--help" || name == "--json" && self.command.json {
+        if name == "--help" || name == "--json" {
             self.json = true; // a help without a value was answered before
             return given.map_or(Ok(()), |_| trouble(format!("{} takes no value", shown(name))));
         }
@@ -256,7 +256,7 @@ fn unknown_option(command: &Command, name: &OsStr) -> Trouble {
         return Trouble(format!("{} takes no {}", command.name, shown(name)));
     }
     let options = command.options.iter().map(|option| option.written().0);
-    let known = options.chain(command.json.then_some("--json")).chain(["--help"]);
+    let known = options.chain(["--json", "--help"]);
     Trouble(format!("unknown option {}{}", quoted(name), did_you_mean(nearest(&name.to_string_lossy(), known))))
 }
 

@@ -1,22 +1,28 @@
 //! The file that `-o` names. Without one, and for `-`, what a command makes goes to standard output.
 
+use crate::args::{Asked, Takes};
+use crate::json::Json;
 use crate::said::{reason, shown, trouble, Said, Trouble};
 use std::ffi::OsStr;
 use std::io::ErrorKind;
 use std::os::unix::fs::{FileTypeExt, MetadataExt};
 use std::path::{Path, PathBuf};
 
-/// What was said, its output in this file where one is named. A file that is there already is written anew.
+/// What a command made, for the file that `-o` names, else for standard output; with `--json` a line of it for machines is said beside.
 ///
 /// # Errors
 ///
 /// Where the file cannot be written.
-pub fn into(file: Option<&OsStr>, mut said: Said) -> Result<Said, Trouble> {
-    if let Some(name) = file.filter(|name| *name != "-") {
-        write(name, &said.out)?;
-        said.out.clear();
+pub fn text(asked: &Asked, made: &[u8], machine: impl FnOnce() -> Json) -> Result<Said, Trouble> {
+    let file = asked.value(Takes::Output).filter(|name| *name != "-");
+    if let Some(name) = file {
+        write(name, made)?;
     }
-    Ok(said)
+    Ok(match (asked.json, file.map(shown)) {
+        (true, name) => Said::accepted(format!("{}\n", machine().with("written", name))),
+        (false, Some(name)) => Said::accepted(format!("written: {name}\n")),
+        (false, None) => Said::accepted(made),
+    })
 }
 
 /// The same for bytes that are no text, which are not written on a terminal unless `-o -` asks for it.
@@ -24,11 +30,13 @@ pub fn into(file: Option<&OsStr>, mut said: Said) -> Result<Said, Trouble> {
 /// # Errors
 ///
 /// Where standard output is a terminal, or the file cannot be written.
-pub fn bytes_into(file: Option<&OsStr>, what: &str, bytes: Vec<u8>) -> Result<Said, Trouble> {
-    if file.is_none() && is_terminal() {
+pub fn bytes(asked: &Asked, what: &str, made: &[u8]) -> Result<Said, Trouble> {
+    if asked.value(Takes::Output).is_none() && !asked.json && is_terminal() {
         return trouble(format!("{what} is bytes, not text: name a file with -o FILE, or send standard output to a file or a pipe"));
     }
-    into(file, Said::accepted(bytes))
+    let hex = || made.iter().map(|byte| format!("{byte:02x}")).collect::<String>();
+    let head = || Json::object([("command", asked.command.name.into()), ("verdict", "accepted".into())]);
+    text(asked, made, || head().with("bytes", made.len()).with("hex", hex()))
 }
 
 /// Writes a file whole: beside its place first, so that an error leaves what was there.

@@ -9,6 +9,7 @@ use crate::layout::Layout;
 use crate::program::Program;
 use crate::replay::rows::{became, rows, Row};
 use crate::replay::Replay;
+use crate::svg::escaped;
 use abwakiris::Job;
 
 const TEMPLATE: &str = include_str!("page/page.html");
@@ -35,22 +36,6 @@ fn filled(template: &str, piece: impl Fn(&str) -> String) -> String {
         let (name, rest) = part.split_once("}}").unwrap_or(("", part));
         page.push_str(&piece(name));
         page.push_str(rest);
-    }
-    page
-}
-
-/// A text as it stands in a page.
-fn escaped(text: &str) -> String {
-    let mut page = String::with_capacity(text.len());
-    for letter in text.chars() {
-        match letter {
-            '&' => page.push_str("&amp;"),
-            '<' => page.push_str("&lt;"),
-            '>' => page.push_str("&gt;"),
-            '"' => page.push_str("&quot;"),
-            '\'' => page.push_str("&#39;"),
-            other => page.push(other),
-        }
     }
     page
 }

@@ -13,9 +13,9 @@ pub const COMMAND: Command = Command {
     help: "Writes a bundle: u16 length and device file, u16 length and program file, nothing more. What is in the files does not matter: the printing \
            program, as samples/verdict runs it, judges the bundle. A bundle is not for a terminal: name a file, or send it on; -o - writes it there all the \
            same.",
+    example: "samples/device-g samples/program-a | samples/verdict -\n\nOK 5",
     takes: (2, 2),
     options: &[Takes::Output],
-    json: false,
     does,
 };
 
@@ -27,10 +27,9 @@ fn does(asked: &Asked) -> Result<Said, Trouble> {
     for word in &asked.words {
         put(&mut bundle, &input::file(word)?)?;
     }
-    let length = bundle.len();
-    let said = output::bytes_into(asked.value(Takes::Output), "a bundle", bundle)?;
-    Ok(if length > MOST_BUNDLE_BYTES {
-        said.with_note(format!("the bundle has {length} bytes; the printing program says BAD to more than {MOST_BUNDLE_BYTES}"))
+    let said = output::bytes(asked, "a bundle", &bundle)?;
+    Ok(if bundle.len() > MOST_BUNDLE_BYTES {
+        said.with_note(format!("the bundle has {} bytes; the printing program says BAD to more than {MOST_BUNDLE_BYTES}", bundle.len()))
     } else {
         said
     })

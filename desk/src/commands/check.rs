@@ -13,9 +13,9 @@ pub const COMMAND: Command = Command {
     about: "accepted with its numbers, or the refusal in words",
     help: "Asks the library whether PROGRAM can be loaded for the job on DEVICE and never halts the machine. Accepted: the number of its commands. \
            Refused: the place, what the rule asks, what was found there and what usually mends it. abwakiris why says more of a merge without a path.",
+    example: "samples/device-g samples/program-a\n\naccepted: samples/program-a on samples/device-g for job 1\ncommands: 5",
     takes: (2, 2),
     options: &[Takes::Job],
-    json: true,
     does,
 };
 

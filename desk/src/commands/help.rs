@@ -4,18 +4,6 @@ use super::{Command, COMMANDS};
 
 const COLUMNS: usize = 100;
 
-/// An example of each command whose help has none, and what it prints where that is short.
-const EXAMPLES: [(&str, &str); 8] = [
-    ("check", "samples/device-g samples/program-a\n\naccepted: samples/program-a on samples/device-g for job 1\ncommands: 5"),
-    ("route", "samples/device-g 0 2 --occupied 1\n\nroute: 0 3 4 5 2 (4 edges)\n.."),
-    ("run", "samples/story-device samples/story-program none 10101010101011101010"),
-    ("list", "samples/program-a\n\nprogram 1\nmain\n  init 0 0\n  init 1 2\n  merge 2 X 0 X 1\n  free 0\n  free 1"),
-    ("unlist", "samples/listing-a -o program-a"),
-    ("show", "samples/story-device -o story.svg"),
-    ("bundle", "samples/device-g samples/program-a | samples/verdict -\n\nOK 5"),
-    ("refusal", "21"),
-];
-
 /// The page of the whole tool.
 pub fn overview() -> String {
     let mut page = String::from("abwakiris: what the proved library says of devices and programs, in words and pictures\n\n");
@@ -40,9 +28,8 @@ impl Command {
             page.push('\n');
             page.push_str(&wrapped(self.help.trim_end()));
         }
-        if let Some((name, example)) = EXAMPLES.iter().find(|(name, _)| *name == self.name) {
-            page.push_str(&format!("\nexample:\n\n    abwakiris {name} {}\n", example.replace('\n', "\n    ").replace("    \n", "\n")));
-        }
+        let example = self.example.replace('\n', "\n    ").replace("    \n", "\n");
+        page.push_str(&format!("\nexample:\n\n    abwakiris {} {example}\n", self.name));
         page.push_str("\noptions:\n\n");
         page.push_str(&table(&self.option_lines()));
         page
@@ -52,7 +39,7 @@ impl Command {
         let begin = format!("usage: abwakiris {}", self.name);
         let words = self.usage.split_whitespace().map(str::to_string);
         let options = self.options.iter().map(|option| format!("[{} {}]", option.written().0, option.written().1));
-        fill(&begin, begin.len(), words.chain(options).chain(self.json.then(|| "[--json]".to_string())))
+        fill(&begin, begin.len(), words.chain(options).chain(["[--json]".to_string()]))
     }
 
     fn option_lines(&self) -> Vec<(String, &str)> {
@@ -61,9 +48,7 @@ impl Command {
             let (name, value) = option.written();
             lines.push((format!("{name} {value}"), option.about()));
         }
-        if self.json {
-            lines.push(("--json".to_string(), "one line of JSON, for machines"));
-        }
+        lines.push(("--json".to_string(), "one line of JSON, for machines"));
         lines.push(("--help".to_string(), "this page"));
         lines
     }

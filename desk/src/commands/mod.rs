@@ -26,11 +26,11 @@ pub struct Command {
     pub about: &'static str,
     /// The rest of its help page: paragraphs, which are wrapped, and lines that begin with a space, which are not.
     pub help: &'static str,
+    /// The words of an example, and what it prints where that is short.
+    pub example: &'static str,
     /// The least and the most words that are no options.
     pub takes: (usize, usize),
     pub options: &'static [Takes],
-    /// Whether it takes `--json`.
-    pub json: bool,
     pub does: fn(&Asked) -> Result<Said, Trouble>,
 }
 

@@ -13,9 +13,9 @@ pub const COMMAND: Command = Command {
     about: "what a refusal's number means, and what usually mends it",
     help: "N is the number of a refusal, as 21. Without it the command lists all numbers, each with its line of words.\n\
            The page docs/refusals.md has the same, with an example for each number.",
+    example: "21",
     takes: (0, 1),
     options: &[],
-    json: true,
     does,
 };
 

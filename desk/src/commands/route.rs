@@ -20,9 +20,9 @@ pub const COMMAND: Command = Command {
     help: "Asks the library for the route of a merge between the locations FROM and TO: the shortest path over free locations of the job's region, and \
            among those the smallest from FROM on. The two ends may be occupied. The device is drawn with the route or, where there is no path, with what is \
            reached from FROM.",
+    example: "samples/device-g 0 2 --occupied 1\n\nroute: 0 3 4 5 2 (4 edges)\n..",
     takes: (3, 3),
     options: &[Takes::Job, Takes::Occupied, Takes::Width],
-    json: true,
     does,
 };
 

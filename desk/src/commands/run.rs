@@ -25,9 +25,9 @@ pub const COMMAND: Command = Command {
            outcome 0 and 1, 20 and 21 those of job 2. Steps are counted from 1; like steps of a job that is stuck or\n\
            finished share a row. Locations of a route stand in its order. A run with a stuck job has status 0 too:\n\
            the library ran it.",
+    example: "samples/story-device samples/story-program none 10101010101011101010",
     takes: (4, 4),
     options: &[Takes::Width],
-    json: true,
     does,
 };
 

@@ -5,6 +5,8 @@ use crate::args::{Asked, Takes};
 use crate::device::Device;
 use crate::explain::{refused, Given};
 use crate::input::{self, Named};
+use crate::json::Json;
+use crate::layout::Layout;
 use crate::page::page;
 use crate::picture::{Mark, Picture};
 use crate::program::Program;
@@ -31,9 +33,9 @@ Without -o the picture is printed. -o FILE.svg writes it as SVG.
 
 FIRST is the program of job 1, SECOND that of job 2; none stands for a program that does nothing, and SECOND may be left out.
 A device whose edges form a grid is drawn as that grid, any other so that neighbours stay near; --width N draws rows of N.",
+    example: "samples/story-device -o story.svg",
     takes: (1, 3),
     options: &[Takes::Job, Takes::Occupied, Takes::Run, Takes::Width, Takes::Output],
-    json: false,
     does,
 };
 
@@ -70,7 +72,7 @@ fn does(asked: &Asked) -> Result<Said, Trouble> {
     }
     match Scene::read(job_number, &device, files.as_ref()) {
         Ok(scene) => scene.drawn(asked, form, &given),
-        Err(refusal) => Ok(refused(COMMAND.name, false, refusal, &given)),
+        Err(refusal) => Ok(refused(COMMAND.name, asked.json, refusal, &given)),
     }
 }
 
@@ -118,15 +120,26 @@ impl Scene {
         let layout = common::layout(asked, &self.device)?;
         let picture = self.picture(asked, name(given.device))?;
         let text = match (form, &self.run) {
-            (Form::Terminal, _) => return Ok(Said::accepted(terminal::drawn(&self.device, &layout, &picture))),
+            (Form::Terminal, _) => terminal::drawn(&self.device, &layout, &picture),
             (Form::Page, Some(([first, second], replay))) => {
                 page(&self.device, &layout, [(name(given.programs[0]), first), (name(given.programs[1]), second)], replay)
             }
             _ => svg::drawn(&self.device, &layout, &picture),
         };
-        let file = asked.value(Takes::Output).unwrap_or_default();
-        output::write(file, text.as_bytes())?;
-        Ok(Said::accepted(format!("written: {}\n", file.to_string_lossy())))
+        output::text(asked, text.as_bytes(), || self.machine(&layout, &picture))
+    }
+
+    /// The picture for machines: each location with its row, its column and who is there.
+    fn machine(&self, layout: &Layout, picture: &Picture) -> Json {
+        let location = |(location, mark): (usize, &Mark)| {
+            let (row, column) = layout.cells[location];
+            let head = Json::object([("location", location.into()), ("owner", self.device.owners[location].into())]);
+            let held = if let Mark::Held(job, slot) = mark { (Some(job.number()), *slot) } else { (None, None) };
+            head.with("row", row).with("column", column).with("occupied", held.0.is_some() || *mark == Mark::Occupied).with("job", held.0).with("slot", held.1)
+        };
+        let edges = Json::list(self.device.edges.iter().map(|&(a, b)| vec![a, b]));
+        let head = Json::object([("command", COMMAND.name.into()), ("verdict", "accepted".into()), ("title", picture.title.as_str().into())]);
+        head.with("locations", Json::list(picture.marks.iter().enumerate().map(location))).with("edges", edges)
     }
 
     /// The device as the run leaves it, or with what `--occupied` says.

@@ -60,9 +60,9 @@ impl Question {
         self
     }
 
-    /// The words that ask the same for machines; none where the command takes no `--json`, or what it makes goes to a file.
+    /// The words that ask the same for machines; none where there is no such command, or help is asked for, or what it makes goes to a file.
     pub fn for_machines(&self) -> Option<Vec<String>> {
-        let takes = COMMANDS.iter().any(|command| command.json && command.name == self.command());
+        let takes = COMMANDS.iter().any(|command| command.name == self.command());
         let is_other = self.words.iter().any(|word| word == "-o" || word == "--help");
         let words = self.words.iter().cloned();
         (takes && !is_other).then(|| words.clone().take(1).chain(["--json".to_string()]).chain(words.skip(1)).collect())

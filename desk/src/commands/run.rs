@@ -1,6 +1,6 @@
 //! `abwakiris run`: a run of two jobs, step by step, and the map that it leaves.
 
-use super::common::{job_program, layout};
+use super::common::{job_program, width};
 use super::Command;
 use crate::args::{Asked, Takes};
 use crate::device::Device;
@@ -32,6 +32,7 @@ pub const COMMAND: Command = Command {
 };
 
 fn does(asked: &Asked) -> Result<Said, Trouble> {
+    let width = width(asked)?;
     let device = input::file(&asked.words[0])?;
     let programs = [job_program(&asked.words[1])?, job_program(&asked.words[2])?];
     let schedule = input::schedule(&asked.words[3])?;
@@ -39,9 +40,8 @@ fn does(asked: &Asked) -> Result<Said, Trouble> {
     match of_files(&device.bytes, [&programs[0].bytes, &programs[1].bytes], &schedule.bytes) {
         Err(refusal) => Ok(refused("run", asked.json, refusal, &given)),
         Ok((device, read, replay)) => {
-            let layout = layout(asked, &device)?;
             let run = Run { given: &given, device, programs: [&read[0], &read[1]], replay: &replay };
-            Ok(Said::of(true, asked.json, || run.text(&layout), || run.json()))
+            Ok(Said::of(true, asked.json, || run.text(width), || run.json()))
         }
     }
 }
@@ -59,7 +59,7 @@ impl Run<'_> {
         file.map_or(String::new(), |named| named.name.clone())
     }
 
-    fn text(&self, layout: &Layout) -> String {
+    fn text(&self, width: Option<usize>) -> String {
         let steps = counted(self.replay.steps.len());
         let [first, second] = self.given.programs.map(|program| self.name(program));
         let mut text = format!("accepted: {first} as job 1 and {second} as job 2 on {}, {steps}\n\n", self.name(self.given.device));
@@ -73,7 +73,7 @@ impl Run<'_> {
             text.push_str(&format!("{job}: {lines}\n"));
         }
         text.push('\n');
-        text.push_str(&terminal::drawn(&self.device, layout, &self.map(&steps)));
+        text.push_str(&terminal::drawn(&self.device, &Layout::of(&self.device, width), &self.map(&steps)));
         text
     }
 

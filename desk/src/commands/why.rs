@@ -52,7 +52,8 @@ fn does(asked: &Asked) -> Result<Said, Trouble> {
 
 /// What there is to say of a merge without a path. Where the tool's own walk does not come to it, the library's refusal is all.
 fn without_path(asked: &Asked, refusal: Refusal, given: &Given, job: Job) -> Result<Said, Trouble> {
-    let read = given.device.zip(given.file(refusal.file)).and_then(|(device, program)| Some((Device::read(&device.bytes).ok()?, Program::read(&program.bytes).ok()?)));
+    let read =
+        given.device.zip(given.file(refusal.file)).and_then(|(device, program)| Some((Device::read(&device.bytes).ok()?, Program::read(&program.bytes).ok()?)));
     if let Some((device, program)) = &read {
         if let Some(why) = Why::of(device, program, job, refusal.place as usize) {
             let [device_name, program_name] = [&asked.words[0], &asked.words[1]].map(|word| in_shell(word));
@@ -95,7 +96,9 @@ mod tests {
 
     #[test]
     fn names_in_a_shell() {
-        for (name, written) in [("a/b-1.qls", "a/b-1.qls"), ("none", "./none"), ("-x", "./-x"), ("-", "-"), ("a b", "'a b'"), ("it's", "'it'\\''s'"), ("", "''")] {
+        for (name, written) in
+            [("a/b-1.qls", "a/b-1.qls"), ("none", "./none"), ("-x", "./-x"), ("-", "-"), ("a b", "'a b'"), ("it's", "'it'\\''s'"), ("", "''")]
+        {
             assert_eq!(in_shell(OsStr::new(name)), written);
         }
     }

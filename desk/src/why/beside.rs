@@ -58,13 +58,14 @@ pub fn beside(search: &mut Search<'_>, stuck: &[Step]) -> Beside {
 /// Steps after these that end the job.
 fn ending(search: &mut Search<'_>, begun: &[Step]) -> Ending {
     let mut steps = vec![];
-    for open in opened(search, begun) {
-        let Open { place, start, call } = open;
+    let mut shortest = true;
+    for Open { place, start, call } in opened(search, begun) {
         let end = search.flow.graph(search.body(place)).end();
         match search.run(place, start, end) {
             Run::Found(found) => {
+                shortest &= found.shortest;
                 if write(search, place, start.values, &found.hops, &mut steps).is_none() {
-                    return Ending::Never;
+                    break;
                 }
             }
             Run::Never(_) => return Ending::Never,
@@ -73,10 +74,10 @@ fn ending(search: &mut Search<'_>, begun: &[Step]) -> Ending {
         steps.extend(call.map(|call| Step::plain(call.at))); // the return
     }
     // one step more must fit, in which the library says that the job is finished
-    if begun.len() + steps.len() < MOST_STEPS {
-        Ending::Steps(steps)
-    } else {
-        Ending::Never
+    match begun.len() + steps.len() < MOST_STEPS {
+        true => Ending::Steps(steps),
+        false if shortest => Ending::Never,
+        false => Ending::Unknown,
     }
 }
 
@@ -115,8 +116,9 @@ fn opened<'a>(search: &mut Search<'a>, begun: &[Step]) -> Vec<Open<'a>> {
     let mut open = vec![];
     for (frame, visit) in machine.frames.iter().zip(visits).rev() {
         let graph = search.flow.graph(frame.body);
-        let at_call = open.is_empty();
-        let step = next.and_then(|at| graph.at(at)).map_or(graph.end(), |step| if at_call { step } else { graph.steps[step].next });
+        // the innermost body is at its next statement, the others are past their call
+        let past = !open.is_empty();
+        let step = next.and_then(|at| graph.at(at)).map_or(graph.end(), |step| if past { graph.steps[step].next } else { step });
         let values = frame.slots.iter().enumerate().filter(|(_, held)| matches!(held, Slot::Bool(true) | Slot::Reference(true)));
         let values = values.fold(0, |values, (slot, _)| values | 1 << slot);
         open.push(Open { place: search.place(visit), start: Start { step, values }, call: frame.call });

@@ -10,7 +10,7 @@ use super::visits::{Id, Met};
 use std::collections::HashSet;
 
 /// The most sites that are searched for.
-const MOST_SITES: usize = 2_000;
+const MOST_SITES: usize = 500;
 
 /// What the search for another merge came to.
 #[derive(Clone, Debug)]

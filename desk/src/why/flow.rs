@@ -40,14 +40,27 @@ pub struct Step {
 pub enum Does {
     Nothing,
     /// A slot gets the outcome.
-    Measures { into: u8 },
+    Measures {
+        into: u8,
+    },
     /// A slot gets what another holds.
-    Copies { into: u8, from: u8 },
+    Copies {
+        into: u8,
+        from: u8,
+    },
     /// A slot gets a value.
-    Makes { into: u8, value: bool },
+    Makes {
+        into: u8,
+        value: bool,
+    },
     /// Goes to `taken` where the guard is true.
-    Guards { guard: u8, taken: Number },
-    Calls { function: usize },
+    Guards {
+        guard: u8,
+        taken: Number,
+    },
+    Calls {
+        function: usize,
+    },
     Ends,
 }
 
@@ -145,6 +158,13 @@ impl Graph {
             }
             kind => self.steps.push(step(simple(kind), next)),
         }
+    }
+}
+
+impl Fork {
+    /// Whether a step is its own or in its blocks.
+    pub fn has(&self, step: Number) -> bool {
+        self.step <= step && step < self.end
     }
 }
 

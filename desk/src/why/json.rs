@@ -21,8 +21,7 @@ impl Words<'_> {
         };
         let whole = match &why.lead {
             Lead::Found { shortest, .. } => *shortest,
-            Lead::TooLong { fewest } => fewest.is_some(),
-            Lead::Never { .. } => true,
+            Lead::Never { .. } | Lead::TooLong { .. } => true,
             Lead::GivenUp => false,
         };
         refusal
@@ -35,6 +34,7 @@ impl Words<'_> {
             .with("choices", steps.map(|steps| self.choices(steps)))
             .with("exhaustive", whole)
             .with("states", why.states)
+            .with("against", self.reasons())
             .with("elsewhere", self.elsewhere_object())
             .with("beside", self.beside_object())
     }
@@ -106,6 +106,14 @@ impl Words<'_> {
     fn choice(&self, i: usize, step: &Step) -> Json {
         let (line, text) = self.line(step.at);
         Json::object([("step", (i + 1).into()), ("line", line.into()), ("text", text.into()), ("outcome", u8::from(step.outcome).into())])
+    }
+
+    /// What keeps the job from the merge.
+    fn reasons(&self) -> Json {
+        match &self.why.lead {
+            Lead::Never { against, .. } => Json::list(against.iter().map(|against| self.against(against))),
+            _ => Json::Null,
+        }
     }
 
     fn elsewhere_object(&self) -> Json {

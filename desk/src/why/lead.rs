@@ -18,10 +18,10 @@ pub enum Lead {
         /// Whether there is no shorter run.
         shortest: bool,
     },
-    /// No outcomes lead there: in this body the job never comes to the site, for these reasons.
-    Never { body: Body, against: Vec<Against> },
-    /// A run that comes there has more steps than a schedule: this many at least, where it is known.
-    TooLong { fewest: Option<u64> },
+    /// No outcomes lead there: in this body the job never comes to the site, an offset, for these reasons.
+    Never { body: Body, site: usize, against: Vec<Against> },
+    /// A run that comes there has this many steps at least, more than a schedule can have; `u64::MAX` where they are beyond all numbers.
+    TooLong { fewest: u64 },
     /// A limit was met.
     GivenUp,
 }
@@ -31,7 +31,7 @@ pub fn lead(search: &mut Search<'_>, trail: &Trail<'_>) -> Lead {
     let runs: Vec<Run> = trail.legs.iter().map(|leg| to_site(search, Where::Visit(leg.id), leg.site.at)).collect();
     for (leg, run) in trail.legs.iter().zip(&runs) {
         if let Run::Never(against) = run {
-            return Lead::Never { body: leg.visit.body, against: against.clone() };
+            return Lead::Never { body: leg.visit.body, site: leg.site.at, against: against.clone() };
         }
     }
     let found: Vec<Found> = runs.into_iter().filter_map(|run| if let Run::Found(found) = run { Some(found) } else { None }).collect();
@@ -41,12 +41,9 @@ pub fn lead(search: &mut Search<'_>, trail: &Trail<'_>) -> Lead {
     let shortest = found.iter().all(|found| found.shortest);
     match written(search, trail, &found) {
         Some(steps) if is_stuck_there(search, trail, &steps) => Lead::Found { steps, shortest },
-        Some(_) => Lead::GivenUp,
-        None => {
-            // the calls, and the merge itself
-            let fewest = found.iter().fold(found.len() as u64, |sum, found| sum.saturating_add(found.steps));
-            Lead::TooLong { fewest: (shortest && fewest < u64::MAX).then_some(fewest) }
-        }
+        // the calls, and the merge itself, are steps too
+        None if shortest => Lead::TooLong { fewest: found.iter().fold(found.len() as u64, |sum, found| sum.saturating_add(found.steps)) },
+        _ => Lead::GivenUp,
     }
 }
 

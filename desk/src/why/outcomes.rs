@@ -1,0 +1,140 @@
+//! The outcomes that lead to a merge without a path, and a run that does not halt, in words.
+
+use super::beside::Beside;
+use super::elsewhere::Elsewhere;
+use super::lead::Lead;
+use super::search::Against;
+use super::steps::Step;
+use super::words::Words;
+use crate::program::Kind;
+use crate::replay::rows::counted;
+use abwakiris::{Job, MOST_STEPS};
+
+/// The most steps of a schedule that is written in one piece.
+const ONE_PIECE: usize = 64;
+
+/// The most outcomes that are listed.
+const MOST_OUTCOMES: usize = 24;
+
+/// The most reasons that are listed; where there are more, none of them says much.
+const MOST_REASONS: usize = 4;
+
+impl Words<'_> {
+    pub(super) fn outcomes(&self) -> String {
+        let states = self.why.states;
+        match &self.why.lead {
+            Lead::Found { steps, shortest } => {
+                let which = if *shortest { "no run there is shorter" } else { "the shortest that was found; a shorter one may be there" };
+                format!("  The job halts at step {}; {which}.\n\n{}", steps.len(), self.stuck(steps))
+            }
+            Lead::Never { body, site, against } => {
+                let all = if states == 1 { "1 state is all there is".to_string() } else { format!("{states} states are all there are") };
+                let shown = if against.len() <= MOST_REASONS { &against[..] } else { &[] };
+                let mut text =
+                    format!("  No outcomes lead there: {all}, and the guards keep the job from it. In {body} it never comes to line {}", self.line(*site).0);
+                text.push_str(if shown.is_empty() { ".\n" } else { ":\n" });
+                shown.iter().for_each(|against| text.push_str(&format!("  - {}\n", self.against(against))));
+                text + &self.elsewhere()
+            }
+            Lead::TooLong { fewest } => {
+                let fewest = if *fewest == u64::MAX { "more than can be counted".to_string() } else { fewest.to_string() };
+                format!("  None within {MOST_STEPS} steps, which are the most of a schedule: the shortest run that comes there has {fewest}.\n")
+            }
+            Lead::GivenUp => format!("  None were found: {states} states were looked at, and there are more.\n"),
+        }
+    }
+
+    /// A run that is stuck: its outcomes, and how to replay it.
+    fn stuck(&self, steps: &[Step]) -> String {
+        let chosen: Vec<(usize, &Step)> = steps.iter().enumerate().filter(|(_, step)| step.chosen).collect();
+        let mut text = match chosen.len() {
+            0 => "  No outcome matters: every run of the job comes there.\n".to_string(),
+            1 => "  One outcome matters:\n".to_string(),
+            many => format!("  {many} outcomes matter:\n"),
+        };
+        let shown = chosen.iter().take(MOST_OUTCOMES).map(|&(i, step)| self.step(i, step, format!("outcome {}", u8::from(step.outcome))));
+        let last = steps.last().map(|last| self.step(steps.len() - 1, last, "stuck: no path".to_string()));
+        let rows: Vec<[String; 4]> = shown.chain(last).collect();
+        let width = |i: usize| rows.iter().map(|row| row[i].len()).max().unwrap_or(0);
+        let [a, b, c] = [width(0), width(1), width(2)];
+        for (i, [step, line, statement, what]) in rows.iter().enumerate() {
+            if i == MOST_OUTCOMES && chosen.len() > MOST_OUTCOMES {
+                text.push_str(&format!("    .. and {} more, which --json has\n", chosen.len() - MOST_OUTCOMES));
+            }
+            text.push_str(&format!("    step {step:>a$}  line {line:>b$}  {statement:c$}  {what}\n"));
+        }
+        text + "\n" + &self.replay(steps)
+    }
+
+    fn step(&self, i: usize, step: &Step, what: String) -> [String; 4] {
+        let (line, text) = self.line(step.at);
+        [(i + 1).to_string(), line.to_string(), text.to_string(), what]
+    }
+
+    /// The command that replays a run, with its schedule.
+    fn replay(&self, steps: &[Step]) -> String {
+        let digits = self.digits(steps);
+        let [device, program] = self.names;
+        let run = |schedule: &str| {
+            let [first, second] = if self.job == Job::ONE { [program, "none"] } else { ["none", program] };
+            format!("abwakiris run {device} {first} {second} {schedule}")
+        };
+        if steps.len() <= ONE_PIECE {
+            return format!("  To replay it:\n\n    {}\n", run(&digits));
+        }
+        let mut text = format!("  The schedule, {}; --json has it in one piece:\n\n", counted(steps.len()));
+        let tens: Vec<&str> = (0..digits.len()).step_by(20).map(|from| &digits[from..digits.len().min(from + 20)]).collect();
+        for line in tens.chunks(5) {
+            text.push_str(&format!("    {}\n", line.join(" ")));
+        }
+        text + &format!("\n  To replay it, with these digits in a file:\n\n    {}\n", run("FILE"))
+    }
+
+    /// What keeps the job from going on.
+    pub(super) fn against(&self, against: &Against) -> String {
+        let at = |at: usize| {
+            let (line, text) = self.line(at);
+            format!("line {line}, {text}")
+        };
+        let is_loop = |at: usize| matches!(self.program.statement(at).map(|(_, statement)| &statement.kind), Some(Kind::While { .. }));
+        match *against {
+            Against::Guard { at: place, needed: true } if is_loop(place) => {
+                format!("{}: the slot never holds 1 there, so the block is never gone into", at(place))
+            }
+            Against::Guard { at: place, .. } if is_loop(place) => format!("{}: the slot always holds 1 there, so the loop never ends", at(place)),
+            Against::Guard { at: place, needed } => format!("{}: the slot is always {} there", at(place), u8::from(!needed)),
+            Against::NoPath { at: place } => format!("{}: has no path either", at(place)),
+            Against::NoReturn { at: place } => format!("{}: never returns", at(place)),
+        }
+    }
+
+    fn elsewhere(&self) -> String {
+        match &self.why.elsewhere {
+            Some(Elsewhere::Found { at, steps }) => {
+                let (line, text) = self.line(*at);
+                let but = format!("But line {line}, {text}, has no path either, and there the job can come: it halts at step {}.", steps.len());
+                format!("\n  {but}\n\n{}", self.stuck(steps))
+            }
+            Some(Elsewhere::Nowhere) => {
+                "\n  No outcomes lead to any other merge without a path. The check heeds no guards, so it refuses the program all the same.\n".to_string()
+            }
+            Some(Elsewhere::GivenUp) => "\n  Whether the job can come to another merge without a path was not found out.\n".to_string(),
+            None => String::new(),
+        }
+    }
+
+    pub(super) fn beside(&self) -> String {
+        let halts = if let Lead::Found { steps, .. } = &self.why.lead { steps.len() } else { return String::new() };
+        match &self.why.beside {
+            Some(Beside::Found { steps, parts_at }) => {
+                let (outcome, at) = steps.get(*parts_at).map_or((0, 0), |step| (u8::from(step.outcome), step.at));
+                let (line, text) = self.line(at);
+                let (ends, step) = (counted(steps.len()), parts_at + 1);
+                let with = format!("With outcome {outcome} at step {step} (line {line}, {text}) the job ends after {ends}");
+                format!("  {with}; with outcome {} it halts at step {halts}.\n\n{}", 1 - outcome, self.replay(steps))
+            }
+            Some(Beside::Never) => format!("  There is none: no outcomes let the job end within {MOST_STEPS} steps.\n"),
+            _ => "  None was found, but not all were looked at.\n".to_string(),
+        }
+    }
+}

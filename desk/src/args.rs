@@ -322,7 +322,7 @@ mod tests {
             ("check d p q", "`q` is a word too many: abwakiris check DEVICE PROGRAM"),
             ("check d p --jbo 1", "unknown option `--jbo`; did you mean --job?"),
             ("check d p --width 3", "check takes no --width"),
-            ("bundle d p --json", "bundle takes no --json"),
+            ("bundle d p --width 3", "bundle takes no --width"),
             ("check d p --job", "--job takes a value, --job N"),
             ("check d p --job x", "--job takes a number, not `x`"),
             ("check d p --job=", "--job takes a number, not ``"),

@@ -170,7 +170,7 @@ fn bad_usage() {
         ("show D P P --run 101", "`1` stands alone"),
         ("show D --output x", "unknown option `--output`; did you mean -o?"),
         ("bundle D", "PROGRAM is missing"),
-        ("bundle D P --json", "bundle takes no --json"),
+        ("bundle D P --width 3", "bundle takes no --width"),
         ("refusal x", "takes a number, not `x`"),
         ("refusal 0", "0 is the number of no refusal"),
         ("refusal 28", "28 is the number of no refusal"),
@@ -294,7 +294,7 @@ fn names_that_are_no_utf8() {
     for option in [vec![OsString::from("-o"), written.clone().into_os_string()], vec![joined]] {
         let ran = tool(vec![OsString::from("list"), program.clone()].into_iter().chain(option));
         ran.is_accepted();
-        assert_eq!((ran.out.len(), fs::read(&written).unwrap()), (0, fs::read(LISTING).unwrap()));
+        assert_eq!((ran.out.starts_with(b"written: "), fs::read(&written).unwrap()), (true, fs::read(LISTING).unwrap()));
         fs::remove_file(&written).unwrap();
     }
     room.file("--job", &fs::read(PROGRAM).unwrap());
@@ -308,7 +308,7 @@ fn files_that_cannot_be_written() {
     let nowhere = room.path("no/such/folder");
     for line in ["list P -o BAD", "list P -o BAD --json", "unlist T -o BAD", "bundle D P -o BAD"] {
         with_bad(line, &nowhere).is_trouble("no/such/folder: there is no such folder");
-        with_bad(line, &folder).is_trouble(": cannot be written: Is a directory");
+        with_bad(line, &folder).is_trouble(": is a directory");
         with_bad(line, OsStr::new("/dev/full")).is_trouble("/dev/full: cannot be written: No space left on device");
         with_bad(line, OsStr::new("")).is_trouble("-o takes the name of a file");
     }

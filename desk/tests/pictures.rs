@@ -705,7 +705,7 @@ mod show {
         folder.refuses(&["device", "--job", "x"], "--job takes a number");
         folder.refuses(&["nothing"], "nothing: no such file");
         folder.refuses(&["device", "nothing", "--run", "10"], "nothing: no such file");
-        folder.refuses(&["device", "-o", "nowhere/x.svg"], "nowhere/x.svg: cannot be written");
+        folder.refuses(&["device", "-o", "nowhere/x.svg"], "nowhere/x.svg: there is no such folder");
         std::fs::create_dir(folder.0.join("folder.svg")).expect("a folder");
         folder.refuses(&["device", "-o", "folder.svg"], "folder.svg: is a directory");
         assert_eq!(folder.names(), ["device", "folder.svg"]);

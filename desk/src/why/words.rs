@@ -128,7 +128,7 @@ impl Words<'_> {
                 text
             }
             Blocked::Several(locations, route) => {
-                let mut text = format!("  {} qubits are in the way. Without all of them there is this corridor: {}\n", locations.len(), corridor(route));
+                let mut text = format!("  More than one qubit is in the way. Without these {} there is this corridor: {}\n", locations.len(), corridor(route));
                 locations.iter().for_each(|&location| text.push_str(&format!("  - {}\n", self.qubit(location))));
                 text
             }

@@ -21,16 +21,16 @@ fn headers() -> Vec<Case> {
     let a = program_a();
     let headed = |headers: &[(u8, u8)]| program(&headers.iter().map(|&(k, m)| (k, m, vec![])).collect::<Vec<_>>(), &[]);
     vec![
-        of("check-01-program-empty", &[], 1, 0).finds(&["0"]),
+        of("check-01-program-empty", &[], 1, 0).finds(&["empty"]),
         of("check-01-program-short", &a[..7], 1, 0).finds(&["7"]),
-        of("check-02-program-is-a-device", &grid(), 2, 0).finds(&["QLG"]).says(&["QLS"]),
+        of("check-02-program-is-a-device", &grid(), 2, 0).finds(&["51 4C 47", "device"]).says(&["QLS"]),
         of("check-03-program", &with(&a, &[(3, 1)]), 3, 3).finds(&["257"]),
         of("check-04-program-length", &[&a[..], &[0; 4_073]].concat(), 4, 0).finds(&["4097"]).says(&["4096"]),
         of("check-04-program-functions", &with(&only(&[]), &[(5, 16)]), 4, 5).finds(&["16"]).says(&["15"]),
-        of("check-04-function-locations", &headed(&[(17, 0)]), 4, 6).finds(&["function 0", "17"]).says(&["16"]),
-        of("check-04-function-arguments", &headed(&[(9, 9)]), 4, 7).finds(&["function 0", "9"]).says(&["8"]),
-        of("check-04-function-more-arguments", &headed(&[(1, 2)]), 4, 7).finds(&["function 0", "2", "1"]),
-        of("check-04-function-second", &headed(&[(0, 0), (17, 0)]), 4, 10).finds(&["function 1", "17"]),
+        of("check-04-function-locations", &headed(&[(17, 0)]), 4, 6).finds(&["17"]).says(&["function 0", "16"]),
+        of("check-04-function-arguments", &headed(&[(9, 9)]), 4, 7).finds(&["9"]).says(&["function 0", "8"]),
+        of("check-04-function-more-arguments", &headed(&[(1, 2)]), 4, 7).finds(&["2", "1"]).says(&["function 0"]),
+        of("check-04-function-second", &headed(&[(0, 0), (17, 0)]), 4, 10).finds(&["17"]).says(&["function 1"]),
         of("check-04-depth", &only(&[nested(8)]), 4, 38).finds(&["9"]).says(&["8"]),
     ]
 }
@@ -41,8 +41,8 @@ fn fit() -> Vec<Case> {
     vec![
         of("check-08-after-main", &[only(&[]), vec![0]].concat(), 8, 8),
         of("check-08-function-header", &behind(2, &[0, 0, 0, 0, 0]), 8, 10).finds(&["function 1"]),
-        of("check-08-function-body", &behind(1, &[0, 0]), 8, 8).finds(&["function 0"]),
-        of("check-08-main-missing", &behind(1, &[0, 0, 0, 0]), 8, 10).finds(&["main"]),
+        of("check-08-function-body", &behind(1, &[0, 0]), 8, 8).says(&["function 0"]),
+        of("check-08-main-missing", &behind(1, &[0, 0, 0, 0]), 8, 10).says(&["the length word of main"]),
         of("check-08-main-longer", &with(&program_a(), &[(7, 17)]), 8, 6).finds(&["17", "16"]),
         of("check-08-block-longer", &with(&branched, &[(11, 9)]), 8, 10).finds(&["9"]),
         of("check-08-statement-cut", &program(&[], &[1, 0]), 8, 8).finds(&["init"]),

@@ -25,6 +25,6 @@ pub fn cases() -> Vec<Case> {
         on_g("route-21-occupied-near", 0, 4, &[1, 3]).refused(21, 0).finds(&["0", "4"]),
         case("route-21-other-job", route(&split(), 0, 2, 1, &[])).refused(21, 0).finds(&["0", "2"]),
         case("route-25", route(&g, 0, 2, 3, &[])).refused(25, 0).finds(&["3"]),
-        case("route-06", route(&with(&g, &[(13, 3)]), 0, 2, 1, &[])).refused(6, 13).finds(&["location 4"]),
+        case("route-06", route(&with(&g, &[(13, 3)]), 0, 2, 1, &[])).refused(6, 13).says(&["location 4"]),
     ]
 }

@@ -53,7 +53,7 @@ fn refused() -> Vec<Case> {
     vec![
         case("run-22", run_by_file(&g, Some(&a), None, &long, &long)).refused(22, 0).finds(&["4097"]).says(&["4096"]),
         case("run-23", run(&g, Some(&a), None, &[0x10, 0x30, 0x12])).refused(23, 1).finds(&["30"]),
-        case("run-23-file", run_by_file(&g, Some(&a), None, &[0x10, 0x10, 0xFF], &[0x10, 0x10, 0xFF])).refused(23, 2).finds(&["ff"]),
+        case("run-23-file", run_by_file(&g, Some(&a), None, &[0x10, 0x10, 0xFF], &[0x10, 0x10, 0xFF])).refused(23, 2).finds(&["FF"]),
         case("run-05", run(&g[..28], Some(&a), None, &[0x10])).refused(5, 0).finds(&["28"]),
         case("run-10-first", run(&g, Some(&only(&[free(32)])), Some(&a), &[0x10])).refused(10, 9).finds(&["32"]),
         case("run-08-second", run(&g, Some(&a), Some(&[only(&[]), vec![0]].concat()), &[0x10])).refused(8, 8),

@@ -31,7 +31,7 @@ fn in_the_way() -> Vec<Case> {
     vec![
         at(&grid(), "why-21-main", &walled(), 20).stuck_by(&[0x10; 5]).says(&["slot 2", "slot 3", "0 1 2", "0 3 4 5 2"]),
         at(&split(), "why-21-no-corridor", &program_a(), 14).stuck_by(&[0x10; 3]).says(&["no corridor", "empty region"]),
-        at(&line(4), "why-21-more-than-one", &both, 20).stuck_by(&[0x10; 5]).says(&["more than one"]),
+        at(&line(4), "why-21-more-than-one", &both, 20).stuck_by(&[0x10; 5]).says(&["More than one"]),
         case("why-21-job-2", why(&swapped(&grid()), &walled(), 2)).refused(21, 20).stuck_by(&[0x20; 5]).says(&["job 2", "slot 2", "slot 3"]),
         case("why-21-width", why(&grid(), &walled(), 1).with(&["--width", "2"])).refused(21, 20).stuck_by(&[0x10; 5]),
     ]

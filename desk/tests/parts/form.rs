@@ -44,7 +44,7 @@ pub fn of_both(out: &str, value: &Json, faults: &mut Faults) {
     let refusal = member(value, "refusal");
     let parts = ["asked", "mend", "text"].map(|part| text(member(refusal, part)));
     for part in parts.into_iter().chain(found(value)) {
-        faults.unless(out.contains(part), || format!("--json says {part:?}, and the text does not"));
+        faults.unless(out.contains(part.trim_end()), || format!("--json says {part:?}, and the text does not"));
     }
     if let (Json::Number(line), "program") = (member(refusal, "line"), text(member(refusal, "file"))) {
         let mark = format!(", line {line} of its listing\n");

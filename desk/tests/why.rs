@@ -167,6 +167,10 @@ fn assert_no_run_says_otherwise(refused: &Refused, why: &Why<'_>) -> bool {
         Lead::Found { .. } | Lead::GivenUp | Lead::TooLong { .. } => {}
         Lead::Never { .. } => assert!(!in_main || fewest.is_none(), "outcomes lead there"),
     }
+    if let Lead::Found { steps, .. } = &why.lead {
+        let every = runs.iter().all(|run| run.stuck == Some(refused.place));
+        assert!(every || steps.iter().any(|step| step.chosen), "no outcome matters, but another run ends elsewhere");
+    }
     if let Some(Elsewhere::Nowhere) = why.elsewhere {
         assert!(runs.iter().all(|run| run.stuck.is_none()), "outcomes halt the job");
     }
@@ -198,7 +202,7 @@ struct Tally {
 
 #[test]
 fn generated_programs() {
-    let cases = if cfg!(debug_assertions) { 6_000 } else { 60_000 };
+    let cases = if cfg!(debug_assertions) { 5_000 } else { 45_000 };
     let mut tally = Tally::default();
     for index in 0..cases {
         let refused = match generator::case(&mut generator::Random::new(21, index)) {
@@ -247,6 +251,149 @@ fn generated_programs() {
     );
     assert!(tally.found > 15 && tally.never > 5 && tally.beside > 0 && tally.tried > 15);
     assert_eq!(tally.given_up, 0);
+}
+
+/// Writes random bodies that are typed, with guards that hang on outcomes. Slots 0 and 1 are two ends, slot 2 is what may stand between them.
+struct Maker {
+    random: generator::Random,
+    text: String,
+    /// The location between the ends, and the call of function 0 there.
+    middle: u8,
+    call: Option<&'static str>,
+    taken: bool,
+    /// The first slot that is not bound, and those with a bool and with a reference.
+    next: u8,
+    bools: Vec<u8>,
+    references: Vec<u8>,
+}
+
+impl Maker {
+    fn below(&mut self, limit: usize) -> usize {
+        usize::from(self.random.bytes(1)[0]) % limit
+    }
+
+    fn pick(&mut self, slots: &[u8]) -> Option<u8> {
+        if slots.is_empty() {
+            None
+        } else {
+            Some(slots[self.below(slots.len())])
+        }
+    }
+
+    fn line(&mut self, depth: usize, words: String) {
+        self.text.push_str(&format!("{:1$}{words}\n", "", 2 * depth));
+    }
+
+    fn turn(&mut self, depth: usize) {
+        let middle = self.middle;
+        self.line(depth, if self.taken { "free 2".to_string() } else { format!("init 2 {middle}") });
+        self.taken = !self.taken;
+    }
+
+    /// A block that ends with the middle as it was.
+    fn block(&mut self, depth: usize, statements: usize) {
+        let before = (self.taken, self.next, self.bools.clone(), self.references.clone());
+        for _ in 0..statements {
+            self.statement(depth);
+        }
+        if self.taken != before.0 {
+            self.turn(depth);
+        }
+        (_, self.next, self.bools, self.references) = before;
+    }
+
+    fn bind(&mut self, is_bool: bool, depth: usize, words: impl FnOnce(u8) -> String) {
+        if self.next < 32 {
+            let slot = self.next;
+            self.next += 1;
+            if is_bool { &mut self.bools } else { &mut self.references }.push(slot);
+            self.line(depth, words(slot));
+        }
+    }
+
+    fn statement(&mut self, depth: usize) {
+        let (bools, references) = (self.bools.clone(), self.references.clone());
+        let (y, r) = (self.pick(&bools), self.pick(&references));
+        let value = self.below(2);
+        match (self.below(16), y, r) {
+            (0 | 1, ..) => self.turn(depth),
+            (2, ..) => self.bind(true, depth, |slot| format!("merge {slot} X 0 X 1")),
+            (3..=5, ..) => self.bind(true, depth, |slot| format!("measure {slot} Z 0")),
+            (6, ..) => self.bind(true, depth, |slot| format!("bool {slot} {value}")),
+            (7, Some(y), _) => self.bind(false, depth, |slot| format!("ref {slot} {y}")),
+            (8, _, Some(r)) => self.bind(true, depth, |slot| format!("get {slot} {r}")),
+            (9, Some(y), Some(r)) => self.line(depth, format!("set {r} {y}")),
+            (10 | 11, Some(y), _) if depth < 4 => {
+                self.line(depth, format!("if {y}"));
+                for otherwise in ["else", ""] {
+                    let statements = self.below(4);
+                    self.block(depth + 1, statements);
+                    if !otherwise.is_empty() {
+                        self.line(depth, otherwise.to_string());
+                    }
+                }
+            }
+            (12 | 13, _, Some(r)) if depth < 3 => {
+                self.line(depth, format!("while {r}"));
+                let statements = self.below(4);
+                // most loops can end
+                if value == 0 && self.next < 32 {
+                    let slot = self.next;
+                    self.next += 1;
+                    self.line(depth + 1, format!("measure {slot} X 1"));
+                    self.line(depth + 1, format!("set {r} {slot}"));
+                    self.block(depth + 1, statements);
+                    self.next -= 1;
+                } else {
+                    self.block(depth + 1, statements);
+                }
+            }
+            (14, ..) if !self.taken => self.call.into_iter().for_each(|call| self.line(depth, call.to_string())),
+            _ => {}
+        }
+    }
+
+    /// A program with a function, on a row of three.
+    fn program(random: generator::Random) -> String {
+        let text = "program 1\nfunction 0 locations 3 arguments 2\n".to_string();
+        let mut maker = Maker { random, text, middle: 2, call: None, taken: false, next: 3, bools: vec![], references: vec![] };
+        let statements = maker.below(8);
+        maker.block(1, statements);
+        maker.text.push_str("main\n  init 0 0\n  init 1 2\n");
+        (maker.middle, maker.call) = (1, Some("call 0 at 0 2 1 with 0 1"));
+        let statements = 4 + maker.below(14);
+        maker.block(1, statements);
+        maker.text + "  free 0\n  free 1\n"
+    }
+}
+
+/// Small programs, so that most can be held against every run.
+#[test]
+fn made_programs() {
+    let cases = if cfg!(debug_assertions) { 500 } else { 5_000 };
+    let (mut found, mut never, mut beside, mut tried) = (0, 0, 0, 0);
+    let row = grid(&[1; 3], 3);
+    for index in 0..cases {
+        let listing = Maker::program(generator::Random::new(3, index));
+        let program = abwakiris::read_listing(&listing).expect("a listing");
+        if let Some(refused) = Refused::of(&row, &program, 1) {
+            let why = refused.why();
+            refused.assert_shown(&why);
+            tried += usize::from(assert_no_run_says_otherwise(&refused, &why));
+            match &why.lead {
+                Lead::Found { shortest: true, .. } => found += 1,
+                Lead::Never { .. } => never += 1,
+                other => panic!("{other:?} of case {index}\n{listing}"),
+            }
+            match &why.beside {
+                Some(Beside::Found { .. }) => beside += 1,
+                Some(Beside::GivenUp) => panic!("case {index}\n{listing}"),
+                _ => {}
+            }
+        }
+    }
+    println!("{found} found, {never} out of reach, {beside} with a run beside that ends; {tried} held against every run");
+    assert!(found > 50 && never > 10 && beside > 20 && tried > 60, "{found} {never} {beside} {tried}");
 }
 
 /// The steps whose outcome matters, counted from 1.

@@ -73,7 +73,7 @@ impl Words<'_> {
         let held = self.why.held.iter().map(|held| {
             let slots = held.holders.iter().map(|(body, slot)| Json::object([("body", body.to_string().into()), ("slot", (*slot).into())]));
             let lines = held.made.iter().map(|&at| self.line(at).0);
-            Json::object([("location", held.location.into()), ("slots", Json::list(slots)), ("made_in_lines", Json::list(lines))])
+            Json::object([("location", held.location.into()), ("slots", Json::list(slots)), ("made_at_lines", Json::list(lines))])
         });
         Json::object([
             ("ends", way.ends.to_vec().into()),
@@ -119,23 +119,30 @@ impl Words<'_> {
     fn elsewhere_object(&self) -> Json {
         match &self.why.elsewhere {
             Some(Elsewhere::Found { at, steps }) => {
-                let merge = self.at("merge", *at).with("schedule", self.digits(steps)).with("steps", steps.len());
-                merge.with("choices", self.choices(steps))
+                let (line, text) = self.line(*at);
+                let merge = told("found").with("place", *at).with("line", line).with("text", text);
+                merge.with("schedule", self.digits(steps)).with("steps", steps.len()).with("choices", self.choices(steps))
             }
-            _ => Json::Null,
+            Some(Elsewhere::Nowhere) => told("never"),
+            Some(Elsewhere::GivenUp) => told("given_up"),
+            None => Json::Null,
         }
     }
 
     fn beside_object(&self) -> Json {
         match &self.why.beside {
-            Some(Beside::Found { steps, parts_at }) => Json::object([
-                ("schedule", self.digits(steps).into()),
-                ("steps", steps.len().into()),
-                ("parts_at_step", (parts_at + 1).into()),
-                ("choice", steps.get(*parts_at).map(|step| self.choice(*parts_at, step)).into()),
-                ("choices", self.choices(steps)),
-            ]),
-            _ => Json::Null,
+            Some(Beside::Found { steps, parts_at }) => {
+                let run = told("found").with("schedule", self.digits(steps)).with("steps", steps.len()).with("parts_at_step", parts_at + 1);
+                run.with("parts_by", steps.get(*parts_at).map(|step| self.choice(*parts_at, step))).with("choices", self.choices(steps))
+            }
+            Some(Beside::Never) => told("never"),
+            Some(Beside::GivenUp) => told("given_up"),
+            None => Json::Null,
         }
     }
+}
+
+/// What a search came to.
+fn told(outcomes: &str) -> Json {
+    Json::object([("outcomes", outcomes.into())])
 }

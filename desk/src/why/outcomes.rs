@@ -92,19 +92,21 @@ impl Words<'_> {
 
     /// What keeps the job from going on.
     pub(super) fn against(&self, against: &Against) -> String {
-        let at = |at: usize| {
-            let (line, text) = self.line(at);
-            format!("line {line}, {text}")
+        let (at, why) = match *against {
+            Against::Guard { at, needed } => (at, self.guard_against(at, needed)),
+            Against::NoPath { at } => (at, "has no path either".to_string()),
+            Against::NoReturn { at } => (at, "never returns".to_string()),
         };
-        let is_loop = |at: usize| matches!(self.program.statement(at).map(|(_, statement)| &statement.kind), Some(Kind::While { .. }));
-        match *against {
-            Against::Guard { at: place, needed: true } if is_loop(place) => {
-                format!("{}: the slot never holds 1 there, so the block is never gone into", at(place))
-            }
-            Against::Guard { at: place, .. } if is_loop(place) => format!("{}: the slot always holds 1 there, so the loop never ends", at(place)),
-            Against::Guard { at: place, needed } => format!("{}: the slot is always {} there", at(place), u8::from(!needed)),
-            Against::NoPath { at: place } => format!("{}: has no path either", at(place)),
-            Against::NoReturn { at: place } => format!("{}: never returns", at(place)),
+        let (line, text) = self.line(at);
+        format!("line {line}, {text}: {why}")
+    }
+
+    fn guard_against(&self, at: usize, needed: bool) -> String {
+        match (self.program.statement(at).map(|(_, statement)| &statement.kind), needed) {
+            (Some(Kind::While { guard, .. }), true) => format!("slot {guard} never holds 1 there, so the block is never gone into"),
+            (Some(Kind::While { guard, .. }), false) => format!("slot {guard} always holds 1 there, so the loop never ends"),
+            (Some(Kind::If { guard, .. }), needed) => format!("slot {guard} is always {} there", u8::from(!needed)),
+            _ => "never goes on there".to_string(),
         }
     }
 

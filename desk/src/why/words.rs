@@ -109,7 +109,7 @@ impl Words<'_> {
         words.push(holders(held));
         let lines: Vec<usize> = held.made.iter().map(|&at| self.line(at).0).collect();
         if !lines.is_empty() {
-            words.push(format!("made in line {}", listed(&lines, "or")));
+            words.push(format!("made at line {}", listed(&lines, "or")));
         }
         words.join(", ")
     }
@@ -117,18 +117,21 @@ impl Words<'_> {
     fn in_the_way(&self) -> String {
         let [first, second] = self.why.way.ends;
         match &self.why.way.blocked {
+            Blocked::One(singles) if singles.len() == 1 => {
+                let one = |(location, route): &(usize, Vec<usize>)| (self.qubit(*location), in_order(route));
+                let words = |(qubit, route)| format!("  The qubit at {qubit} is in the way. Without it there is this corridor: {route}\n");
+                singles.iter().map(one).map(words).collect()
+            }
             Blocked::One(singles) => {
-                let mut text = String::new();
-                if singles.len() > 1 {
-                    text.push_str(&format!("  {} qubits are in the way, each of them: without any one there is a corridor.\n", singles.len()));
-                }
+                let mut text = format!("  {} qubits are in the way, and it is enough that one of them is not there:\n", singles.len());
                 for (location, route) in singles {
-                    text.push_str(&format!("  The qubit at {} is in the way. Without it there is this corridor: {}\n", self.qubit(*location), corridor(route)));
+                    text.push_str(&format!("  - without the one at {} there is this corridor: {}\n", self.qubit(*location), in_order(route)));
                 }
                 text
             }
             Blocked::Several(locations, route) => {
-                let mut text = format!("  More than one qubit is in the way. Without these {} there is this corridor: {}\n", locations.len(), corridor(route));
+                let mut text = format!("  More than one qubit is in the way. Without these {} there is this corridor: {}
+", locations.len(), in_order(route));
                 locations.iter().for_each(|&location| text.push_str(&format!("  - {}\n", self.qubit(location))));
                 text
             }
@@ -171,10 +174,11 @@ fn table(rows: &[Row]) -> String {
 
 /// Where the parameters of a function are.
 fn parameters(locations: &[usize]) -> String {
+    let parameters: Vec<usize> = (0..locations.len()).collect();
     match locations {
         [] => String::new(),
         [one] => format!("parameter 0 is location {one}"),
-        many => format!("parameters 0 to {} are locations {}", many.len() - 1, corridor(many)),
+        many => format!("parameters {} are locations {}", in_order(&parameters), in_order(many)),
     }
 }
 
@@ -193,8 +197,8 @@ fn holders(held: &Held) -> String {
     held.holders.iter().map(one).collect::<Vec<String>>().join(" and ")
 }
 
-/// The locations of a corridor, in order.
-fn corridor(locations: &[usize]) -> String {
+/// Locations, or parameters, in order.
+fn in_order(locations: &[usize]) -> String {
     locations.iter().map(usize::to_string).collect::<Vec<String>>().join(" ")
 }
 

@@ -7,9 +7,10 @@ use crate::explain::{explained, refused, Explained, Given};
 use crate::input;
 use crate::json::Json;
 use crate::program::Program;
-use crate::said::{Said, Trouble};
+use crate::said::{quoted, shown, trouble, Said, Trouble};
 use crate::why::words::Words;
 use crate::why::Why;
+use crate::{output, svg};
 use abwakiris::{Job, Number, Refusal};
 use std::ffi::OsStr;
 
@@ -19,39 +20,59 @@ pub const COMMAND: Command = Command {
     about: "why a program is refused: the trail, the device there, the outcomes that lead there",
     help: "Asks the library as abwakiris check does. Of a merge without a path (21) it shows how the check comes there, over calls with their locations and \
            branches with their guards; the device at that moment; the qubits in the way; a schedule of this job alone that is stuck there, the shortest where \
-           it can be known; and a run that begins alike and does not halt. Each schedule was run by the library. Where no outcomes lead there it says so.",
+           it can be known; and a run that begins alike and does not halt. Each schedule was run by the library. Where no outcomes lead there it says so. -o FILE.svg writes the device at that moment as a picture.",
     example: "samples/story-device samples/story-program",
     takes: (2, 2),
-    options: &[Takes::Job, Takes::Width],
+    options: &[Takes::Job, Takes::Width, Takes::Output],
     does,
 };
 
 fn does(asked: &Asked) -> Result<Said, Trouble> {
+    common::width(asked)?; // bad usage is told before any refusal
+    picture(asked)?;
+    let said = answered(asked)?;
+    let is_missing = asked.value(Takes::Output).map_or(false, |_| !said.pictured);
+    Ok(if is_missing { said.said.with_note("no picture is written: it shows a merge without a path, 21".to_string()) } else { said.said })
+}
+
+/// What is said, and whether a picture goes with it.
+struct Answered {
+    said: Said,
+    pictured: bool,
+}
+
+impl Answered {
+    fn in_words(said: Said) -> Result<Answered, Trouble> {
+        Ok(Answered { said, pictured: false })
+    }
+}
+
+fn answered(asked: &Asked) -> Result<Answered, Trouble> {
     let (device, program) = (input::file(&asked.words[0])?, input::file(&asked.words[1])?);
     let given = Given { device: Some(&device), ..Given::default() };
     let job = match asked.job()? {
         Ok(job) => job,
         Err(refusal) => {
             let given = Given { programs: [Some(&program), None], job_number: asked.number(Takes::Job)?, ..given };
-            return Ok(refused("why", asked.json, refusal, &given));
+            return Answered::in_words(refused("why", asked.json, refusal, &given));
         }
     };
     let mut given = Given { job: Some(job), ..given };
     given.programs[usize::from(job.number()) - 1] = Some(&program);
     match abwakiris::check(&device.bytes, &program.bytes, job) {
-        Ok(count) => Ok(Said::of(
+        Ok(count) => Answered::in_words(Said::of(
             true,
             asked.json,
             || format!("accepted: {} on {} for {job}\ncommands: {count}\nnothing to explain\n", program.name, device.name),
             || Json::object([("command", "why".into()), ("verdict", "accepted".into()), ("job", job.number().into()), ("count", count.into())]),
         )),
         Err(refusal) if refusal.number == Number::NoPath => without_path(asked, refusal, &given, job),
-        Err(refusal) => Ok(refused("why", asked.json, refusal, &given)),
+        Err(refusal) => Answered::in_words(refused("why", asked.json, refusal, &given)),
     }
 }
 
 /// What there is to say of a merge without a path. Where the tool's own walk does not come to it, the library's refusal is all.
-fn without_path(asked: &Asked, refusal: Refusal, given: &Given, job: Job) -> Result<Said, Trouble> {
+fn without_path(asked: &Asked, refusal: Refusal, given: &Given, job: Job) -> Result<Answered, Trouble> {
     let read =
         given.device.zip(given.file(refusal.file)).and_then(|(device, program)| Some((Device::read(&device.bytes).ok()?, Program::read(&program.bytes).ok()?)));
     if let Some((device, program)) = &read {
@@ -61,11 +82,24 @@ fn without_path(asked: &Asked, refusal: Refusal, given: &Given, job: Job) -> Res
             let said = in_words(refusal, given, &words);
             let head = Json::object([("command", "why".into()), ("verdict", "refused".into()), ("job", job.number().into())]);
             let layout = common::layout(asked, device)?;
-            let text = || said.text() + &words.text(&layout);
-            return Ok(Said::of(false, asked.json, text, || words.json(head.with("refusal", said.json()))));
+            let written = picture(asked)?;
+            if let Some(name) = written {
+                output::write(name, svg::drawn(device, &layout, &words.picture()).as_bytes())?;
+            }
+            let text = || said.text() + &words.text(&layout) + &written.map_or(String::new(), |name| format!("\nwritten: {}\n", shown(name)));
+            let machine = || words.json(head.with("refusal", said.json())).with("written", written.map(shown));
+            return Ok(Answered { said: Said::of(false, asked.json, text, machine), pictured: true });
         }
     }
-    Ok(refused("why", asked.json, refusal, given))
+    Answered::in_words(refused("why", asked.json, refusal, given))
+}
+
+/// The file that `-o` names for the picture of the device there.
+fn picture(asked: &Asked) -> Result<Option<&OsStr>, Trouble> {
+    match asked.value(Takes::Output) {
+        Some(name) if !name.to_string_lossy().to_lowercase().ends_with(".svg") => trouble(format!("-o takes a name that ends in .svg, not {}", quoted(name))),
+        name => Ok(name),
+    }
 }
 
 /// The refusal, with the locations of the call that the trail goes over.

@@ -79,7 +79,8 @@ impl Words<'_> {
         }
     }
 
-    fn there(&self, layout: &Layout) -> String {
+    /// The device when the merge comes.
+    pub fn picture(&self) -> Picture {
         let (line, _) = self.line(self.why.trail.merge().at);
         let mut picture = Picture::of(self.device, Some(self.job), format!("the region of {} when line {line} comes", self.job));
         let mut put = |location: usize, mark: Mark| {
@@ -92,7 +93,11 @@ impl Words<'_> {
         self.why.held.iter().for_each(|held| put(held.location, Mark::Held(self.job, held.slot())));
         put(way.ends[0], Mark::First);
         put(way.ends[1], Mark::Second);
-        let mut text = terminal::drawn(self.device, layout, &picture);
+        picture
+    }
+
+    fn there(&self, layout: &Layout) -> String {
+        let mut text = terminal::drawn(self.device, layout, &self.picture());
         text.push('\n');
         let width = self.why.held.iter().map(|held| held.location.to_string().len()).max().unwrap_or(0);
         for held in &self.why.held {

@@ -33,6 +33,8 @@ fn in_the_way() -> Vec<Case> {
         at(&split(), "why-21-no-corridor", &program_a(), 14).stuck_by(&[0x10; 3]).says(&["no corridor", "empty region"]),
         at(&line(4), "why-21-more-than-one", &both, 20).stuck_by(&[0x10; 5]).says(&["More than one"]),
         case("why-21-job-2", why(&swapped(&grid()), &walled(), 2)).refused(21, 20).stuck_by(&[0x20; 5]).says(&["job 2", "slot 2", "slot 3"]),
+        case("why-21-svg", why(&grid(), &walled(), 1).with(&["-o", "picture.svg"])).refused(21, 20).writes("picture.svg"),
+        case("why-accepted-svg", why(&grid(), &program_a(), 1).with(&["-o", "picture.svg"])),
         case("why-21-width", why(&grid(), &walled(), 1).with(&["--width", "2"])).refused(21, 20).stuck_by(&[0x10; 5]),
     ]
 }

@@ -20,7 +20,8 @@ pub const COMMAND: Command = Command {
     about: "why a program is refused: the trail, the device there, the outcomes that lead there",
     help: "Asks the library as abwakiris check does. Of a merge without a path (21) it shows how the check comes there, over calls with their locations and \
            branches with their guards; the device at that moment; the qubits in the way; a schedule of this job alone that is stuck there, the shortest where \
-           it can be known; and a run that begins alike and does not halt. Each schedule was run by the library. Where no outcomes lead there it says so. -o FILE.svg writes the device at that moment as a picture.",
+           it can be known; and a run that begins alike and does not halt. Each schedule was run by the library. Where no outcomes lead there it says so. \
+           -o FILE.svg writes the device at that moment as a picture.",
     example: "samples/story-device samples/story-program",
     takes: (2, 2),
     options: &[Takes::Job, Takes::Width, Takes::Output],

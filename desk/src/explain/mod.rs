@@ -18,9 +18,9 @@ use crate::input::Named;
 use crate::json::Json;
 use crate::said::{shown, Said};
 use abwakiris::{File, Job, Refusal};
-use std::ffi::OsStr;
 use excerpt::Excerpt;
 use part::Part;
+use std::ffi::OsStr;
 use words::filled;
 
 /// What a call was given, as far as it is known.

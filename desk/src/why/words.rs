@@ -135,8 +135,8 @@ impl Words<'_> {
                 text
             }
             Blocked::Several(locations, route) => {
-                let mut text = format!("  More than one qubit is in the way. Without these {} there is this corridor: {}
-", locations.len(), in_order(route));
+                let corridor = in_order(route);
+                let mut text = format!("  More than one qubit is in the way. Without these {} there is this corridor: {corridor}\n", locations.len());
                 locations.iter().for_each(|&location| text.push_str(&format!("  - {}\n", self.qubit(location))));
                 text
             }

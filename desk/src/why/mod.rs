@@ -54,12 +54,16 @@ pub struct Why<'a> {
 }
 
 impl<'a> Why<'a> {
-    /// Why the library refused with 21 at this place; none where the walk comes to another merge, or to none.
+    /// Why the library refused with 21 at this place; none where the walk comes to another merge, to none, or to one that the library has a path for.
     pub fn of(device: &'a Device, program: &'a Program, job: Job, place: usize) -> Option<Why<'a>> {
         let mut visits = Visits::of(program, Region::of(device, job));
         let trail = Trail::find(&mut visits).filter(|trail| trail.merge().at == place)?;
         let held = held(&visits, &trail);
         let way = Way::of(&visits.region, &trail);
+        let occupancy = way.occupied.occupancy(device.locations());
+        if device.route(job, &occupancy, way.ends[0], way.ends[1]).is_some() {
+            return None; // the library knows a path where the walk does not
+        }
         let flow = Flow::of(program);
         let mut search = Search::of(&flow, visits, MOST_STATES);
         let lead = lead(&mut search, &trail);

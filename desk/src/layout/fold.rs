@@ -6,7 +6,7 @@ use super::{Cell, Part, COLUMNS};
 const LONGEST_FRAME: usize = 44;
 
 /// The cells of a path or of a ring; none for any other part.
-pub fn folded(part: &Part) -> Option<Vec<Cell>> {
+pub(super) fn folded(part: &Part) -> Option<Vec<Cell>> {
     if part.near.iter().any(|near| near.len() > 2) {
         return None;
     }

@@ -46,7 +46,7 @@ fn diagonal((a, b): (usize, usize), width: usize) -> bool {
 }
 
 /// The cells of a part that is a grid, whatever its numbering: every edge joins neighbours.
-pub fn shaped(part: &Part) -> Option<Vec<Cell>> {
+pub(super) fn shaped(part: &Part) -> Option<Vec<Cell>> {
     let steps = part.steps(0);
     let is_like = |(a, near): (usize, &Vec<usize>)| near.len() <= 4 && near.iter().all(|&b| steps[a] % 2 != steps[b] % 2);
     if !part.near.iter().enumerate().all(is_like) {

@@ -6,7 +6,7 @@
 use super::{Cell, Part, COLUMNS};
 
 /// The cells of a part.
-pub fn placed(part: &Part) -> Vec<Cell> {
+pub(super) fn placed(part: &Part) -> Vec<Cell> {
     let columns = side(part.len() * 5 / 4).clamp(2, COLUMNS);
     let rows = (part.len() * 5 / 4 + columns - 1) / columns + 1;
     let mut board = Board::new(part, rows, columns);

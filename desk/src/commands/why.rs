@@ -80,7 +80,7 @@ fn without_path(asked: &Asked, refusal: Refusal, given: &Given, job: Job) -> Res
         if let Some(why) = Why::of(device, program, job, refusal.place as usize) {
             let [device_name, program_name] = [&asked.words[0], &asked.words[1]].map(|word| in_shell(word));
             let words = Words { why: &why, device, program, job, names: [&device_name, &program_name] };
-            let said = in_words(refusal, given, &words);
+            let said = Explained { see: None, ..explained(refusal, given) }; // this is the command that says more
             let head = Json::object([("command", "why".into()), ("verdict", "refused".into()), ("job", job.number().into())]);
             let layout = common::layout(asked, device)?;
             let written = picture(asked)?;
@@ -101,17 +101,6 @@ fn picture(asked: &Asked) -> Result<Option<&OsStr>, Trouble> {
         Some(name) if !name.to_string_lossy().to_lowercase().ends_with(".svg") => trouble(format!("-o takes a name that ends in .svg, not {}", quoted(name))),
         name => Ok(name),
     }
-}
-
-/// The refusal, with the locations of the call that the trail goes over.
-fn in_words(refusal: Refusal, given: &Given, words: &Words) -> Explained {
-    let mut said = explained(refusal, given);
-    said.see = None; // this is the command that says more
-    if words.why.trail.legs.len() > 1 {
-        let [first, second] = words.why.trail.ends;
-        said.found.push(format!("in the call that the check comes by they are at locations {first} and {second}"));
-    }
-    said
 }
 
 /// A file's name as a shell takes it, and as `abwakiris run` does: there `none` is no file, and a name does not begin with a dash.

@@ -58,7 +58,6 @@ impl<'a> Words<'a> {
     /// A line for each thing that was found.
     pub fn lines(&self, found: &Found) -> Vec<String> {
         match &found.why {
-            Why::Reached => vec![],
             &Why::Kind { slot, .. } | &Why::Bound { slot } => vec![self.held(found, slot)],
             &Why::Outside { location, parameter } => vec![self.outside(location, parameter)],
             &Why::Taken { location, by, parameter } => vec![self.taken(found, location, by, parameter)],

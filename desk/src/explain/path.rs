@@ -1,34 +1,38 @@
-//! A merge or a route without a path, as far as it can be told without a walk over the commands.
+//! A merge or a route without a path: the calls that lead to it, its ends, and what is reached from the first.
 
-use super::found::{of, Words};
+use super::found::Words;
 use super::part::Values;
-use super::typing::{before, Found, Holds};
 use crate::device::Device;
-use crate::program::{Body, Kind};
+use crate::program::Kind;
+use crate::why::region::Region;
+use crate::why::trail::Trail;
+use crate::why::visits::Visits;
 use abwakiris::Job;
 
-/// What is found at a merge: where its qubits are and, in main, which free locations are reached from the first.
+/// What is found at a merge: the calls that the check comes by, where its qubits are, and which free locations are reached from the first.
 pub(super) fn at_merge(words: &Words, place: usize) -> Option<(Values, Vec<String>)> {
     let (_, statement) = words.program.statement(place)?;
     let (first, second) = if let Kind::Merge { first, second, .. } = statement.kind { (first, second) } else { return None };
-    let found = before(words.device, words.program, words.job, place)?;
-    let (one, two) = (qubit(&found, first)?, qubit(&found, second)?);
-    let mut lines = vec![format!("slot {first} is at {}, slot {second} at {}", words.location(one), words.location(two))];
-    match found.body {
-        Body::Main => {
-            let free = |location: usize| !found.slots.iter().any(|slot| slot.holds == Holds::Qubit(location as u8));
-            lines.push(reached_words(words.device, words.job, free, usize::from(one)));
-        }
-        body => lines.push(format!("for one of the calls that lead to {body} there is no path between the locations that these parameters stand for")),
-    }
+    let mut visits = Visits::of(words.program, Region::of(words.device, words.job));
+    let trail = Trail::find(&mut visits).filter(|trail| trail.merge().at == place)?;
+    let [one, two] = trail.ends;
+    let occupied = trail.last().standing.occupied;
+    let mut lines: Vec<String> = calls(words, &trail).into_iter().collect();
+    lines.push(format!("slot {first} is at location {one}, slot {second} at location {two}"));
+    lines.push(reached_words(words.device, words.job, |location| !occupied.has(location), one));
     Some((vec![("{slots}", format!("slots {first} and {second}"))], lines))
 }
 
-fn qubit(found: &Found, slot: u8) -> Option<u8> {
-    match of(&found.slots, slot).holds {
-        Holds::Qubit(location) => Some(location),
-        _ => None,
-    }
+/// The calls that the check comes by, main's first.
+fn calls(words: &Words, trail: &Trail<'_>) -> Option<String> {
+    let calls = &trail.legs[..trail.legs.len() - 1];
+    let lines: Vec<usize> = calls.iter().map(|leg| words.program.listing.number(leg.site.at)).collect();
+    words.named.borrow_mut().extend(&lines);
+    let text = words.program.listing.text(*lines.first()?);
+    Some(match &lines[..] {
+        [line] => format!("it is so in the call at line {line}: {text}"),
+        _ => format!("it is so in the calls at lines {}, the first of which is {text}", listed(&lines)),
+    })
 }
 
 /// The free locations of a region that are reached from an end over free locations, rising.

@@ -58,8 +58,6 @@ pub struct Found {
 /// Why it stopped.
 #[derive(Clone, Debug)]
 pub enum Why {
-    /// The walk was to stop here.
-    Reached,
     /// 11: the slot does not hold this; of a qubit, whatever its location.
     Kind { slot: u8, needed: Holds },
     /// 12: the slot is bound.
@@ -83,10 +81,9 @@ pub enum Why {
 }
 
 impl Why {
-    /// The number of the refusal; 0 where the walk was to stop.
+    /// The number of the refusal.
     pub fn number(&self) -> u8 {
         match self {
-            Why::Reached => 0,
             Why::Kind { .. } => 11,
             Why::Bound { .. } => 12,
             Why::Outside { .. } => 13,
@@ -102,17 +99,12 @@ impl Why {
 
 /// What typing finds where it refuses this program; none where it does not.
 pub fn at_refusal(device: &Device, program: &Program, job: Job) -> Option<Found> {
-    Walk::new(device, program, job, None).judged()
-}
-
-/// The slots before the statement at this offset, where typing comes there.
-pub fn before(device: &Device, program: &Program, job: Job, at: usize) -> Option<Found> {
-    Walk::new(device, program, job, Some(at)).judged().filter(|found| matches!(found.why, Why::Reached))
+    Walk::new(device, program, job).judged()
 }
 
 /// The slots at the end of a function's body, whose typing is accepted: how each argument went that it ends without.
 pub fn at_end(device: &Device, program: &Program, job: Job, function: usize) -> Option<Slots> {
-    let mut walk = Walk::new(device, program, job, None);
+    let mut walk = Walk::new(device, program, job);
     let _ = walk.judged();
     walk.ends.get(function).copied()
 }
@@ -121,8 +113,6 @@ struct Walk<'a> {
     device: &'a Device,
     program: &'a Program,
     job: Job,
-    /// Where to stop.
-    stop: Option<usize>,
     /// The slots at the end of each function that is judged.
     ends: Vec<Slots>,
 }
@@ -137,8 +127,8 @@ struct State {
 type Judged = Result<(), Box<Found>>;
 
 impl<'a> Walk<'a> {
-    fn new(device: &'a Device, program: &'a Program, job: Job, stop: Option<usize>) -> Walk<'a> {
-        Walk { device, program, job, stop, ends: vec![] }
+    fn new(device: &'a Device, program: &'a Program, job: Job) -> Walk<'a> {
+        Walk { device, program, job, ends: vec![] }
     }
 
     /// Judges the functions, then main.
@@ -168,8 +158,7 @@ impl<'a> Walk<'a> {
     }
 
     fn statement(&self, statement: &Statement, state: &mut State) -> Judged {
-        let stops = (self.stop == Some(statement.at)).then_some(Why::Reached);
-        if let Some(why) = stops.or_else(|| self.needs(&statement.kind, state)) {
+        if let Some(why) = self.needs(&statement.kind, state) {
             return state.refused(statement.at, why);
         }
         match &statement.kind {

@@ -33,7 +33,9 @@ fn paths() -> Vec<Case> {
         on(&grid(), "check-21", &walled(), 21, 20).finds(&["slot 0", "location 0", "slot 1", "location 2"]).says(&["merge 4 X 0 X 1"]),
         on(&split(), "check-21-neighbours-corridor", &program_a(), 21, 14).finds(&["slot 0", "location 0", "slot 1", "location 2"]),
         on(&line(3), "check-21-outcome", &by_outcome(), 21, 25).finds(&["location 0", "location 2"]).says(&["merge 4 X 0 X 1"]),
-        on(&line(3), "check-21-second-call", &second, 21, 10).finds(&["slot 0", "slot 1"]).says(&["merge 2 X 0 X 1"]),
+        on(&line(3), "check-21-second-call", &second, 21, 10)
+            .finds(&["call 0 at 0 2 with 0 2", "slot 0 is at location 0, slot 1 at location 2"])
+            .says(&["merge 2 X 0 X 1"]),
         case("check-21-job-2", check(&swapped(&grid()), &walled(), 2)).refused(21, 20).finds(&["location 0", "location 2"]).says(&["job 2"]),
     ]
 }

@@ -265,7 +265,7 @@ fn merges_without_a_path() {
     apart.is(21, 14, &["found: no free location is reached from 0"]);
     let functions = [function(2, 2, &[merge(2, 1, 0)])];
     let called = calling(&functions, &[init(0, 0), init(1, 2), init(2, 1), init(3, 4), call(0, &[0, 2], &[0, 1]), free(0), free(1), free(2), free(3)]);
-    on_g(&called).is(21, 10, &["slot 1 is at parameter 1, slot 0 at parameter 0", "for one of the calls that lead to function 0 there is no path"]);
+    on_g(&called).is(21, 10, &["it is so in the call at line 9: call 0 at 0 2 with 0 1", "slot 1 is at location 2, slot 0 at location 0"]);
 }
 
 #[test]

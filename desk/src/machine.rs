@@ -124,12 +124,6 @@ impl<'a> Machine<'a> {
         }
     }
 
-    /// Where the job stands: the offset of what comes next in each block that is open, the outermost first, 0 for a return. With the slots this is all.
-    pub fn place(&self) -> Vec<u16> {
-        let offset = |rest: &Rest<'_>| if let Rest::Statements(statements) = rest { statements[0].at as u16 } else { 0 };
-        self.rest.iter().map(offset).collect()
-    }
-
     /// The next item moves, and a measurement in it has this outcome.
     pub fn moves(&mut self, outcome: bool) -> Effect {
         match self.next() {
@@ -153,7 +147,7 @@ impl<'a> Machine<'a> {
             }
         }
         match &statement.kind {
-            &Kind::Init { slot, location, .. } => {
+            &Kind::Init { slot, location } => {
                 let location = frame.location(location);
                 self.bind(slot, Slot::Qubit(location));
                 effect = Effect::Takes(location);

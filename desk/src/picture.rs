@@ -70,11 +70,6 @@ impl Picture {
         Picture { title: title.into(), about, marks: (0..device.locations()).map(mark).collect(), route: vec![] }
     }
 
-    /// The device with the jobs on the locations of a map, as a run leaves it.
-    pub fn of_map(device: &Device, map: &[u8], title: impl Into<String>) -> Picture {
-        Picture::of(device, None, title).with_map(map, &[])
-    }
-
     /// The same with the qubits of a map on it, and for each the slot that holds it, as far as slots are given.
     #[must_use]
     pub fn with_map(mut self, map: &[u8], slots: &[Option<u8>]) -> Picture {

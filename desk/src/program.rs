@@ -42,18 +42,56 @@ pub struct Statement {
 /// The kinds of statements. Slots, locations and parameters are the file's bytes.
 #[derive(Clone, Debug)]
 pub enum Kind {
-    Init { slot: u8, location: u8, magic: bool },
-    Free { slot: u8 },
-    Gate { slot: u8 },
-    Measure { into: u8, slot: u8 },
-    Merge { into: u8, first: u8, second: u8 },
-    Ref { into: u8, from: u8 },
-    Get { into: u8, from: u8 },
-    Set { reference: u8, from: u8 },
-    If { guard: u8, then: Block, otherwise: Block },
-    While { guard: u8, body: Block },
-    Call { function: usize, locations: Vec<u8>, slots: Vec<u8> },
-    Bool { into: u8, value: bool },
+    /// An `init` or a `magic`.
+    Init {
+        slot: u8,
+        location: u8,
+    },
+    Free {
+        slot: u8,
+    },
+    Gate {
+        slot: u8,
+    },
+    Measure {
+        into: u8,
+        slot: u8,
+    },
+    Merge {
+        into: u8,
+        first: u8,
+        second: u8,
+    },
+    Ref {
+        into: u8,
+        from: u8,
+    },
+    Get {
+        into: u8,
+        from: u8,
+    },
+    Set {
+        reference: u8,
+        from: u8,
+    },
+    If {
+        guard: u8,
+        then: Block,
+        otherwise: Block,
+    },
+    While {
+        guard: u8,
+        body: Block,
+    },
+    Call {
+        function: usize,
+        locations: Vec<u8>,
+        slots: Vec<u8>,
+    },
+    Bool {
+        into: u8,
+        value: bool,
+    },
 }
 
 /// A body: main's or a function's.
@@ -181,7 +219,7 @@ impl Reader<'_> {
 
     fn kind(&mut self) -> Kind {
         match self.byte() {
-            opcode @ (1 | 2) => Kind::Init { slot: self.byte(), location: self.byte(), magic: opcode == 2 },
+            1 | 2 => Kind::Init { slot: self.byte(), location: self.byte() },
             3 => Kind::Free { slot: self.byte() },
             4 => {
                 self.byte();

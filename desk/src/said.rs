@@ -21,11 +21,6 @@ impl Said {
         Said { accepted: true, out: out.into(), notes: vec![] }
     }
 
-    /// Refused, with this on standard output.
-    pub fn refused(out: impl Into<Vec<u8>>) -> Said {
-        Said { accepted: false, out: out.into(), notes: vec![] }
-    }
-
     /// Text for people or, where `json` is asked for, a line for machines.
     pub fn of(accepted: bool, json: bool, text: impl FnOnce() -> String, machine: impl FnOnce() -> Json) -> Said {
         let out = if json { format!("{}\n", machine()) } else { text() };

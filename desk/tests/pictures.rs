@@ -419,7 +419,7 @@ fn the_story_as_it_is_printed() {
 #[test]
 fn a_map_as_it_is_printed() {
     let device = device(6, &grid(2, 3), |location| [1, 1, 2, 0, 1, 2][location]);
-    let mut picture = Picture::of_map(&device, &[1, 0, 2, 0, 0, 0], "a map");
+    let mut picture = Picture::of(&device, None, "a map").with_map(&[1, 0, 2, 0, 0, 0], &[]);
     picture.marks[2] = Mark::Held(Job::TWO, Some(31));
     picture.route = vec![1, 4];
     let wanted = r"a map

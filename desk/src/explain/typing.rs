@@ -162,7 +162,7 @@ impl<'a> Walk<'a> {
             return state.refused(statement.at, why);
         }
         match &statement.kind {
-            &Kind::Init { slot, location, .. } => state.bind(slot, Holds::Qubit(location), statement.at),
+            &Kind::Init { slot, location } => state.bind(slot, Holds::Qubit(location), statement.at),
             &Kind::Free { slot } => state.lose(slot, Since::Freed(statement.at)),
             &Kind::Measure { into, .. } | &Kind::Merge { into, .. } | &Kind::Get { into, .. } | &Kind::Bool { into, .. } => {
                 state.bind(into, Holds::Bool, statement.at);
@@ -217,7 +217,7 @@ impl<'a> Walk<'a> {
     /// What a statement needs and has not, of several the first.
     fn needs(&self, kind: &Kind, state: &State) -> Option<Why> {
         match kind {
-            &Kind::Init { slot, location, .. } => state.unbound(slot).or_else(|| self.inside(location, None, state)).or_else(|| state.vacant(location, None)),
+            &Kind::Init { slot, location } => state.unbound(slot).or_else(|| self.inside(location, None, state)).or_else(|| state.vacant(location, None)),
             &Kind::Free { slot } | &Kind::Gate { slot } => state.qubit(slot),
             &Kind::Measure { into, slot } => state.unbound(into).or_else(|| state.qubit(slot)),
             &Kind::Merge { into, first, second } => {

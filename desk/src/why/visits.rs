@@ -232,7 +232,7 @@ impl<'a> Visits<'a> {
         for statement in &block.statements {
             see(statement, standing);
             match &statement.kind {
-                Kind::Init { slot, location, .. } => {
+                Kind::Init { slot, location } => {
                     let location = actual_one(*location, parameters);
                     standing.slots[usize::from(*slot)] = Some(location);
                     standing.occupied.put(location);

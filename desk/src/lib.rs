@@ -14,6 +14,7 @@ pub mod json;
 pub mod layout;
 pub mod listing;
 pub mod machine;
+mod numbers;
 pub mod output;
 pub mod page;
 pub mod picture;

@@ -8,6 +8,7 @@ use crate::explain::{refused, Given};
 use crate::input;
 use crate::json::Json;
 use crate::layout::Layout;
+use crate::numbers::many;
 use crate::picture::{Mark, Picture};
 use crate::said::{Said, Trouble};
 use crate::terminal;
@@ -67,7 +68,7 @@ impl Scene<'_> {
     fn found(&self, json: bool, route: &[u8]) -> Said {
         let edges = route.len().saturating_sub(1);
         let locations: Vec<String> = route.iter().map(u8::to_string).collect();
-        let line = format!("route: {} ({edges} {})", locations.join(" "), if edges == 1 { "edge" } else { "edges" });
+        let line = format!("route: {} ({})", locations.join(" "), many(edges, "edge"));
         let machine = || {
             let found = Json::object([("command", "route".into()), ("verdict", "accepted".into()), ("job", self.job.number().into())]);
             found.with("route", Json::list(route.iter().copied())).with("edges", edges)

@@ -8,9 +8,10 @@ use crate::explain::{refused, Given};
 use crate::input::{self, Named};
 use crate::json::Json;
 use crate::layout::Layout;
+use crate::numbers::many;
 use crate::picture::Picture;
 use crate::program::Program;
-use crate::replay::rows::{at, became, counted, rows, Row};
+use crate::replay::rows::{at, became, rows, Row};
 use crate::replay::{index, of_files, Item, Replay, Step};
 use crate::said::{Said, Trouble};
 use crate::terminal;
@@ -60,7 +61,7 @@ impl Run<'_> {
     }
 
     fn text(&self, width: Option<usize>) -> String {
-        let steps = counted(self.replay.steps.len());
+        let steps = many(self.replay.steps.len(), "step");
         let [first, second] = self.given.programs.map(|program| self.name(program));
         let mut text = format!("accepted: {first} as job 1 and {second} as job 2 on {}, {steps}\n\n", self.name(self.given.device));
         let rows = rows(self.programs, self.replay);

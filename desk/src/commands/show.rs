@@ -7,6 +7,7 @@ use crate::explain::{refused, Given};
 use crate::input::{self, Named};
 use crate::json::Json;
 use crate::layout::Layout;
+use crate::numbers::many;
 use crate::page::page;
 use crate::picture::{Mark, Picture};
 use crate::program::Program;
@@ -185,8 +186,4 @@ fn title(device: &Device, about: Option<Job>, name: &str) -> String {
 fn after(name: &str, replay: &Replay) -> String {
     let steps = many(replay.steps.len(), "step");
     format!("{name} after {steps}: job 1 moved {}, job 2 moved {}", replay.moved.first, replay.moved.second)
-}
-
-fn many(count: usize, what: &str) -> String {
-    format!("{count} {what}{}", if count == 1 { "" } else { "s" })
 }

@@ -1,8 +1,9 @@
 //! A refusal in a device file: the field at the place and what is in it.
 
 use super::excerpt::Excerpt;
-use super::part::{byte, looks_like, many, Part};
+use super::part::{byte, looks_like, Part};
 use super::words::Of;
+use crate::numbers::many;
 
 /// What there is to say of a number at a place of these bytes.
 pub fn said(number: u8, place: usize, bytes: &[u8]) -> Part {

@@ -2,11 +2,11 @@
 
 use super::excerpt::Excerpt;
 use super::found::whose;
-use super::part::{byte, many, Part};
-use super::path::listed;
+use super::part::{byte, Part};
 use super::words::Of;
 use super::Given;
 use crate::device::Device;
+use crate::numbers::{first_of, many};
 
 /// What there is to say of a number in no file. The place of 13 is the end.
 pub fn said(number: u8, place: usize, given: &Given) -> Part {
@@ -37,7 +37,9 @@ fn on_empty(device: &Device, given: &Given, first: u64, second: u64) -> Option<S
     let job = given.job?;
     let (first, second) = (usize::try_from(first).ok()?, usize::try_from(second).ok()?);
     Some(match device.route(job, &vec![0; device.locations()], first, second) {
-        Some(route) => format!("occupied locations are in the way: with every location free there is a route of {} locations, {}", route.len(), listed(&route)),
+        Some(route) => {
+            format!("occupied locations are in the way: with every location free there is a route of {} locations, {}", route.len(), first_of(&route))
+        }
         None => format!("no corridor joins {first} and {second} even with every location free"),
     })
 }

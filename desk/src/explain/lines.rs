@@ -4,7 +4,7 @@
 //! is said that `docs/listing.md` does not allow, and nothing where none is seen.
 
 use super::excerpt::{indent, printable};
-use super::part::many;
+use crate::numbers::many;
 use abwakiris::MOST_PROGRAM_BYTES;
 
 /// What the lines before have begun.

@@ -25,11 +25,6 @@ pub fn byte(byte: u8) -> String {
     format!("{byte} ({byte:02X} hex)")
 }
 
-/// So many of something, in words.
-pub fn many(number: usize, what: &str) -> String {
-    format!("{number} {what}{}", if number == 1 { "" } else { "s" })
-}
-
 /// What file these bytes look like by how they begin, if it is another one than they were read as.
 pub fn looks_like(bytes: &[u8]) -> Option<String> {
     let what = if bytes.starts_with(b"QLG") {

@@ -5,8 +5,9 @@
 
 use super::excerpt::Excerpt;
 use super::in_device::{field, mark, short, version, word};
-use super::part::{byte, looks_like, many, Part};
+use super::part::{byte, looks_like, Part};
 use super::words::Of;
+use crate::numbers::many;
 use abwakiris::{write_listing, MOST_PROGRAM_BYTES};
 
 /// What there is to say of a number at a place of these bytes.

@@ -3,6 +3,7 @@
 use super::found::Words;
 use super::part::Values;
 use crate::device::Device;
+use crate::numbers::first_of;
 use crate::program::Kind;
 use crate::why::region::Region;
 use crate::why::trail::Trail;
@@ -19,7 +20,7 @@ pub(super) fn at_merge(words: &Words, place: usize) -> Option<(Values, Vec<Strin
     let occupied = trail.last().standing.occupied;
     let mut lines: Vec<String> = calls(words, &trail).into_iter().collect();
     lines.push(format!("slot {first} is at location {one}, slot {second} at location {two}"));
-    lines.push(reached_words(words.device, words.job, |location| !occupied.has(location), one));
+    lines.push(reach(one, &reached(words.device, words.job, |location| !occupied.has(location), one)));
     Some((vec![("{slots}", format!("slots {first} and {second}"))], lines))
 }
 
@@ -31,7 +32,7 @@ fn calls(words: &Words, trail: &Trail<'_>) -> Option<String> {
     let text = words.program.listing.text(*lines.first()?);
     Some(match &lines[..] {
         [line] => format!("it is so in the call at line {line}: {text}"),
-        _ => format!("it is so in the calls at lines {}, the first of which is {text}", listed(&lines)),
+        _ => format!("it is so in the calls at lines {}, the first of which is {text}", first_of(&lines)),
     })
 }
 
@@ -50,22 +51,11 @@ pub fn reached(device: &Device, job: Job, free: impl Fn(usize) -> bool, end: usi
     (0..device.locations()).filter(|&location| is_reached[location]).collect()
 }
 
-/// Which free locations are reached from an end.
-fn reached_words(device: &Device, job: Job, free: impl Fn(usize) -> bool, end: usize) -> String {
-    match &reached(device, job, free, end)[..] {
+/// Which free locations are reached from an end, in words.
+pub fn reach(end: usize, reached: &[usize]) -> String {
+    match reached {
         [] => format!("no free location is reached from {end}"),
         [one] => format!("of the free locations only {one} is reached from {end}"),
-        many => format!("of the free locations {} are reached from {end}", listed(many)),
-    }
-}
-
-/// Numbers in words, the first of them where there are many.
-pub fn listed(numbers: &[usize]) -> String {
-    const MOST: usize = 12;
-    let words: Vec<String> = numbers.iter().take(MOST).map(usize::to_string).collect();
-    match words.split_last() {
-        Some((last, [])) => last.clone(),
-        Some((last, others)) if numbers.len() <= MOST => format!("{} and {last}", others.join(", ")),
-        _ => format!("{} and {} more", words.join(", "), numbers.len().saturating_sub(MOST)),
+        many => format!("of the free locations {} are reached from {end}", first_of(many)),
     }
 }

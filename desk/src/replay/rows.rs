@@ -1,6 +1,7 @@
 //! A run in words: a row for each step, and what became of each job.
 
 use super::{index, Item, Replay, Step};
+use crate::numbers::{joined, many};
 use crate::program::Program;
 use abwakiris::{Job, Told};
 
@@ -61,8 +62,7 @@ pub fn at(program: &Program, item: Item) -> Option<(usize, String)> {
 pub fn happened(step: &Step) -> String {
     match step.record.told {
         Told::Moved if step.record.edges > 0 => {
-            let edges = step.record.edges;
-            format!("moved, {edges} edge{}: {}", if edges == 1 { "" } else { "s" }, joined(&step.route))
+            format!("moved, {}: {}", many(usize::from(step.record.edges), "edge"), joined(&step.route, "-"))
         }
         Told::Moved => step.guard.map_or("moved".to_string(), |guard| format!("moved, {guard}")),
         Told::Finished => "finished".to_string(),
@@ -70,15 +70,9 @@ pub fn happened(step: &Step) -> String {
     }
 }
 
-/// The locations of a route: `0-1-2`.
-pub fn joined(route: &[usize]) -> String {
-    let locations: Vec<String> = route.iter().map(usize::to_string).collect();
-    locations.join("-")
-}
-
 /// What became of a job, in lines: how it ended, and where it is where it has not finished.
 pub fn became(program: &Program, replay: &Replay, job: Job) -> Vec<String> {
-    let moved = counted(usize::from(replay.moved(job)));
+    let moved = many(usize::from(replay.moved(job)), "step");
     let place = at(program, replay.ends(job)).map(|(line, text)| format!("line {line}, {text}"));
     match (replay.stuck(job), place) {
         (Some(stuck), Some(place)) => {
@@ -88,9 +82,4 @@ pub fn became(program: &Program, replay: &Replay, job: Job) -> Vec<String> {
         (None, Some(place)) => vec![format!("moved {moved}, still going"), format!("{place} comes next")],
         (_, None) => vec![format!("moved {moved}, finished")],
     }
-}
-
-/// So many steps, in words.
-pub fn counted(steps: usize) -> String {
-    format!("{steps} step{}", if steps == 1 { "" } else { "s" })
 }

@@ -1,7 +1,7 @@
 //! Words for a job that got stuck: what its statement met. That it is stuck, and for which reason, is the library's record.
 
 use crate::device::Device;
-use crate::explain::path::{listed, reached};
+use crate::explain::path::{reach, reached};
 use crate::machine::{Frame, Machine, Slot};
 use crate::program::{Kind, Statement};
 use abwakiris::{Job, Number};
@@ -63,15 +63,6 @@ impl Stuck {
                 self.found = format!("slot {first} is at location {from}, slot {second} at location {to}; {}", reach(from, &self.reached));
             }
         }
-    }
-}
-
-/// What is reached from an end, in words.
-fn reach(from: usize, reached: &[usize]) -> String {
-    match reached {
-        [] => format!("no free location is reached from {from}"),
-        [one] => format!("of the free locations only {one} is reached from {from}"),
-        many => format!("of the free locations {} are reached from {from}", listed(many)),
     }
 }
 

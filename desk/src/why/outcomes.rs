@@ -6,8 +6,8 @@ use super::lead::Lead;
 use super::search::Against;
 use super::steps::Step;
 use super::words::Words;
+use crate::numbers::many;
 use crate::program::Kind;
-use crate::replay::rows::counted;
 use abwakiris::{Job, MOST_STEPS};
 
 /// The most steps of a schedule that is written in one piece.
@@ -50,7 +50,7 @@ impl Words<'_> {
         let mut text = match chosen.len() {
             0 => "  No outcome matters: every run of the job comes there.\n".to_string(),
             1 => "  One outcome matters:\n".to_string(),
-            many => format!("  {many} outcomes matter:\n"),
+            number => format!("  {number} outcomes matter:\n"),
         };
         let shown = chosen.iter().take(MOST_OUTCOMES).map(|&(i, step)| self.step(i, step, format!("outcome {}", u8::from(step.outcome))));
         let last = steps.last().map(|last| self.step(steps.len() - 1, last, "stuck: no path".to_string()));
@@ -82,7 +82,7 @@ impl Words<'_> {
         if steps.len() <= ONE_PIECE {
             return format!("  To replay it:\n\n    {}\n", run(&digits));
         }
-        let mut text = format!("  The schedule, {}; --json has it in one piece:\n\n", counted(steps.len()));
+        let mut text = format!("  The schedule, {}; --json has it in one piece:\n\n", many(steps.len(), "step"));
         let tens: Vec<&str> = (0..digits.len()).step_by(20).map(|from| &digits[from..digits.len().min(from + 20)]).collect();
         for line in tens.chunks(5) {
             text.push_str(&format!("    {}\n", line.join(" ")));
@@ -131,7 +131,7 @@ impl Words<'_> {
             Some(Beside::Found { steps, parts_at }) => {
                 let (outcome, at) = steps.get(*parts_at).map_or((0, 0), |step| (u8::from(step.outcome), step.at));
                 let (line, text) = self.line(at);
-                let (ends, step) = (counted(steps.len()), parts_at + 1);
+                let (ends, step) = (many(steps.len(), "step"), parts_at + 1);
                 let with = format!("With outcome {outcome} at step {step} (line {line}, {text}) the job ends after {ends}");
                 format!("  {with}; with outcome {} it halts at step {halts}.\n\n{}", 1 - outcome, self.replay(steps))
             }

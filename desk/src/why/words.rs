@@ -7,6 +7,7 @@ use super::way::Blocked;
 use super::Why;
 use crate::device::Device;
 use crate::layout::Layout;
+use crate::numbers::{joined, listed};
 use crate::picture::{Mark, Picture};
 use crate::program::{Body, Kind, Program};
 use crate::terminal;
@@ -204,14 +205,5 @@ fn holders(held: &Held) -> String {
 
 /// Locations, or parameters, in order.
 fn in_order(locations: &[usize]) -> String {
-    locations.iter().map(usize::to_string).collect::<Vec<String>>().join(" ")
-}
-
-/// Numbers with a word before the last.
-fn listed(numbers: &[usize], word: &str) -> String {
-    let words: Vec<String> = numbers.iter().map(usize::to_string).collect();
-    match words.split_last() {
-        Some((last, others)) if !others.is_empty() => format!("{} {word} {last}", others.join(", ")),
-        _ => words.concat(),
-    }
+    joined(locations, " ")
 }

@@ -19,6 +19,7 @@ pub mod output;
 pub mod page;
 pub mod picture;
 pub mod program;
+pub mod region;
 pub mod replay;
 pub mod said;
 pub mod svg;

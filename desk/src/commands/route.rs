@@ -10,6 +10,7 @@ use crate::json::Json;
 use crate::layout::Layout;
 use crate::numbers::many;
 use crate::picture::{Mark, Picture};
+use crate::region::{Locations, Region};
 use crate::said::{Said, Trouble};
 use crate::terminal;
 use abwakiris::{Job, Number, MOST_LOCATIONS};
@@ -96,14 +97,10 @@ impl Scene<'_> {
 
     /// Marks the free locations that are reached over free ones from the first end.
     fn reach(&self, marks: &mut [Mark]) {
-        let mut next: Vec<usize> = marks.iter().position(|mark| *mark == Mark::First).into_iter().collect();
-        while let Some(location) = next.pop() {
-            for &neighbour in self.device.near(location) {
-                if marks[neighbour] == Mark::Free {
-                    marks[neighbour] = Mark::Reached;
-                    next.push(neighbour);
-                }
-            }
+        let occupied: Locations = (0..marks.len()).filter(|&location| marks[location] != Mark::Free).collect();
+        if let Some(first) = marks.iter().position(|mark| *mark == Mark::First) {
+            let reached = Region::of(self.device, self.job).reached(&occupied, first);
+            reached.list().into_iter().for_each(|location| marks[location] = Mark::Reached);
         }
     }
 }

@@ -2,13 +2,11 @@
 
 use super::found::Words;
 use super::part::Values;
-use crate::device::Device;
 use crate::numbers::first_of;
 use crate::program::Kind;
-use crate::why::region::Region;
+use crate::region::Region;
 use crate::why::trail::Trail;
 use crate::why::visits::Visits;
-use abwakiris::Job;
 
 /// What is found at a merge: the calls that the check comes by, where its qubits are, and which free locations are reached from the first.
 pub(super) fn at_merge(words: &Words, place: usize) -> Option<(Values, Vec<String>)> {
@@ -17,10 +15,10 @@ pub(super) fn at_merge(words: &Words, place: usize) -> Option<(Values, Vec<Strin
     let mut visits = Visits::of(words.program, Region::of(words.device, words.job));
     let trail = Trail::find(&mut visits).filter(|trail| trail.merge().at == place)?;
     let [one, two] = trail.ends;
-    let occupied = trail.last().standing.occupied;
+    let reached = visits.region.reached(&trail.last().standing.occupied, one).list();
     let mut lines: Vec<String> = calls(words, &trail).into_iter().collect();
     lines.push(format!("slot {first} is at location {one}, slot {second} at location {two}"));
-    lines.push(reach(one, &reached(words.device, words.job, |location| !occupied.has(location), one)));
+    lines.push(reach(one, &reached));
     Some((vec![("{slots}", format!("slots {first} and {second}"))], lines))
 }
 
@@ -34,21 +32,6 @@ fn calls(words: &Words, trail: &Trail<'_>) -> Option<String> {
         [line] => format!("it is so in the call at line {line}: {text}"),
         _ => format!("it is so in the calls at lines {}, the first of which is {text}", first_of(&lines)),
     })
-}
-
-/// The free locations of a region that are reached from an end over free locations, rising.
-pub fn reached(device: &Device, job: Job, free: impl Fn(usize) -> bool, end: usize) -> Vec<usize> {
-    let mut is_reached = vec![false; device.locations()];
-    let mut waiting: Vec<usize> = Some(end).filter(|&end| end < device.locations()).into_iter().collect();
-    while let Some(here) = waiting.pop() {
-        for &next in device.near(here) {
-            if next != end && device.has(job, next) && free(next) && !is_reached[next] {
-                is_reached[next] = true;
-                waiting.push(next);
-            }
-        }
-    }
-    (0..device.locations()).filter(|&location| is_reached[location]).collect()
 }
 
 /// Which free locations are reached from an end, in words.

@@ -1,9 +1,10 @@
 //! Words for a job that got stuck: what its statement met. That it is stuck, and for which reason, is the library's record.
 
 use crate::device::Device;
-use crate::explain::path::{reach, reached};
+use crate::explain::path::reach;
 use crate::machine::{Frame, Machine, Slot};
 use crate::program::{Kind, Statement};
+use crate::region::{Locations, Region};
 use abwakiris::{Job, Number};
 
 /// How a job got stuck.
@@ -142,7 +143,8 @@ impl<'a> Before<'a> {
 
     /// The free locations of the region that are reached from this one, rising.
     fn reached(&self, from: usize) -> Vec<usize> {
-        reached(self.device, self.job, |location| self.map.get(location) == Some(&0), from)
+        let occupied: Locations = (0..self.map.len()).filter(|&location| self.map[location] != 0).collect();
+        Region::of(self.device, self.job).reached(&occupied, from).list()
     }
 }
 

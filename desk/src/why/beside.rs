@@ -2,12 +2,12 @@
 //!
 //! If some run that begins with the first k steps ends well, then so does one that begins with fewer. So the longest beginning is found by halving.
 
-use super::region::Locations;
 use super::search::{Run, Search, Start, Where};
 use super::steps::{all_moved_until, records, schedule, write, Step};
 use super::visits::Visit;
 use crate::machine::{Effect, Machine, Next, Slot};
 use crate::program::{Body, Kind, Statement};
+use crate::region::Locations;
 use abwakiris::{Told, MOST_STEPS};
 
 /// What the search for a run that does not halt came to.

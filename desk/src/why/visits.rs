@@ -4,8 +4,8 @@
 //! alike, and a loop keeps its qubits. So a body is gone over once for each visit, and what was seen there is remembered. A visit is clear where every merge in
 //! it and below it has a path; only those that are not get a number.
 
-use super::region::{Locations, Region};
 use crate::program::{Block, Body, Kind, Program, Statement};
+use crate::region::{Locations, Region};
 use std::collections::HashMap;
 use std::rc::Rc;
 

@@ -2,8 +2,8 @@
 //!
 //! Every corridor that is named here is the library's route.
 
-use super::region::{Locations, Region};
 use super::trail::Trail;
+use crate::region::{Locations, Region};
 use std::collections::VecDeque;
 
 /// The device as the merge finds it.

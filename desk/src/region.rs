@@ -1,6 +1,7 @@
-//! The region of a job as sets of locations, for walks that ask for many corridors.
+//! The region of a job as sets of locations: what is reached in it over free locations.
 //!
-//! What is found here only leads the way: the merge that is named, and each corridor that is shown, is asked of the library again.
+//! A set is four words, since the search of `why` asks for many corridors. What is found here only leads the way and finds words: the merge that is named,
+//! and each corridor that is shown, is asked of the library again.
 
 use crate::device::Device;
 use abwakiris::Job;

@@ -20,6 +20,11 @@ impl Json {
         Json::Object(members.into_iter().map(|(name, value)| (name.to_string(), value)).collect())
     }
 
+    /// What a command's line begins with: its name, and the library's verdict.
+    pub fn head(command: &str, accepted: bool) -> Json {
+        Json::object([("command", command.into()), ("verdict", if accepted { "accepted" } else { "refused" }.into())])
+    }
+
     /// The object with a member more at its end; anything else as it is.
     #[must_use]
     pub fn with(mut self, name: &str, value: impl Into<Json>) -> Json {

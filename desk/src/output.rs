@@ -35,8 +35,7 @@ pub fn bytes(asked: &Asked, what: &str, made: &[u8]) -> Result<Said, Trouble> {
         return trouble(format!("{what} is bytes, not text: name a file with -o FILE, or send standard output to a file or a pipe"));
     }
     let hex = || made.iter().map(|byte| format!("{byte:02x}")).collect::<String>();
-    let head = || Json::object([("command", asked.command.name.into()), ("verdict", "accepted".into())]);
-    text(asked, made, || head().with("bytes", made.len()).with("hex", hex()))
+    text(asked, made, || Json::head(asked.command.name, true).with("bytes", made.len()).with("hex", hex()))
 }
 
 /// Writes a file whole: beside its place first, so that an error leaves what was there.

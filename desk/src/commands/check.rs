@@ -1,10 +1,8 @@
 //! `abwakiris check`: accepted with its numbers, or the refusal in words.
 
+use super::common::{refused, Check};
 use super::Command;
 use crate::args::{Asked, Takes};
-use crate::explain::{refused, Given};
-use crate::input;
-use crate::json::Json;
 use crate::said::{Said, Trouble};
 
 pub const COMMAND: Command = Command {
@@ -20,24 +18,9 @@ pub const COMMAND: Command = Command {
 };
 
 fn does(asked: &Asked) -> Result<Said, Trouble> {
-    let (device, program) = (input::file(&asked.words[0])?, input::file(&asked.words[1])?);
-    let given = Given { device: Some(&device), ..Given::default() };
-    let job = match asked.job()? {
-        Ok(job) => job,
-        Err(refusal) => {
-            let given = Given { programs: [Some(&program), None], job_number: asked.number(Takes::Job)?, ..given };
-            return Ok(refused("check", asked.json, refusal, &given));
-        }
-    };
-    let mut given = Given { job: Some(job), ..given };
-    given.programs[usize::from(job.number()) - 1] = Some(&program);
-    Ok(match abwakiris::check(&device.bytes, &program.bytes, job) {
-        Ok(count) => Said::of(
-            true,
-            asked.json,
-            || format!("accepted: {} on {} for {job}\ncommands: {count}\n", program.name, device.name),
-            || Json::object([("command", "check".into()), ("verdict", "accepted".into()), ("job", job.number().into()), ("count", count.into())]),
-        ),
-        Err(refusal) => refused("check", asked.json, refusal, &given),
+    let check = Check::of(asked)?;
+    Ok(match check.verdict() {
+        Ok(accepted) => check.accepted(asked, accepted, ""),
+        Err(refusal) => refused(asked, refusal, &check.given()),
     })
 }

@@ -1,12 +1,65 @@
-//! What several commands take alike: occupied locations, a job's program, the width of a picture.
+//! What several commands have alike: a check and its files, a refusal, occupied locations, a job's program, the layout of a picture.
 
 use crate::args::{number, Asked, Takes};
 use crate::device::Device;
+use crate::explain::{self, Given};
 use crate::input::{file, Named};
+use crate::json::Json;
 use crate::layout::Layout;
 use crate::program::Program;
-use crate::said::{trouble, Trouble};
+use crate::replay::index;
+use crate::said::{trouble, Said, Trouble};
+use abwakiris::{Job, Refusal};
 use std::ffi::OsStr;
+
+/// What a command says where the library refused.
+pub fn refused(asked: &Asked, refusal: Refusal, given: &Given) -> Said {
+    explain::refused(asked.command.name, asked.json, refusal, given)
+}
+
+/// The files of a check, and its job.
+pub struct Check {
+    device: Named,
+    program: Named,
+    job: Result<Job, Refusal>,
+    /// The number that was given for the job.
+    number: Option<u64>,
+}
+
+impl Check {
+    /// Reads the files.
+    ///
+    /// # Errors
+    ///
+    /// Where one of them cannot be read, or the job is no number.
+    pub fn of(asked: &Asked) -> Result<Check, Trouble> {
+        let (device, program) = (file(&asked.words[0])?, file(&asked.words[1])?);
+        Ok(Check { device, program, job: asked.job()?, number: asked.number(Takes::Job)? })
+    }
+
+    /// What a refusal is explained by.
+    pub fn given(&self) -> Given<'_> {
+        let mut programs = [None; 2];
+        programs[self.job.map_or(0, index)] = Some(&self.program);
+        Given { device: Some(&self.device), programs, job: self.job.ok(), job_number: self.number, ..Given::default() }
+    }
+
+    /// The library's verdict: for this job so many commands.
+    ///
+    /// # Errors
+    ///
+    /// The library's refusal.
+    pub fn verdict(&self) -> Result<(Job, u32), Refusal> {
+        let job = self.job?;
+        Ok((job, abwakiris::check(&self.device.bytes, &self.program.bytes, job)?))
+    }
+
+    /// What is said of a program that the library accepts; to people these lines more.
+    pub fn accepted(&self, asked: &Asked, (job, count): (Job, u32), more: &str) -> Said {
+        let text = || format!("accepted: {} on {} for {job}\ncommands: {count}\n{more}", self.program.name, self.device.name);
+        Said::of(true, asked.json, text, || Json::head(asked.command.name, true).with("job", job.number()).with("count", count))
+    }
+}
 
 /// The occupancy that `--occupied` gives: a byte for each location, 1 where it is occupied.
 ///
@@ -42,23 +95,11 @@ pub fn job_program(word: &OsStr) -> Result<Named, Trouble> {
     file(word)
 }
 
-/// The width that `--width` gives.
-///
-/// # Errors
-///
-/// Where it is no number, or 0.
-pub fn width(asked: &Asked) -> Result<Option<usize>, Trouble> {
-    match asked.number(Takes::Width)? {
-        Some(0) => trouble("--width takes a number from 1 on, not 0"),
-        width => Ok(width.map(|width| usize::try_from(width).unwrap_or(usize::MAX))),
-    }
-}
-
 /// The layout of a device, in rows of so many locations where `--width` is given.
 ///
 /// # Errors
 ///
 /// Where the width is no number, or 0.
 pub fn layout(asked: &Asked, device: &Device) -> Result<Layout, Trouble> {
-    Ok(Layout::of(device, width(asked)?))
+    Ok(Layout::of(device, asked.width()?))
 }

@@ -1,8 +1,9 @@
 //! `abwakiris list`: the listing of a program.
 
+use super::common::refused;
 use super::Command;
 use crate::args::{Asked, Takes};
-use crate::explain::{refused, Given};
+use crate::explain::Given;
 use crate::json::Json;
 use crate::listing::Line;
 use crate::program::Program;
@@ -26,13 +27,12 @@ fn does(asked: &Asked) -> Result<Said, Trouble> {
     let read = abwakiris::write_listing(&file.bytes).and_then(|text| Ok((text, Program::read(&file.bytes)?)));
     match read {
         Ok((text, program)) => output::text(asked, text.as_bytes(), || lines(&program)),
-        Err(refusal) => Ok(refused("list", asked.json, refusal, &Given { programs: [Some(&file), None], ..Given::default() })),
+        Err(refusal) => Ok(refused(asked, refusal, &Given { programs: [Some(&file), None], ..Given::default() })),
     }
 }
 
 /// The lines for machines, each with its number and the offset of its first byte in the program.
 fn lines(program: &Program) -> Json {
     let line = |(i, line): (usize, &Line)| Json::object([("number", (i + 1).into()), ("offset", line.at.into()), ("text", line.text.as_str().into())]);
-    let lines = Json::list(program.listing.lines.iter().enumerate().map(line));
-    Json::object([("command", "list".into()), ("verdict", "accepted".into()), ("lines", lines)])
+    Json::head(COMMAND.name, true).with("lines", Json::list(program.listing.lines.iter().enumerate().map(line)))
 }

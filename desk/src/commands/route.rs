@@ -1,10 +1,10 @@
 //! `abwakiris route`: the route between two locations.
 
-use super::common::{layout, occupied};
+use super::common::{layout, occupied, refused};
 use super::Command;
 use crate::args::{number, Asked, Takes};
 use crate::device::Device;
-use crate::explain::{refused, Given};
+use crate::explain::Given;
 use crate::input;
 use crate::json::Json;
 use crate::layout::Layout;
@@ -34,19 +34,19 @@ fn does(asked: &Asked) -> Result<Said, Trouble> {
     let given = Given { device: Some(&file), ends: Some(ends), ..Given::default() };
     let job = match asked.job()? {
         Ok(job) => job,
-        Err(refusal) => return Ok(refused("route", asked.json, refusal, &Given { job_number: asked.number(Takes::Job)?, ..given })),
+        Err(refusal) => return Ok(refused(asked, refusal, &Given { job_number: asked.number(Takes::Job)?, ..given })),
     };
     let given = Given { job: Some(job), ..given };
     let device = match Device::read(&file.bytes) {
         Ok(device) => device,
-        Err(refusal) => return Ok(refused("route", asked.json, refusal, &given)),
+        Err(refusal) => return Ok(refused(asked, refusal, &given)),
     };
     let scene = Scene { device: &device, job, occupied: occupied(asked, &device)?, ends, layout: layout(asked, &device)? };
     let mut buffer = [0; MOST_LOCATIONS];
     Ok(match abwakiris::route(&device.bytes, job, &scene.occupied, ends[0], ends[1], &mut buffer) {
         Ok(length) => scene.found(asked.json, &buffer[..length]),
         Err(refusal) => {
-            let mut said = refused("route", asked.json, refusal, &given);
+            let mut said = refused(asked, refusal, &given);
             if refusal.number == Number::NoPath && !asked.json {
                 said.out.extend_from_slice(format!("\n{}", scene.drawn(&[])).as_bytes());
             }
@@ -71,7 +71,7 @@ impl Scene<'_> {
         let locations: Vec<String> = route.iter().map(u8::to_string).collect();
         let line = format!("route: {} ({})", locations.join(" "), many(edges, "edge"));
         let machine = || {
-            let found = Json::object([("command", "route".into()), ("verdict", "accepted".into()), ("job", self.job.number().into())]);
+            let found = Json::head(COMMAND.name, true).with("job", self.job.number());
             found.with("route", Json::list(route.iter().copied())).with("edges", edges)
         };
         Said::of(true, json, || format!("{line}\n\n{}", self.drawn(route)), machine)

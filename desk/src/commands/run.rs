@@ -1,10 +1,10 @@
 //! `abwakiris run`: a run of two jobs, step by step, and the map that it leaves.
 
-use super::common::{job_program, width};
+use super::common::{job_program, refused};
 use super::Command;
 use crate::args::{Asked, Takes};
 use crate::device::Device;
-use crate::explain::{refused, Given};
+use crate::explain::Given;
 use crate::input::{self, Named};
 use crate::json::Json;
 use crate::layout::Layout;
@@ -33,13 +33,13 @@ pub const COMMAND: Command = Command {
 };
 
 fn does(asked: &Asked) -> Result<Said, Trouble> {
-    let width = width(asked)?;
+    let width = asked.width()?;
     let device = input::file(&asked.words[0])?;
     let programs = [job_program(&asked.words[1])?, job_program(&asked.words[2])?];
     let schedule = input::schedule(&asked.words[3])?;
     let given = Given { device: Some(&device), programs: [Some(&programs[0]), Some(&programs[1])], schedule: Some(&schedule), ..Given::default() };
     match of_files(&device.bytes, [&programs[0].bytes, &programs[1].bytes], &schedule.bytes) {
-        Err(refusal) => Ok(refused("run", asked.json, refusal, &given)),
+        Err(refusal) => Ok(refused(asked, refusal, &given)),
         Ok((device, read, replay)) => {
             let run = Run { given: &given, device, programs: [&read[0], &read[1]], replay: &replay };
             Ok(Said::of(true, asked.json, || run.text(width), || run.json()))
@@ -86,14 +86,11 @@ impl Run<'_> {
 
     fn json(&self) -> Json {
         let steps = self.replay.steps.iter().enumerate().map(|(i, step)| self.step(i + 1, step));
-        Json::object([
-            ("command", "run".into()),
-            ("verdict", "accepted".into()),
-            ("steps", Json::list(steps)),
-            ("moved", Json::list(Job::ALL.iter().map(|&job| self.replay.moved(job)))),
-            ("jobs", Json::list(Job::ALL.iter().map(|&job| self.job(job)))),
-            ("map", Json::list(self.replay.map.iter().copied())),
-        ])
+        Json::head(COMMAND.name, true)
+            .with("steps", Json::list(steps))
+            .with("moved", Json::list(Job::ALL.iter().map(|&job| self.replay.moved(job))))
+            .with("jobs", Json::list(Job::ALL.iter().map(|&job| self.job(job))))
+            .with("map", Json::list(self.replay.map.iter().copied()))
     }
 
     fn step(&self, number: usize, step: &Step) -> Json {

@@ -3,7 +3,7 @@
 use super::{common, Command};
 use crate::args::{Asked, Takes};
 use crate::device::Device;
-use crate::explain::{refused, Given};
+use crate::explain::Given;
 use crate::input::{self, Named};
 use crate::json::Json;
 use crate::layout::Layout;
@@ -63,7 +63,6 @@ struct Scene {
 
 fn does(asked: &Asked) -> Result<Said, Trouble> {
     let (form, job_number) = (form(asked)?, asked.number(Takes::Job)?);
-    common::width(asked)?; // what is no number is told before any refusal
     let files = files(asked, form)?;
     let device = input::file(&asked.words[0])?;
     let mut given = Given { device: Some(&device), job_number, ..Given::default() };
@@ -73,7 +72,7 @@ fn does(asked: &Asked) -> Result<Said, Trouble> {
     }
     match Scene::read(job_number, &device, files.as_ref()) {
         Ok(scene) => scene.drawn(asked, form, &given),
-        Err(refusal) => Ok(refused(COMMAND.name, asked.json, refusal, &given)),
+        Err(refusal) => Ok(common::refused(asked, refusal, &given)),
     }
 }
 
@@ -139,7 +138,7 @@ impl Scene {
             head.with("row", row).with("column", column).with("occupied", held.0.is_some() || *mark == Mark::Occupied).with("job", held.0).with("slot", held.1)
         };
         let edges = Json::list(self.device.edges.iter().map(|&(a, b)| vec![a, b]));
-        let head = Json::object([("command", COMMAND.name.into()), ("verdict", "accepted".into()), ("title", picture.title.as_str().into())]);
+        let head = Json::head(COMMAND.name, true).with("title", picture.title.as_str());
         head.with("locations", Json::list(picture.marks.iter().enumerate().map(location))).with("edges", edges)
     }
 

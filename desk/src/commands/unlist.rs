@@ -1,8 +1,9 @@
 //! `abwakiris unlist`: the program of a listing.
 
+use super::common::refused;
 use super::Command;
 use crate::args::{Asked, Takes};
-use crate::explain::{refused, Given};
+use crate::explain::Given;
 use crate::said::{Said, Trouble};
 use crate::{input, output};
 
@@ -22,6 +23,6 @@ fn does(asked: &Asked) -> Result<Said, Trouble> {
     let text = input::file(&asked.words[0])?;
     match abwakiris::read_listing(&text.bytes) {
         Ok(program) => output::bytes(asked, "a program", &program),
-        Err(refusal) => Ok(refused("unlist", asked.json, refusal, &Given { text: Some(&text), ..Given::default() })),
+        Err(refusal) => Ok(refused(asked, refusal, &Given { text: Some(&text), ..Given::default() })),
     }
 }

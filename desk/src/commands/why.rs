@@ -1,10 +1,10 @@
 //! `abwakiris why`: why a program is refused: the trail, the device there, the outcomes that lead there.
 
-use super::{common, Command};
+use super::common::{layout, refused, Check};
+use super::Command;
 use crate::args::{Asked, Takes};
 use crate::device::Device;
-use crate::explain::{explained, refused, Explained, Given};
-use crate::input;
+use crate::explain::{explained, Explained, Given};
 use crate::json::Json;
 use crate::program::Program;
 use crate::said::{quoted, shown, trouble, Said, Trouble};
@@ -29,8 +29,7 @@ pub const COMMAND: Command = Command {
 };
 
 fn does(asked: &Asked) -> Result<Said, Trouble> {
-    common::width(asked)?; // bad usage is told before any refusal
-    picture(asked)?;
+    picture(asked)?; // bad usage is told before any refusal
     let said = answered(asked)?;
     let is_missing = asked.value(Takes::Output).map_or(false, |_| !said.pictured);
     Ok(if is_missing { said.said.with_note("no picture is written: it shows a merge without a path, 21".to_string()) } else { said.said })
@@ -49,26 +48,13 @@ impl Answered {
 }
 
 fn answered(asked: &Asked) -> Result<Answered, Trouble> {
-    let (device, program) = (input::file(&asked.words[0])?, input::file(&asked.words[1])?);
-    let given = Given { device: Some(&device), ..Given::default() };
-    let job = match asked.job()? {
-        Ok(job) => job,
-        Err(refusal) => {
-            let given = Given { programs: [Some(&program), None], job_number: asked.number(Takes::Job)?, ..given };
-            return Answered::in_words(refused("why", asked.json, refusal, &given));
-        }
-    };
-    let mut given = Given { job: Some(job), ..given };
-    given.programs[usize::from(job.number()) - 1] = Some(&program);
-    match abwakiris::check(&device.bytes, &program.bytes, job) {
-        Ok(count) => Answered::in_words(Said::of(
-            true,
-            asked.json,
-            || format!("accepted: {} on {} for {job}\ncommands: {count}\nnothing to explain\n", program.name, device.name),
-            || Json::object([("command", "why".into()), ("verdict", "accepted".into()), ("job", job.number().into()), ("count", count.into())]),
-        )),
-        Err(refusal) if refusal.number == Number::NoPath => without_path(asked, refusal, &given, job),
-        Err(refusal) => Answered::in_words(refused("why", asked.json, refusal, &given)),
+    let check = Check::of(asked)?;
+    match check.verdict() {
+        Ok(accepted) => Answered::in_words(check.accepted(asked, accepted, "nothing to explain\n")),
+        Err(refusal) => match check.given() {
+            given @ Given { job: Some(job), .. } if refusal.number == Number::NoPath => without_path(asked, refusal, &given, job),
+            given => Answered::in_words(refused(asked, refusal, &given)),
+        },
     }
 }
 
@@ -81,8 +67,8 @@ fn without_path(asked: &Asked, refusal: Refusal, given: &Given, job: Job) -> Res
             let [device_name, program_name] = [&asked.words[0], &asked.words[1]].map(|word| in_shell(word));
             let words = Words { why: &why, device, program, job, names: [&device_name, &program_name] };
             let said = Explained { see: None, ..explained(refusal, given) }; // this is the command that says more
-            let head = Json::object([("command", "why".into()), ("verdict", "refused".into()), ("job", job.number().into())]);
-            let layout = common::layout(asked, device)?;
+            let head = Json::head(COMMAND.name, false).with("job", job.number());
+            let layout = layout(asked, device)?;
             let written = picture(asked)?;
             if let Some(name) = written {
                 output::write(name, svg::drawn(device, &layout, &words.picture()).as_bytes())?;
@@ -92,7 +78,7 @@ fn without_path(asked: &Asked, refusal: Refusal, given: &Given, job: Job) -> Res
             return Ok(Answered { said: Said::of(false, asked.json, text, machine), pictured: true });
         }
     }
-    Answered::in_words(refused("why", asked.json, refusal, given))
+    Answered::in_words(refused(asked, refusal, given))
 }
 
 /// The file that `-o` names for the picture of the device there.

@@ -8,7 +8,7 @@ use super::{count, job_of, partial, path, typing, Given};
 use crate::device::Device;
 use crate::input::Named;
 use crate::program::Program;
-use abwakiris::{Job, Refusal};
+use abwakiris::{File, Job, Refusal};
 use std::collections::BTreeSet;
 
 /// What there is to say of a refusal in these bytes.
@@ -61,7 +61,7 @@ fn without_path(part: &mut Part, words: &Words, place: usize, given: &Given) {
         part.found = found;
     }
     let name = |named: Option<&Named>, otherwise: &str| named.filter(|named| is_word(&named.name)).map_or(otherwise.to_string(), |named| named.name.clone());
-    let program = given.programs[usize::from(words.job.number()) - 1];
+    let program = given.file(File::Program(Some(words.job)));
     let job = if words.job == Job::ONE { "" } else { " --job 2" };
     part.see = Some(format!(
         "abwakiris why {} {}{job} shows the calls, the device at that moment and the outcomes that lead there",

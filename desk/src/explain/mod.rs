@@ -16,6 +16,7 @@ pub mod words;
 
 use crate::input::Named;
 use crate::json::Json;
+use crate::replay::index;
 use crate::said::{shown, Said};
 use abwakiris::{File, Job, Refusal};
 use excerpt::Excerpt;
@@ -48,7 +49,7 @@ impl<'a> Given<'a> {
             File::Schedule => self.schedule,
             File::Listing => self.text,
             File::Program(None) => self.programs[0],
-            File::Program(Some(job)) => self.programs[usize::from(job.number()) - 1],
+            File::Program(Some(job)) => self.programs[index(job)],
             _ => None,
         }
     }
@@ -193,7 +194,7 @@ fn kind(file: File) -> &'static str {
 pub fn refused(command: &str, json: bool, refusal: Refusal, given: &Given) -> Said {
     let explained = explained(refusal, given);
     let machine = || {
-        let head = Json::object([("command", command.into()), ("verdict", "refused".into())]);
+        let head = Json::head(command, false);
         let head = if let Some(job) = given.job { head.with("job", job.number()) } else { head };
         head.with("refusal", explained.json())
     };

@@ -97,57 +97,25 @@ pub fn index(job: Job) -> usize {
     usize::from(job.number() == 2)
 }
 
-/// The run of these programs under a schedule.
-///
-/// # Errors
-///
-/// The library's refusal.
-pub fn replay(device: &Device, programs: [&Program; 2], schedule: &[u8]) -> Result<Replay, Refusal> {
-    let recorded = Recorded::by_library(&device.bytes, programs.map(|program| &program.bytes[..]), schedule)?;
-    followed(device, programs, schedule, recorded)
-}
-
 /// The run of these files under a schedule, and the files taken apart.
 ///
 /// # Errors
 ///
 /// The library's refusal of the run, which names the file.
 pub fn of_files(device: &[u8], programs: [&[u8]; 2], schedule: &[u8]) -> Result<(Device, [Program; 2], Replay), Refusal> {
-    let recorded = Recorded::by_library(device, programs, schedule)?;
+    let mut records = vec![0; RECORD_BYTES * schedule.len()];
+    let mut map = vec![0; MOST_LOCATIONS];
+    let moved = abwakiris::run(device, programs[0], programs[1], schedule, &mut records, &mut map)?;
     let device = Device::read(device)?;
     let programs = [Program::read(programs[0])?, Program::read(programs[1])?];
-    let replay = followed(&device, [&programs[0], &programs[1]], schedule, recorded)?;
-    Ok((device, programs, replay))
-}
-
-/// What the library wrote of a run.
-struct Recorded {
-    records: Vec<u8>,
-    map: Vec<u8>,
-    moved: Moved,
-}
-
-impl Recorded {
-    fn by_library(device: &[u8], programs: [&[u8]; 2], schedule: &[u8]) -> Result<Recorded, Refusal> {
-        let mut records = vec![0; RECORD_BYTES * schedule.len()];
-        let mut map = vec![0; MOST_LOCATIONS];
-        let moved = abwakiris::run(device, programs[0], programs[1], schedule, &mut records, &mut map)?;
-        Ok(Recorded { records, map, moved })
-    }
-}
-
-/// Follows the records of a run.
-fn followed(device: &Device, programs: [&Program; 2], schedule: &[u8], recorded: Recorded) -> Result<Replay, Refusal> {
-    let machines = programs.map(Machine::new);
-    let begins = [machines[0].next().into(), machines[1].next().into()];
-    let n = device.locations();
-    let mut followed = Followed { device, machines, map: vec![0; n], slots: vec![None; n], stuck: [None, None], steps: vec![] };
-    for (&byte, record) in schedule.iter().zip(Records::new(&recorded.records)) {
+    map.truncate(device.locations());
+    let mut followed = Followed::new(&device, [&programs[0], &programs[1]]);
+    let begins = [followed.machines[0].next().into(), followed.machines[1].next().into()];
+    for (&byte, record) in schedule.iter().zip(Records::new(&records)) {
         followed.step(Job::try_from(u64::from(byte >> 4))?, byte & 1 == 1, record);
     }
-    let mut map = recorded.map;
-    map.truncate(n);
-    Ok(Replay { steps: followed.steps, map, moved: recorded.moved, begins, stuck: followed.stuck })
+    let replay = Replay { steps: followed.steps, map, moved, begins, stuck: followed.stuck };
+    Ok((device, programs, replay))
 }
 
 /// Both jobs, as far as the records were followed.
@@ -161,6 +129,11 @@ struct Followed<'a> {
 }
 
 impl<'a> Followed<'a> {
+    fn new(device: &'a Device, programs: [&'a Program; 2]) -> Followed<'a> {
+        let n = device.locations();
+        Followed { device, machines: programs.map(Machine::new), map: vec![0; n], slots: vec![None; n], stuck: [None, None], steps: vec![] }
+    }
+
     fn step(&mut self, job: Job, outcome: bool, record: Record) {
         let machine = &mut self.machines[index(job)];
         let next = machine.next();

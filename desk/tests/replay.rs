@@ -13,7 +13,7 @@ mod repository {
 use abwakiris::{Job, Moved, Number, Record, Records, Refusal, Told};
 use abwakiris_desk::device::Device;
 use abwakiris_desk::program::Program;
-use abwakiris_desk::replay::{of_files, replay, rows, Item, Replay};
+use abwakiris_desk::replay::{of_files, rows, Item, Replay};
 use repository::files::*;
 use repository::generator::{self, Case, Random};
 // the generator names these at the top
@@ -86,7 +86,7 @@ fn follow(files: &Files, tally: &mut Tally) {
         Ok(run) => run,
     };
     tally.runs += 1;
-    let (device, programs, run) = files.replayed().unwrap();
+    let (_, _, run) = files.replayed().unwrap();
     assert_eq!((run.steps.len(), run.moved, &run.map), (files.schedule.len(), moved, &map));
     let mut before = vec![0; device.locations()];
     for (i, (step, record)) in run.steps.iter().zip(&records).enumerate() {
@@ -208,12 +208,11 @@ fn longest_run() {
     let body = [merge(4, 0, 1), gate(1)];
     let main = only(&[init(0, 0), init(1, 255), boolean(2, 1), refer(3, 2), repeat(3, &body), free(0)]);
     let files = Files { device: line(256), programs: [main, only(&[])], schedule: vec![0x11; 4096] };
-    let (device, programs, run) = files.replayed().unwrap();
+    let (_, _, run) = files.replayed().unwrap();
     assert_eq!((run.steps.len(), run.moved.first), (4096, 4096));
     let whole: Vec<usize> = (0..256).collect();
     assert_eq!(run.steps.iter().filter(|step| step.route == whole).count(), 1364);
     assert_eq!(run.ends(Job::ONE), Item::Statement(20));
-    assert_eq!(replay(&device, [&programs[0], &programs[1]], &files.schedule).unwrap().map, run.map);
     let longer = Files { schedule: vec![0x11; 4097], ..files };
     assert_eq!(longer.replayed().unwrap_err().number, Number::ScheduleLength);
 }

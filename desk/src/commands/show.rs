@@ -11,10 +11,10 @@ use crate::numbers::many;
 use crate::page::page;
 use crate::picture::{Mark, Picture};
 use crate::program::Program;
-use crate::replay::{replay, Replay};
+use crate::replay::{of_files, Replay};
 use crate::said::{trouble, Said, Trouble};
 use crate::{output, svg, terminal};
-use abwakiris::{File, Job, Refusal};
+use abwakiris::{Job, Refusal};
 use std::ffi::OsStr;
 use std::path::Path;
 
@@ -110,9 +110,11 @@ impl Scene {
     /// Asks the library whether it takes all of this.
     fn read(job: Option<u64>, device: &Named, files: Option<&Files>) -> Result<Scene, Refusal> {
         let about = job.map(Job::try_from).transpose()?;
-        let device = Device::read(&device.bytes)?;
-        let run = files.map(|files| run(&device, files)).transpose()?;
-        Ok(Scene { device, about, run })
+        if let Some(Files { programs: [first, second], schedule }) = files {
+            let (device, programs, replay) = of_files(&device.bytes, [&first.bytes, &second.bytes], &schedule.bytes)?;
+            return Ok(Scene { device, about, run: Some((programs, replay)) });
+        }
+        Ok(Scene { device: Device::read(&device.bytes)?, about, run: None })
     }
 
     /// Prints the picture, or writes it.
@@ -156,15 +158,6 @@ impl Scene {
         }
         Ok(picture)
     }
-}
-
-/// The run of the files, and the programs as they were read.
-fn run(device: &Device, files: &Files) -> Result<([Program; 2], Replay), Refusal> {
-    let read = |job: Job, named: &Named| Program::read(&named.bytes).map_err(|refusal| Refusal { file: File::Program(Some(job)), ..refusal });
-    let [first, second] = &files.programs;
-    let programs = [read(Job::ONE, first)?, read(Job::TWO, second)?];
-    let replay = replay(device, [&programs[0], &programs[1]], &files.schedule.bytes)?;
-    Ok((programs, replay))
 }
 
 fn name(file: Option<&Named>) -> &str {

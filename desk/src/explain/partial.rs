@@ -52,61 +52,35 @@ const MOST_ARGUMENTS: u8 = 8;
 const DEEPEST: usize = 8;
 const SLOTS: usize = 32;
 
-#[derive(Clone, Copy)]
-enum Operand {
-    Slot,
-    Location,
-    Gate,
-    Basis,
-    Value,
-    Callee,
-    Parameters,
-    Arguments,
-}
-
-impl Operand {
-    const fn words(self) -> &'static str {
-        match self {
-            Operand::Slot => "a slot",
-            Operand::Location => "a location",
-            Operand::Gate => "the gate",
-            Operand::Basis => "a basis",
-            Operand::Value => "the value",
-            Operand::Callee => "the function",
-            Operand::Parameters => "k, the number of locations",
-            Operand::Arguments => "m, the number of slots",
-        }
-    }
-
-    const fn case(self) -> Of {
-        match self {
-            Operand::Slot => Of::Slot,
-            Operand::Location => Of::Location,
-            Operand::Gate => Of::Gate,
-            Operand::Basis => Of::Basis,
-            Operand::Value => Of::Value,
-            Operand::Callee => Of::Callee,
-            Operand::Parameters => Of::CalleeParameters,
-            Operand::Arguments => Of::CalleeArguments,
-        }
+/// An operand in words, by the case of 10 that is about it.
+const fn words(operand: Of) -> &'static str {
+    match operand {
+        Of::Slot => "a slot",
+        Of::Location => "a location",
+        Of::Gate => "the gate",
+        Of::Basis => "a basis",
+        Of::Value => "the value",
+        Of::Callee => "the function",
+        Of::CalleeParameters => "k, the number of locations",
+        _ => "m, the number of slots",
     }
 }
 
 /// The name and the operands of each kind of statement, from 1 on.
-const FORMS: [(&str, &[Operand]); 13] = [
-    ("init", &[Operand::Slot, Operand::Location]),
-    ("magic", &[Operand::Slot, Operand::Location]),
-    ("free", &[Operand::Slot]),
-    ("gate", &[Operand::Gate, Operand::Slot]),
-    ("measure", &[Operand::Slot, Operand::Basis, Operand::Slot]),
-    ("merge", &[Operand::Slot, Operand::Basis, Operand::Slot, Operand::Basis, Operand::Slot]),
-    ("ref", &[Operand::Slot, Operand::Slot]),
-    ("get", &[Operand::Slot, Operand::Slot]),
-    ("set", &[Operand::Slot, Operand::Slot]),
-    ("if", &[Operand::Slot]),
-    ("while", &[Operand::Slot]),
-    ("call", &[Operand::Callee, Operand::Parameters, Operand::Arguments]),
-    ("bool", &[Operand::Slot, Operand::Value]),
+const FORMS: [(&str, &[Of]); 13] = [
+    ("init", &[Of::Slot, Of::Location]),
+    ("magic", &[Of::Slot, Of::Location]),
+    ("free", &[Of::Slot]),
+    ("gate", &[Of::Gate, Of::Slot]),
+    ("measure", &[Of::Slot, Of::Basis, Of::Slot]),
+    ("merge", &[Of::Slot, Of::Basis, Of::Slot, Of::Basis, Of::Slot]),
+    ("ref", &[Of::Slot, Of::Slot]),
+    ("get", &[Of::Slot, Of::Slot]),
+    ("set", &[Of::Slot, Of::Slot]),
+    ("if", &[Of::Slot]),
+    ("while", &[Of::Slot]),
+    ("call", &[Of::Callee, Of::CalleeParameters, Of::CalleeArguments]),
+    ("bool", &[Of::Slot, Of::Value]),
 ];
 const IF: u8 = 10;
 const WHILE: u8 = 11;
@@ -226,7 +200,7 @@ impl Reader<'_> {
             return self.stop(8, at, left, field, Of::Statement, format!("{name} has {size} bytes, and its block has {left} left"));
         }
         for (i, &operand) in operands.iter().enumerate() {
-            self.operand(at + 1 + i, operand, || format!("operand {} of {name}, {}", i + 1, operand.words()))?;
+            self.operand(at + 1 + i, operand, || format!("operand {} of {name}, {}", i + 1, words(operand)))?;
         }
         self.at += size;
         if kind == CALL {
@@ -272,33 +246,35 @@ impl Reader<'_> {
             return self.stop(8, at, end - at, format!("call, a statement in {}", self.body), Of::List, found);
         }
         for i in 0..k {
-            self.operand(self.at + i, Operand::Location, || format!("the location for parameter {i} of the call at {at}"))?;
+            self.operand(self.at + i, Of::Location, || format!("the location for parameter {i} of the call at {at}"))?;
         }
         for i in 0..m {
-            self.operand(self.at + k + i, Operand::Slot, || format!("the slot for argument {i} of the call at {at}"))?;
+            self.operand(self.at + k + i, Of::Slot, || format!("the slot for argument {i} of the call at {at}"))?;
         }
         self.at += k + m;
         Ok(())
     }
 
-    fn operand(&self, at: usize, operand: Operand, name: impl Fn() -> String) -> Read<()> {
+    fn operand(&self, at: usize, operand: Of, name: impl Fn() -> String) -> Read<()> {
         let value = self.bytes[at];
         let callee = |back: usize| self.functions.get(usize::from(self.bytes[at - back])).copied().unwrap_or((0, 0));
         let (so, beside) = match operand {
-            Operand::Slot => (usize::from(value) < SLOTS, String::new()),
-            Operand::Location => (usize::from(value) < self.locations, format!(", and {} has {}", self.body, only(self.locations, "parameter"))),
-            Operand::Gate => (value < 4, String::new()),
-            Operand::Basis | Operand::Value => (value < 2, String::new()),
-            Operand::Callee => {
+            Of::Slot => (usize::from(value) < SLOTS, String::new()),
+            Of::Location => (usize::from(value) < self.locations, format!(", and {} has {}", self.body, only(self.locations, "parameter"))),
+            Of::Gate => (value < 4, String::new()),
+            Of::Basis | Of::Value => (value < 2, String::new()),
+            Of::Callee => {
                 (usize::from(value) < self.functions.len(), format!(", and a call in {} may name {}", self.body, only(self.functions.len(), "function")))
             }
-            Operand::Parameters => (value == callee(1).0, format!(", and function {} has {}", self.bytes[at - 1], many(usize::from(callee(1).0), "parameter"))),
-            Operand::Arguments => (value == callee(2).1, format!(", and function {} has {}", self.bytes[at - 2], many(usize::from(callee(2).1), "argument"))),
+            Of::CalleeParameters => {
+                (value == callee(1).0, format!(", and function {} has {}", self.bytes[at - 1], many(usize::from(callee(1).0), "parameter")))
+            }
+            _ => (value == callee(2).1, format!(", and function {} has {}", self.bytes[at - 2], many(usize::from(callee(2).1), "argument"))),
         };
         if so {
             return Ok(());
         }
-        self.stop(10, at, 1, name(), operand.case(), format!("the byte is {}{beside}", byte(value)))
+        self.stop(10, at, 1, name(), operand, format!("the byte is {}{beside}", byte(value)))
     }
 
     fn stop<T>(&self, number: u8, place: usize, length: usize, name: String, case: Of, found: String) -> Read<T> {

@@ -138,48 +138,53 @@ impl<'a> Machine<'a> {
     }
 
     fn does(&mut self, statement: &'a Statement, outcome: bool) -> Effect {
-        let frame = self.frame();
-        let mut effect = Effect::Nothing;
-        if let Kind::While { guard, body } = &statement.kind {
-            if frame.value(*guard) == Some(true) {
-                self.put(body); // and the loop itself stays
-                return effect;
-            }
-        }
+        let effect = self.effect(&statement.kind);
+        let is_true = |guard: u8| self.frame().value(guard) == Some(true);
         match &statement.kind {
-            &Kind::Init { slot, location } => {
-                let location = frame.location(location);
-                self.bind(slot, Slot::Qubit(location));
-                effect = Effect::Takes(location);
+            Kind::While { guard, body } if is_true(*guard) => self.put(body), // and the loop itself stays
+            Kind::If { guard, then, otherwise } => {
+                let block = if is_true(*guard) { then } else { otherwise };
+                self.advance();
+                self.put(block);
             }
-            &Kind::Free { slot } => {
-                effect = frame.qubit(slot).map_or(Effect::Nothing, Effect::Gives);
-                self.bind(slot, Slot::Unbound);
+            Kind::Call { function, locations, .. } => {
+                self.advance();
+                self.enter(statement, *function, locations);
             }
-            &Kind::Measure { into, .. } => self.bind(into, Slot::Bool(outcome)),
-            &Kind::Merge { into, first, second } => {
-                if let (Some(first), Some(second)) = (frame.qubit(first), frame.qubit(second)) {
-                    effect = Effect::Merges(first, second);
-                }
-                self.bind(into, Slot::Bool(outcome));
+            kind => {
+                self.bind(kind, outcome);
+                self.advance();
             }
-            &Kind::Ref { into, from } => self.bind(into, frame.value(from).map_or(Slot::Unbound, Slot::Reference)),
-            &Kind::Get { into, from } => self.bind(into, frame.value(from).map_or(Slot::Unbound, Slot::Bool)),
-            &Kind::Set { reference, from } => self.bind(reference, frame.value(from).map_or(Slot::Unbound, Slot::Reference)),
-            &Kind::Bool { into, value } => self.bind(into, Slot::Bool(value)),
-            Kind::Gate { .. } | Kind::If { .. } | Kind::While { .. } | Kind::Call { .. } => {}
-        }
-        let guarded = if let Kind::If { guard, .. } = &statement.kind { self.frame().value(*guard) } else { None };
-        self.advance();
-        match &statement.kind {
-            Kind::If { then, otherwise, .. } => self.put(if guarded == Some(true) { then } else { otherwise }),
-            Kind::Call { function, locations, .. } => self.enter(statement, *function, locations),
-            _ => {}
         }
         effect
     }
 
-    fn bind(&mut self, slot: u8, holds: Slot) {
+    /// What a statement that moves does to the device.
+    fn effect(&self, kind: &Kind) -> Effect {
+        let frame = self.frame();
+        match *kind {
+            Kind::Init { location, .. } => Effect::Takes(frame.location(location)),
+            Kind::Free { slot } => frame.qubit(slot).map_or(Effect::Nothing, Effect::Gives),
+            Kind::Merge { first, second, .. } => match (frame.qubit(first), frame.qubit(second)) {
+                (Some(first), Some(second)) => Effect::Merges(first, second),
+                _ => Effect::Nothing,
+            },
+            _ => Effect::Nothing,
+        }
+    }
+
+    /// What a statement that moves does to a slot, where it does.
+    fn bind(&mut self, kind: &Kind, outcome: bool) {
+        let frame = self.frame();
+        let (slot, holds) = match *kind {
+            Kind::Init { slot, location } => (slot, Slot::Qubit(frame.location(location))),
+            Kind::Free { slot } => (slot, Slot::Unbound),
+            Kind::Measure { into, .. } | Kind::Merge { into, .. } => (into, Slot::Bool(outcome)),
+            Kind::Ref { into, from } | Kind::Set { reference: into, from } => (into, frame.value(from).map_or(Slot::Unbound, Slot::Reference)),
+            Kind::Get { into, from } => (into, frame.value(from).map_or(Slot::Unbound, Slot::Bool)),
+            Kind::Bool { into, value } => (into, Slot::Bool(value)),
+            Kind::Gate { .. } | Kind::If { .. } | Kind::While { .. } | Kind::Call { .. } => return,
+        };
         let last = self.frames.len() - 1;
         self.frames[last].slots[usize::from(slot)] = holds;
     }
@@ -212,7 +217,7 @@ impl<'a> Machine<'a> {
         self.put(&callee.body);
     }
 
-    /// Drops the frame.
+    /// Drops the frame and gives the arguments back.
     fn returns(&mut self, call: &'a Statement) {
         if let (Some(left), Some(caller)) = (self.frames.pop(), self.frames.last_mut()) {
             give_back(&mut caller.slots, call, &left.slots, &left.locations);

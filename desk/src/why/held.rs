@@ -78,14 +78,7 @@ fn over(visits: &Visits<'_>, block: &Block, site: usize, made: &mut Made) -> boo
             Kind::Free { slot } => made[usize::from(*slot)].clear(),
             Kind::Call { function, slots, .. } => {
                 for (argument, &slot) in slots.iter().enumerate() {
-                    let makers = &mut made[usize::from(slot)];
-                    match visits.left(*function, argument) {
-                        Left::Gone => makers.clear(),
-                        Left::Remade => {
-                            makers.insert(statement.at);
-                        }
-                        Left::Same => {}
-                    }
+                    called(visits.left(*function, argument), statement.at, &mut made[usize::from(slot)]);
                 }
             }
             Kind::If { then, otherwise, .. } => {
@@ -112,6 +105,18 @@ fn over(visits: &Visits<'_>, block: &Block, site: usize, made: &mut Made) -> boo
     false
 }
 
+/// The makers of an argument after a call.
+fn called(left: Left, call: usize, makers: &mut BTreeSet<usize>) {
+    match left {
+        Left::Gone => makers.clear(),
+        Left::Remade => {
+            makers.insert(call);
+        }
+        Left::Same => {}
+    }
+}
+
+/// Where two ways meet, the makers of both.
 fn unite(made: &mut Made, other: &Made) {
     for (makers, others) in made.iter_mut().zip(other) {
         makers.extend(others);

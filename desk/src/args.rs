@@ -38,9 +38,9 @@ impl Takes {
     /// What a help page says of it.
     pub const fn about(self) -> &'static str {
         match self {
-            Takes::Job => "1 or 2; a check and a route are for job 1 where it is not given",
+            Takes::Job => "the job, 1 or 2; without it job 1, and for show both jobs",
             Takes::Occupied => "locations that are occupied, by their numbers",
-            Takes::Output => "the file to write, instead of standard output",
+            Takes::Output => "the file to write",
             Takes::Width => "draw the locations in rows of N",
             Takes::Run => "a schedule: hex digits, or a file",
         }

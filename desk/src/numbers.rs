@@ -1,8 +1,21 @@
 //! Numbers in words: so many of something, and lists of numbers.
 
+/// A number with a comma before each three digits.
+pub fn grouped(number: u128) -> String {
+    let digits = number.to_string();
+    let mut text = String::new();
+    for (i, digit) in digits.chars().enumerate() {
+        if i > 0 && (digits.len() - i) % 3 == 0 {
+            text.push(',');
+        }
+        text.push(digit);
+    }
+    text
+}
+
 /// So many of something: `1 step`, `4 steps`.
 pub fn many(count: usize, what: &str) -> String {
-    format!("{count} {what}{}", if count == 1 { "" } else { "s" })
+    format!("{} {what}{}", grouped(count as u128), if count == 1 { "" } else { "s" })
 }
 
 /// Numbers in their order, with this between them.

@@ -167,7 +167,7 @@ impl Picture {
             Look::Occupied => "occupied".to_string(),
             Look::Route => "free, and on the route".to_string(),
             Look::Reached => "free, and reached from A".to_string(),
-            Look::Free if all.contains(&Look::Reached) => "free, but not reached from A".to_string(),
+            Look::Free if all.contains(&Look::First) && self.route.is_empty() => "free, but not reached from A".to_string(),
             Look::Free => "free".to_string(),
             Look::Of(0) => "a location of nobody".to_string(),
             Look::Of(job) => format!("{}in the region of job {job}", if alone { "" } else { "free, " }),

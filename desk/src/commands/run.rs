@@ -63,7 +63,7 @@ impl Run<'_> {
     fn text(&self, width: Option<usize>) -> String {
         let steps = many(self.replay.steps.len(), "step");
         let [first, second] = self.given.programs.map(|program| self.name(program));
-        let mut text = format!("accepted: {first} as job 1 and {second} as job 2 on {}, {steps}\n\n", self.name(self.given.device));
+        let mut text = format!("ran {steps}: {first} as job 1 and {second} as job 2 on {}\n\n", self.name(self.given.device));
         let rows = rows(self.programs, self.replay);
         if !rows.is_empty() {
             text.push_str(&table(&rows));

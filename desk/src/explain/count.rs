@@ -3,12 +3,13 @@
 //! A function's count is found once and remembered. The largest that a file of 4,096 bytes can have is under 2^100, so no sum here overflows; they saturate all
 //! the same.
 
+use crate::numbers::grouped;
 use crate::program::{Block, Kind, Program, Statement};
 
 /// How many of the heaviest statements are named.
 const HEAVIEST: usize = 3;
 
-/// What is found: main's count, that of each function that main calls and how often it does, and the heaviest statements of main.
+/// What is found: main's count, that of each function and how often main itself calls it, and the heaviest statements of main.
 pub fn lines(program: &Program) -> Vec<String> {
     let counts = counts(program);
     let main = of_block(&program.main, &counts);
@@ -61,11 +62,11 @@ fn of_functions(program: &Program, counts: &[u128]) -> Vec<String> {
     calls(&program.main, &mut times);
     let line = |(number, (&count, times)): (usize, (&u128, u64))| {
         let in_main = match times {
-            0 => "main does not call it itself".to_string(),
-            1 => "main calls it once".to_string(),
-            _ => format!("main calls it {times} times, {} in all", grouped(count.saturating_mul(u128::from(times)))),
+            0 => String::new(),
+            1 => "; main calls it once".to_string(),
+            _ => format!("; main calls it {times} times, {} in all", grouped(count.saturating_mul(u128::from(times)))),
         };
-        format!("function {number} counts {}; {in_main}", grouped(count))
+        format!("function {number} counts {}{in_main}", grouped(count))
     };
     counts.iter().zip(times).enumerate().map(line).collect()
 }
@@ -79,17 +80,4 @@ fn heaviest(program: &Program, counts: &[u128]) -> Vec<String> {
         format!("line {number}, `{}`, counts {}", program.listing.text(number), grouped(count))
     };
     weighed.into_iter().take(HEAVIEST).filter(|(count, _)| *count > 1).map(line).collect()
-}
-
-/// A number with a comma before each three digits.
-fn grouped(number: u128) -> String {
-    let digits = number.to_string();
-    let mut text = String::new();
-    for (i, digit) in digits.chars().enumerate() {
-        if i > 0 && (digits.len() - i) % 3 == 0 {
-            text.push(',');
-        }
-        text.push(digit);
-    }
-    text
 }

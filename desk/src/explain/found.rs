@@ -71,7 +71,7 @@ impl<'a> Words<'a> {
     }
 
     /// The line of an offset.
-    fn line(&self, at: usize) -> String {
+    pub fn line(&self, at: usize) -> String {
         let number = self.program.listing.number(at);
         self.named.borrow_mut().insert(number);
         format!("line {number}")
@@ -135,8 +135,12 @@ impl<'a> Words<'a> {
     }
 
     fn twice(&self, locations: &[(u8, usize, usize)], slots: &[(u8, usize, usize)]) -> Vec<String> {
-        let of_locations = locations.iter().map(|&(byte, first, second)| format!("{} is named for parameters {first} and {second}", self.location(byte)));
-        let of_slots = slots.iter().map(|(slot, first, second)| format!("slot {slot} is named for arguments {first} and {second}"));
+        let own = if self.body == Body::Main { String::new() } else { format!(" of {}", self.body) };
+        let of_locations = locations.iter().map(|&(byte, first, second)| {
+            let named = self.location(byte);
+            format!("{named}{own} is named twice, for parameters {first} and {second} of the function that is called")
+        });
+        let of_slots = slots.iter().map(|(slot, first, second)| format!("slot {slot} is named twice, for arguments {first} and {second}"));
         of_locations.chain(of_slots).collect()
     }
 
@@ -166,7 +170,7 @@ impl<'a> Words<'a> {
             _ => ("unbound".to_string(), format!(" ({})", self.lost(slot, held))),
         };
         let ((first, how), (second, or)) = (after(of(then, slot)), after(of(otherwise, slot)));
-        format!("slot {slot}: {first} after the first block{how}, {second} after the else{or}")
+        format!("slot {slot}: {first} after the first block{how}, {second} after the second{or}")
     }
 
     fn loses(&self, slot: u8, ended: &[Slot], began: &[Slot]) -> String {
@@ -212,7 +216,7 @@ pub fn whose(device: &Device, location: u64) -> String {
     match owner {
         Some(0) => "is nobody's".to_string(),
         Some(job) => format!("is job {job}'s"),
-        None if device.locations() == 1 => "is not there: the device has location 0 only".to_string(),
-        None => format!("is not there: the device has locations 0 to {}", device.locations() - 1),
+        None if device.locations() == 1 => "does not exist: the device has location 0 only".to_string(),
+        None => format!("does not exist: the device has locations 0 to {}", device.locations() - 1),
     }
 }

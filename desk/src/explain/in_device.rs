@@ -3,7 +3,7 @@
 use super::excerpt::Excerpt;
 use super::part::{byte, looks_like, Part};
 use super::words::Of;
-use crate::numbers::many;
+use crate::numbers::{grouped, many};
 
 /// What there is to say of a number at a place of these bytes.
 pub fn said(number: u8, place: usize, bytes: &[u8]) -> Part {
@@ -40,12 +40,12 @@ pub fn version(bytes: &[u8]) -> Part {
 }
 
 fn number_of(bytes: &[u8], place: usize, name: &str, case: Of) -> Part {
-    field(name.to_string(), bytes, place, 2, case, vec![format!("the number is {}", word(bytes, place))])
+    field(name.to_string(), bytes, place, 2, case, vec![format!("the number is {}", grouped(word(bytes, place) as u128))])
 }
 
 fn length(bytes: &[u8]) -> Part {
     let (n, e) = (word(bytes, 5), word(bytes, 7));
-    let found = format!("n = {n} and e = {e} ask for {}, and the file has {}", many(9 + n + 2 * e, "byte"), bytes.len());
+    let found = format!("n = {n} and e = {e} ask for {}, and the file has {}", many(9 + n + 2 * e, "byte"), grouped(bytes.len() as u128));
     Part { at: Some("the whole file".to_string()), ..field(String::new(), bytes, 5, 4, Of::Only, vec![found]) }
 }
 

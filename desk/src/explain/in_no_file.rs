@@ -61,6 +61,6 @@ pub fn in_schedule(number: u8, place: usize, bytes: &[u8]) -> Part {
 
 /// A text that is no text of hex digits.
 fn not_hex(bytes: &[u8]) -> Option<String> {
-    let letter = bytes.iter().find(|byte| !byte.is_ascii_hexdigit() && !byte.is_ascii_whitespace())?;
-    Some(format!("the file is text; a schedule as text has hex digits and spaces only, and `{}` is neither", char::from(*letter)))
+    let letter = bytes.iter().find(|byte| !byte.is_ascii_hexdigit() && !byte.is_ascii_whitespace() && **byte != b',')?;
+    Some(format!("the file is text; a schedule as text has hex digits, spaces and commas only, and no `{}`", char::from(*letter)))
 }

@@ -56,7 +56,8 @@ fn typed(part: &mut Part, words: &Words, refusal: Refusal) {
 /// What is known of a merge without a path, and the command that says more.
 fn without_path(part: &mut Part, words: &Words, place: usize, given: &Given) {
     part.case = Some(Of::Merge);
-    if let Some((values, found)) = path::at_merge(words, place) {
+    if let Some((case, values, found)) = path::at_merge(words, place) {
+        part.case = Some(case);
         part.values = values;
         part.found = found;
     }
@@ -64,7 +65,7 @@ fn without_path(part: &mut Part, words: &Words, place: usize, given: &Given) {
     let program = given.file(File::Program(Some(words.job)));
     let job = if words.job == Job::ONE { "" } else { " --job 2" };
     part.see = Some(format!(
-        "abwakiris why {} {}{job} shows the calls, the device at that moment and the outcomes that lead there",
+        "the device at that moment and the outcomes that lead there: abwakiris why {} {}{job}",
         name(given.device, "DEVICE"),
         name(program, "PROGRAM")
     ));

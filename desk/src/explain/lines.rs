@@ -131,7 +131,7 @@ impl Lines {
     fn words(&self, text: &str) -> Wrong {
         let words: Vec<&str> = text.split(' ').filter(|word| !word.is_empty()).collect();
         if self.number == 0 {
-            return (text != "program 1").then(|| "the first line is `program 1`".to_string());
+            return (text != "program 1").then(|| format!("the first line must be `program 1`, and it is {}", quoted(text)));
         }
         let bytes = self.bytes + size(&words);
         let wrong = if text.starts_with(' ') { self.statement(indent(text), &words) } else { self.header(&words) };
@@ -160,7 +160,7 @@ impl Lines {
             return Some("15 functions are the most, and this is one more".to_string());
         }
         if number != next.to_string() {
-            return Some(format!("the next function is {next}, not {}", quoted(number)));
+            return Some(format!("functions are numbered from 0 on: the next one is {next}, not {}", quoted(number)));
         }
         let most = |most: usize, word: &str, what: &str| below(word, most + 1).map(|wrong| format!("{what}: {wrong}"));
         most(16, k, "locations").or_else(|| most(k.parse().map_or(8, |k: usize| k.min(8)), m, "arguments"))
@@ -186,11 +186,11 @@ impl Lines {
             return Some("statements come after `main` or after the line of a function".to_string());
         }
         if indent % 2 == 1 {
-            return Some(format!("it has {} before it, and there are two for each block", many(indent, "space")));
+            return Some(format!("the line has {} before it, and there are two for each block", many(indent, "space")));
         }
         let (depth, deepest) = (indent / 2, self.open.len() + 1);
         if depth > deepest {
-            return Some(format!("it has {} before it, and here {} are the most", many(indent, "space"), 2 * deepest));
+            return Some(format!("the line has {} before it, and here {} are the most", many(indent, "space"), 2 * deepest));
         }
         if let Some(due) = self.due(depth, first == "else") {
             return Some(due);

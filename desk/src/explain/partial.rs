@@ -223,7 +223,7 @@ impl Reader<'_> {
                     first
                 } else {
                     self.lines += 1; // its else
-                    self.block(end, depth + 1, &format!("the else block of the if at {at}"), around)
+                    self.block(end, depth + 1, &format!("the second block of the if at {at}"), around)
                 }
             }
             WHILE => self.block(end, depth + 1, &format!("the block of the while at {at}"), around),

@@ -61,6 +61,8 @@ pub enum Of {
     Init,
     Call,
     Merge,
+    /// A merge whose ends no corridor of the region joins.
+    Apart,
     Main,
     Function,
     Route,
@@ -101,6 +103,7 @@ impl Of {
             Of::Init => "for an init",
             Of::Call => "for a call",
             Of::Merge => "for a merge",
+            Of::Apart => "for a merge whose ends no corridor of the region joins",
             Of::Main => "for main",
             Of::Function => "for the body of a function",
             Of::Route => "for a route",
@@ -167,11 +170,15 @@ pub static ROWS: &[Row] = &[
         place: "0",
         adds: "the bytes that are there, and which file they look like",
         cases: &[
-            case(Of::Device, "a device file begins with the bytes 51 4C 47, the letters QLG", "name the device file first and the program after it"),
+            case(
+                Of::Device,
+                "a device file begins with the bytes 51 4C 47, the letters QLG",
+                "give a device file here; where a command takes both, the device comes before the program",
+            ),
             case(
                 Of::Program,
                 "a program file begins with the bytes 51 4C 53, the letters QLS",
-                "name the program file after the device; make it with abwakiris unlist where the program is a listing",
+                "give a program file here; of a listing abwakiris unlist makes it, and where a command takes both, the program comes after the device",
             ),
         ],
     },
@@ -193,7 +200,7 @@ pub static ROWS: &[Row] = &[
                 0 for a program's length",
         adds: "the name of the field and the number that is there",
         cases: &[
-            case(Of::Locations, "a device has 1 to 256 locations", "describe as the device a part of the machine with at most 256 locations"),
+            case(Of::Locations, "a device has 1 to 256 locations", "describe a part of the machine with 1 to 256 locations as the device"),
             case(Of::Edges, "a device has at most 1,024 edges", "leave out the edges that do not join two locations of the same job, since no path uses them"),
             case(Of::Length, "a program file has at most 4,096 bytes", "move statements that repeat into functions, or load the work as several programs"),
             case(
@@ -218,7 +225,7 @@ pub static ROWS: &[Row] = &[
         cases: &[case(
             Of::Only,
             "a device file has exactly 9 + n + 2e bytes",
-            "set n to the number of owner bytes and e to the number of edges, or give the whole file where a copy was cut off",
+            "set n to the number of owner bytes and e to the number of edges, or give the file as it was written: a copy may be cut off or have more",
         )],
     },
     Row {
@@ -252,17 +259,17 @@ pub static ROWS: &[Row] = &[
             case(
                 Of::Header,
                 "the k and the m of each function stand within the file",
-                "set f to the number of functions that are there, or correct the length word of the function before; abwakiris unlist sets both right",
+                "set f to the number of functions that are there, or correct the length word of the function before; abwakiris unlist writes both right",
             ),
             case(
                 Of::Block,
                 "a block, its length word and its bytes, ends within what is around it",
-                "correct this length word or that of the block around it; abwakiris unlist writes a file whose lengths are right",
+                "correct this length word or that of the block around it, or give the whole file where a copy was cut off; abwakiris unlist writes right lengths",
             ),
             case(
                 Of::Statement,
                 "a statement with its operands ends within its block",
-                "add the operands that are missing or correct the block's length word; abwakiris unlist writes a file whose lengths are right",
+                "add the operands that are missing, or correct the block's length word; abwakiris unlist writes right lengths",
             ),
             case(
                 Of::List,
@@ -272,7 +279,7 @@ pub static ROWS: &[Row] = &[
             case(
                 Of::After,
                 "the file ends where main ends",
-                "count all of main's bytes in its length word, or cut off what follows; abwakiris unlist writes a file whose lengths are right",
+                "count all of main's bytes in its length word, or cut off what follows; abwakiris unlist writes right lengths",
             ),
         ],
     },
@@ -354,7 +361,7 @@ pub static ROWS: &[Row] = &[
             case(
                 Of::Program,
                 "{location} is in the region of {job}",
-                "use a location of {job}, check for the other job with --job, or give the location to {job} in the device file",
+                "use a location of {job}, or give this one to {job} in the device file; where the program is the other job's, check it with --job",
             ),
             case(
                 Of::Route,
@@ -381,7 +388,7 @@ pub static ROWS: &[Row] = &[
         number: 15,
         when: "a location or a slot comes twice in a call, a slot twice in a merge, or the ends of a route are equal",
         place: "the statement; of a route 0",
-        adds: "what comes twice, and at which positions",
+        adds: "what comes twice, and for what",
         cases: &[
             case(
                 Of::Call,
@@ -400,7 +407,7 @@ pub static ROWS: &[Row] = &[
         cases: &[case(
             Of::Only,
             "the qubit in {slot} is at {location}, as the call says",
-            "name the location where the qubit is, or the slot of the qubit that is there; locations and slots of the arguments stand in the same order",
+            "name the location where the qubit is, or the slot of the qubit that is at this one; the slots stand in the order of the locations",
         )],
     },
     Row {
@@ -444,7 +451,7 @@ pub static ROWS: &[Row] = &[
         number: 20,
         when: "main's command count is more than 65,535",
         place: "0",
-        adds: "the count of main and of each function, how often main calls it, and the heaviest statements of main",
+        adds: "the count of main and of each function, how often main itself calls it, and the heaviest statements of main",
         cases: &[case(
             Of::Only,
             "main counts at most 65,535 commands, with those of its calls for each call again",
@@ -455,12 +462,17 @@ pub static ROWS: &[Row] = &[
         number: 21,
         when: "between the two qubits of a merge, or the two ends of a route, there is no path over free locations of the region",
         place: "the merge; of a route 0",
-        adds: "the slots and where they are; abwakiris why adds the calls, the device at that moment and the outcomes that lead there",
+        adds: "the calls that lead there, where the qubits are and what is reached; abwakiris why adds the device at that moment and the outcomes",
         cases: &[
             case(
                 Of::Merge,
                 "a path over free locations of the region of {job} between the qubits in {slots}",
                 "keep a corridor free: free the qubit that is in the way before the merge, make it after the merge, or put it somewhere else",
+            ),
+            case(
+                Of::Apart,
+                "a path over free locations of the region of {job} between the qubits in {slots}",
+                "put the two qubits where edges of the region join them, or give the locations between them to {job} in the device file",
             ),
             case(
                 Of::Route,

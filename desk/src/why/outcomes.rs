@@ -24,23 +24,22 @@ impl Words<'_> {
         let states = self.why.states;
         match &self.why.lead {
             Lead::Found { steps, shortest } => {
-                let which = if *shortest { "no run there is shorter" } else { "the shortest that was found; a shorter one may be there" };
+                let which = if *shortest { "no run there is shorter" } else { "this is the shortest run that was found, and there may be a shorter one" };
                 format!("  The job halts at step {}; {which}.\n\n{}", steps.len(), self.stuck(steps))
             }
             Lead::Never { body, site, against } => {
-                let all = if states == 1 { "1 state is all there is".to_string() } else { format!("{states} states are all there are") };
                 let shown = if against.len() <= MOST_REASONS { &against[..] } else { &[] };
-                let mut text =
-                    format!("  No outcomes lead there: {all}, and the guards keep the job from it. In {body} it never comes to line {}", self.line(*site).0);
-                text.push_str(if shown.is_empty() { ".\n" } else { ":\n" });
+                let mut text = format!("  No outcomes lead there: the search saw every state that matters ({states}), and the guards keep the job away.\n");
+                text.push_str(&format!("  In {body} it never comes to line {}{}\n", self.line(*site).0, if shown.is_empty() { "." } else { ":" }));
                 shown.iter().for_each(|against| text.push_str(&format!("  - {}\n", self.against(against))));
                 text + &self.elsewhere()
             }
             Lead::TooLong { fewest } => {
                 let fewest = if *fewest == u64::MAX { "more than can be counted".to_string() } else { fewest.to_string() };
-                format!("  None within {MOST_STEPS} steps, which are the most of a schedule: the shortest run that comes there has {fewest}.\n")
+                let most = format!("A schedule has at most {MOST_STEPS} steps, and the shortest run that comes there has {fewest}.");
+                format!("  {most}\n  So there is none to replay.\n")
             }
-            Lead::GivenUp => format!("  None were found: {states} states were looked at, and there are more.\n"),
+            Lead::GivenUp => format!("  None were found. {states} states were looked at, and there are more: outcomes may lead there all the same.\n"),
         }
     }
 
@@ -114,11 +113,12 @@ impl Words<'_> {
         match &self.why.elsewhere {
             Some(Elsewhere::Found { at, steps }) => {
                 let (line, text) = self.line(*at);
-                let but = format!("But line {line}, {text}, has no path either, and there the job can come: it halts at step {}.", steps.len());
+                let but = format!("But the job can halt at another merge: line {line}, {text}, has no path either. It halts there at step {}.", steps.len());
                 format!("\n  {but}\n\n{}", self.stuck(steps))
             }
             Some(Elsewhere::Nowhere) => {
-                "\n  No outcomes lead to any other merge without a path. The check heeds no guards, so it refuses the program all the same.\n".to_string()
+                let none = "No outcomes lead to any other merge without a path. The check does not look at the values of guards, so it refuses the program";
+                format!("\n  {none}\n  all the same: keep a corridor free for this merge too, or leave it out.\n")
             }
             Some(Elsewhere::GivenUp) => "\n  Whether the job can come to another merge without a path was not found out.\n".to_string(),
             None => String::new(),
@@ -126,7 +126,8 @@ impl Words<'_> {
     }
 
     pub(super) fn beside(&self) -> String {
-        let halts = if let Lead::Found { steps, .. } = &self.why.lead { steps.len() } else { return String::new() };
+        let stuck = if let Lead::Found { steps, .. } = &self.why.lead { steps } else { return String::new() };
+        let (halts, matters) = (stuck.len(), stuck.iter().any(|step| step.chosen));
         match &self.why.beside {
             Some(Beside::Found { steps, parts_at }) => {
                 let (outcome, at) = steps.get(*parts_at).map_or((0, 0), |step| (u8::from(step.outcome), step.at));
@@ -135,8 +136,9 @@ impl Words<'_> {
                 let with = format!("With outcome {outcome} at step {step} (line {line}, {text}) the job ends after {ends}");
                 format!("  {with}; with outcome {} it halts at step {halts}.\n\n{}", 1 - outcome, self.replay(steps))
             }
-            Some(Beside::Never) => format!("  There is none: no outcomes let the job end within {MOST_STEPS} steps.\n"),
-            _ => "  None was found, but not all were looked at.\n".to_string(),
+            Some(Beside::Never) if !matters => "  There is none: every run of the job comes to this merge.\n".to_string(),
+            Some(Beside::Never) => format!("  No run of the job ends within {MOST_STEPS} steps: whatever the outcomes are, it halts or is still going.\n"),
+            _ => "  None was found, but not all runs were looked at.\n".to_string(),
         }
     }
 }

@@ -76,7 +76,7 @@ impl Words<'_> {
         match (&entered.statement.kind, entered.value) {
             (Kind::While { .. }, _) => format!("slot {guard} holds 1: its block"),
             (_, true) => format!("slot {guard} is 1: its first block"),
-            (_, false) => format!("slot {guard} is 0: its else, line {}", self.line(entered.at).0),
+            (_, false) => format!("slot {guard} is 0: its second block, after line {}", self.line(entered.at).0),
         }
     }
 
@@ -143,7 +143,7 @@ impl Words<'_> {
             }
             Blocked::Region => {
                 let none = format!("No qubit: even on an empty region of {} no corridor joins locations {first} and {second}.", self.job);
-                format!("  {none}\n  Only edges between two locations of {} count.\n", self.job)
+                format!("  {none}\n  A corridor goes along edges between two locations of {} only.\n", self.job)
             }
         }
     }
@@ -163,14 +163,16 @@ struct Row {
     note: String,
 }
 
-/// The rows with their notes below each other, as far as the texts are not too long.
+/// The rows with their notes below each other, as far as the texts are not too long. Each is indented by its depth, less where it is very deep.
 fn table(rows: &[Row]) -> String {
     const WIDEST: usize = 48;
+    const DEEPEST: usize = 16;
+    let step = if rows.iter().any(|row| row.depth > DEEPEST) { 1 } else { 2 };
     let lines = rows.iter().map(|row| row.line.len()).max().unwrap_or(0);
-    let texts = rows.iter().map(|row| 2 * row.depth + row.text.len()).filter(|&width| width <= WIDEST).max().unwrap_or(0);
+    let texts = rows.iter().map(|row| step * row.depth + row.text.len()).filter(|&width| width <= WIDEST).max().unwrap_or(0);
     let mut table = String::new();
     for row in rows {
-        let text = format!("{:indent$}{}", "", row.text, indent = 2 * row.depth);
+        let text = format!("{:indent$}{}", "", row.text, indent = step * row.depth);
         let line = format!("  {:>lines$}  {text:texts$}   {}", row.line, row.note);
         table.push_str(line.trim_end());
         table.push('\n');
@@ -197,10 +199,13 @@ fn ends(leg: &Leg<'_>) -> String {
     }
 }
 
-/// The slots that hold a qubit.
+/// The slots that hold a qubit: of many the outermost and the innermost, for an argument goes from call to call.
 fn holders(held: &Held) -> String {
     let one = |&(body, slot): &(Body, u8)| format!("slot {slot} of {body}");
-    held.holders.iter().map(one).collect::<Vec<String>>().join(" and ")
+    match &held.holders[..] {
+        [outermost, between @ .., innermost] if between.len() > 1 => format!("{}, .. and {}", one(outermost), one(innermost)),
+        few => few.iter().map(one).collect::<Vec<String>>().join(" and "),
+    }
 }
 
 /// Locations, or parameters, in order.

@@ -22,7 +22,7 @@ fn devices_that_do_not_read() {
     device_is(&program_a()).is(2, 0, &["the mark\n", "  | ^^^^^^^^\n", "found: the file begins with 51 4C 53", "this looks like a program file"]);
     device_is(&with(&g, &[(4, 2)])).is(3, 3, &["the version\n", "  |          ^^^^^\n", "found: the version is 2"]);
     device_is(&with(&g, &[(5, 1)])).is(4, 5, &["n, the number of locations", "asked: a device has 1 to 256 locations", "found: the number is 262"]);
-    device_is(&with(&g, &[(7, 5)])).is(4, 7, &["e, the number of edges", "asked: a device has at most 1,024 edges", "found: the number is 1287"]);
+    device_is(&with(&g, &[(7, 5)])).is(4, 7, &["e, the number of edges", "asked: a device has at most 1,024 edges", "found: the number is 1,287"]);
     device_is(&g[..28]).is(5, 0, &["found: n = 6 and e = 7 ask for 29 bytes, and the file has 28"]);
     device_is(&with(&g, &[(12, 3)])).is(
         6,
@@ -49,7 +49,7 @@ fn headers_of_programs() {
     on_g(b"program 1\nmain\n").is(2, 0, &["this looks like a listing, of which abwakiris unlist makes the program file"]);
     on_g(&[&[0, 29], &grid()[..]].concat()).is(2, 0, &["this looks like a bundle"]);
     on_g(&with(&a, &[(3, 1)])).is(3, 3, &["found: the version is 257"]);
-    on_g(&[0; 4097]).is(4, 0, &["asked: a program file has at most 4,096 bytes", "found: the file has 4097 bytes"]);
+    on_g(&[0; 4097]).is(4, 0, &["asked: a program file has at most 4,096 bytes", "found: the file has 4,097 bytes"]);
     let long = [&b"program 1\nmain\n"[..], &b"  free 0\n".repeat(1000)].concat();
     on_g(&long).is(4, 0, &["this looks like a listing, of which abwakiris unlist makes the program file"]);
     on_g(&with(&a, &[(5, 16)])).is(4, 5, &["f, the number of functions", "asked: a program has at most 15 functions", "found: the number is 16"]);
@@ -89,7 +89,7 @@ fn what_does_not_fit() {
     on_g(&inner).is(
         8,
         15,
-        &["the length word of the else block of the if at 11", "found: the length is 9, and the block around it has 2 bytes left", "5 |   else\n"],
+        &["the length word of the second block of the if at 11", "found: the length is 9, and the block around it has 2 bytes left", "5 |   else\n"],
     );
 }
 
@@ -144,7 +144,7 @@ fn locations_outside_the_region() {
     let init_at = |location| checked(&device, &only(&[init(0, location)]), 1);
     init_at(1).is(13, 8, &["asked: location 1 is in the region of job 1", "found: location 1 is nobody's"]);
     init_at(2).is(13, 8, &["found: location 2 is job 2's", "mend: use a location of job 1"]);
-    init_at(3).is(13, 8, &["found: location 3 is not there: the device has locations 0 to 2"]);
+    init_at(3).is(13, 8, &["found: location 3 does not exist: the device has locations 0 to 2"]);
     let called = calling(&[function(2, 0, &[])], &[call(0, &[2, 1], &[])]);
     checked(&device, &called, 2).is(13, 12, &["asked: location 1 is in the region of job 2", "found: location 1, given for parameter 1, is nobody's"]);
 }
@@ -162,7 +162,11 @@ fn locations_that_are_not_free() {
 fn what_comes_twice() {
     on_g(&only(&[init(0, 4), merge(1, 0, 0)])).is(15, 11, &["asked: a merge measures", "found: slot 0 is named for both qubits"]);
     let called = calling(&[function(3, 2, &[])], &[init(0, 4), call(0, &[4, 5, 4], &[0, 0])]);
-    on_g(&called).is(15, 15, &["found: location 4 is named for parameters 0 and 2", "found: slot 0 is named for arguments 0 and 1"]);
+    on_g(&called).is(
+        15,
+        15,
+        &["found: location 4 is named twice, for parameters 0 and 2 of the function that is called", "found: slot 0 is named twice, for arguments 0 and 1"],
+    );
 }
 
 #[test]
@@ -202,11 +206,11 @@ fn qubits_that_outlive_their_block() {
 fn branches_that_differ() {
     let seen = on_g(&only(&[init(3, 5), init(4, 4), boolean(0, 1), when(0, &[free(4)], &[free(3)])]));
     seen.is(18, 17, &["asked: both blocks of an if end with the same qubits"]).on_line(6, "if 0");
-    seen.is(18, 17, &["slot 3: a qubit at location 5 after the first block, unbound after the else (freed at line 9)"]);
-    seen.is(18, 17, &["slot 4: unbound after the first block (freed at line 7), a qubit at location 4 after the else"]);
+    seen.is(18, 17, &["slot 3: a qubit at location 5 after the first block, unbound after the second (freed at line 9)"]);
+    seen.is(18, 17, &["slot 4: unbound after the first block (freed at line 7), a qubit at location 4 after the second"]);
     // the slot is bound to a bool after it was freed
     let bound = on_g(&only(&[init(3, 5), boolean(0, 1), when(0, &[free(3), boolean(3, 1)], &[])]));
-    bound.is(18, 14, &["slot 3: unbound after the first block (freed at line 6), a qubit at location 5 after the else"]);
+    bound.is(18, 14, &["slot 3: unbound after the first block (freed at line 6), a qubit at location 5 after the second"]);
 }
 
 #[test]
@@ -231,7 +235,7 @@ fn counts() {
     let functions = chain(1, 0, &[init(0, 0), free(0)], 15, 2);
     let main = [init(0, 0), call(14, &[1], &[]), call(14, &[1], &[]), call(3, &[1], &[]), free(0)];
     let seen = on_g(&calling(&functions, &main));
-    seen.is(20, 0, &["program-walled:0, the whole program", "found: main counts 65,554 commands", "function 0 counts 2; main does not call it itself"]);
+    seen.is(20, 0, &["program-walled:0, the whole program", "found: main counts 65,554 commands", "found: function 0 counts 2\n"]);
     seen.is(20, 0, &["function 3 counts 16; main calls it once", "function 14 counts 32,768; main calls it 2 times, 65,536 in all"]);
     seen.is(20, 0, &["found: line 49, `call 14 at 1`, counts 32,768", "found: line 51, `call 3 at 1`, counts 16"]);
 }
@@ -258,14 +262,19 @@ fn merges_without_a_path() {
         &["program-walled:20, line 7 of its listing", "asked: a path over free locations of the region of job 1 between the qubits in slots 0 and 1"],
     );
     seen.is(21, 20, &["found: slot 0 is at location 0, slot 1 at location 2", "found: of the free locations only 3 is reached from 0"]);
-    seen.is(21, 20, &["see: abwakiris why samples/device-g program-walled shows"]).on_line(7, "merge 4 X 0 X 1");
+    seen.is(21, 20, &["outcomes that lead there: abwakiris why samples/device-g program-walled\n"]).on_line(7, "merge 4 X 0 X 1");
     let second = checked(&swapped(&grid()), &walled, 2);
-    second.is(21, 20, &["of the region of job 2", "see: abwakiris why samples/device-g program-walled --job 2 shows"]);
+    second.is(21, 20, &["of the region of job 2", "see: the device at that moment", "abwakiris why samples/device-g program-walled --job 2\n"]);
     let apart = checked(&device(3, &[]), &program_a(), 1);
-    apart.is(21, 14, &["found: no free location is reached from 0"]);
+    apart.is(21, 14, &["found: no free location is reached from 0", "found: even with every location of job 1 free no corridor joins 0 and 2"]);
+    apart.is(21, 14, &["mend: put the two qubits where edges of the region join them, or give the locations between them to job 1 in the device file"]);
     let functions = [function(2, 2, &[merge(2, 1, 0)])];
     let called = calling(&functions, &[init(0, 0), init(1, 2), init(2, 1), init(3, 4), call(0, &[0, 2], &[0, 1]), free(0), free(1), free(2), free(3)]);
-    on_g(&called).is(21, 10, &["it is so in the call at line 9: call 0 at 0 2 with 0 1", "slot 1 is at location 2, slot 0 at location 0"]);
+    on_g(&called).is(
+        21,
+        10,
+        &["found: the check comes there by the call of line 9\n", "found: slot 1 is at location 2, slot 0 at location 0\n", "\n9 |   call 0 at 0 2 with 0 1\n"],
+    );
 }
 
 #[test]
@@ -279,7 +288,7 @@ fn routes() {
     routed(&two, 1, &[], [0, u64::MAX]).is(
         13,
         1,
-        &["the second end of the route", "location 18446744073709551615 is not there: the device has locations 0 to 2"],
+        &["the second end of the route", "location 18446744073709551615 does not exist: the device has locations 0 to 2"],
     );
     routed(&two, 1, &[], [1, 1]).is(15, 0, &["asked: a route has two different ends", "found: both ends are 1"]);
     let walled = routed(&grid(), 1, &[1, 4], [0, 2]);
@@ -294,9 +303,9 @@ fn routes() {
 #[test]
 fn schedules() {
     let a = program_a();
-    ran([&a, &a], &[0x10; 4097]).is(22, 0, &["schedule:0, the whole schedule", "found: it has 4097 bytes"]);
+    ran([&a, &a], &[0x10; 4097]).is(22, 0, &["schedule:0, the whole schedule", "found: it has 4,097 bytes"]);
     ran([&a, &a], &[0x10, 0x20, 0x12]).is(23, 2, &["schedule:2, byte 2", "0 | 10 20 12\n  |       ^^\n", "found: byte 2, counted from 0, is 18 (12 hex)"]);
-    ran([&a, &a], b"10 11, 20").is(23, 0, &["the file is text; a schedule as text has hex digits and spaces only, and `,` is neither"]);
+    ran([&a, &a], b"10 11, 2x").is(23, 0, &["the file is text; a schedule as text has hex digits, spaces and commas only, and no `x`"]);
     ran([&a, &a[..9]], &[]).is(8, 6, &["two:6, the length word of main"]);
 }
 
@@ -336,8 +345,8 @@ fn texts() {
     text("\tfree 0\n").is(27, 57, &["5 | \\tfree 0\n", "column 1 has a tab"]);
     text("    free  0\n").is(27, 57, &["more than one space"]);
     text("    free 0 \n").is(27, 57, &["a space at the end"]);
-    text("   free 0\n").is(27, 57, &["it has 3 spaces before it, and there are two for each block"]);
-    text("      free 0\n").is(27, 57, &["it has 6 spaces before it, and here 4 are the most"]);
+    text("   free 0\n").is(27, 57, &["the line has 3 spaces before it, and there are two for each block"]);
+    text("      free 0\n").is(27, 57, &["the line has 6 spaces before it, and here 4 are the most"]);
     text("  free 0\n").is(27, 57, &["the `if` of line 4 needs its `else` here"]);
     text("    else\n").is(27, 57, &["no `if` with 4 spaces before it waits for an `else`"]);
     text("    Free 0\n").is(27, 57, &["`Free` is written `free`"]);

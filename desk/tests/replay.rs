@@ -191,7 +191,7 @@ fn rows_of_one_run() {
         "5|2|1|5|merge 2 X 0 X 1|moved, 2 edges: 3-4-5",
         "6|1|-1|5|init 2 1|moved",
         "7 to 8|1|-1|6|merge 3 X 0 X 1|stuck 21: no path",
-        "9|2|-1|6|if 2|moved, true",
+        "9|2|-1|6|if 2|moved, the guard is 1",
         "10|2|-1|7|free 0|moved",
         "11 to 12|2|-1|0||finished",
         "13|1|-1|6|merge 3 X 0 X 1|stuck 21: no path",

@@ -23,9 +23,9 @@ pub const COMMAND: Command = Command {
     about: "a run of two jobs, step by step, and the map that it leaves",
     help: "FIRST is the program of job 1, SECOND that of job 2; `none` is the program that does nothing.\n\
            SCHEDULE is hex digits, two a step, or a file of such text or of the bytes: 10 and 11 are steps of job 1 with\n\
-           outcome 0 and 1, 20 and 21 those of job 2. Steps are counted from 1; like steps of a job that is stuck or\n\
-           finished share a row. Locations of a route stand in its order. A run with a stuck job has status 0 too:\n\
-           the library ran it.",
+           outcome 0 and 1, 20 and 21 those of job 2. Steps are counted from 1. All further steps of a job that is stuck\n\
+           or finished share a row where they follow each other. Of a merge the table has the locations of its\n\
+           route, in its order. A run with a stuck job has status 0 too: the library ran it.",
     example: "samples/story-device samples/story-program none 10101010101011101010",
     takes: (4, 4),
     options: &[Takes::Width],

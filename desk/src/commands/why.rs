@@ -1,4 +1,4 @@
-//! `abwakiris why`: why a program is refused: the trail, the device there, the outcomes that lead there.
+//! `abwakiris why`: why a merge has no path: the calls, the device there, the outcomes that lead there.
 
 use super::common::{layout, refused, Check};
 use super::Command;
@@ -17,11 +17,11 @@ use std::ffi::OsStr;
 pub const COMMAND: Command = Command {
     name: "why",
     usage: "DEVICE PROGRAM",
-    about: "why a program is refused: the trail, the device there, the outcomes that lead there",
-    help: "Asks the library as abwakiris check does. Of a merge without a path (21) it shows how the check comes there, over calls with their locations and \
-           branches with their guards; the device at that moment; the qubits in the way; a schedule of this job alone that is stuck there, the shortest where \
-           it can be known; and a run that begins alike and does not halt. Each schedule was run by the library. Where no outcomes lead there it says so. \
-           -o FILE.svg writes the device at that moment as a picture.",
+    about: "why a merge has no path: the calls, the device there, the outcomes that lead there",
+    help: "Asks the library as abwakiris check does, and explains any other refusal as it does. Of a merge without a path, 21, it shows how the check comes \
+           there, over calls with their locations and branches with their guards; the device at that moment; the qubits in the way; a schedule of this job \
+           alone that is stuck there, the shortest where that can be known; and a run that begins alike and does not halt. The library has run each schedule, \
+           and abwakiris run replays it. Where no outcomes lead there it says so. -o FILE.svg also writes the device at that moment as a picture.",
     example: "samples/story-device samples/story-program",
     takes: (2, 2),
     options: &[Takes::Job, Takes::Width, Takes::Output],

@@ -264,7 +264,7 @@ pub static ROWS: &[Row] = &[
             case(
                 Of::Block,
                 "a block, its length word and its bytes, ends within what is around it",
-                "correct this length word or that of the block around it, or give the whole file where a copy was cut off; abwakiris unlist writes right lengths",
+                "correct this length word or that around it, or give the whole file where a copy was cut off; abwakiris unlist writes right lengths",
             ),
             case(
                 Of::Statement,

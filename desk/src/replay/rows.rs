@@ -64,7 +64,7 @@ pub fn happened(step: &Step) -> String {
         Told::Moved if step.record.edges > 0 => {
             format!("moved, {}: {}", many(usize::from(step.record.edges), "edge"), joined(&step.route, "-"))
         }
-        Told::Moved => step.guard.map_or("moved".to_string(), |guard| format!("moved, {guard}")),
+        Told::Moved => step.guard.map_or("moved".to_string(), |guard| format!("moved, the guard is {}", u8::from(guard))),
         Told::Finished => "finished".to_string(),
         Told::Stuck(number) => format!("stuck {number}"),
     }

@@ -8,6 +8,7 @@ pub fn cases() -> Vec<Case> {
     let all = Number::ALL.iter().fold(Case { name: "refusal", lines: vec![] }, one);
     vec![
         all,
+        case("refusal-all", plain(&["refusal"])).says(&["1: device under 9 bytes", "21: no path", "27: "]),
         case("refusal-unknown", trouble(&["refusal", "0"]))
             .and(trouble(&["refusal", "28"]))
             .says(&["28", "1 to 27"])

@@ -8,7 +8,7 @@ use std::os::unix::fs::{FileTypeExt, OpenOptionsExt};
 use std::time::{Duration, Instant};
 
 /// The most bytes that are read of a file: far more than any file that the library takes.
-pub const MOST_BYTES: u64 = 1 << 20;
+const MOST_BYTES: u64 = 1 << 20;
 
 /// A file's bytes under the name that it was given by.
 #[derive(Clone, Debug)]

@@ -20,7 +20,7 @@ pub fn lines(program: &Program) -> Vec<String> {
 }
 
 /// The count of each function, in file order.
-pub fn counts(program: &Program) -> Vec<u128> {
+fn counts(program: &Program) -> Vec<u128> {
     let mut counts = vec![];
     for function in &program.functions {
         counts.push(of_block(&function.body, &counts));
@@ -29,7 +29,7 @@ pub fn counts(program: &Program) -> Vec<u128> {
 }
 
 /// The count of a block, of whose callees these are the counts.
-pub fn of_block(block: &Block, counts: &[u128]) -> u128 {
+fn of_block(block: &Block, counts: &[u128]) -> u128 {
     block.statements.iter().fold(0, |sum: u128, statement| sum.saturating_add(of_statement(statement, counts)))
 }
 

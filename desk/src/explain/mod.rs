@@ -1,7 +1,7 @@
 //! A refusal in words: where it is, what the rule asks, what was found there, and what usually mends it.
 
 mod count;
-pub mod excerpt;
+mod excerpt;
 mod found;
 mod in_device;
 mod in_listing;
@@ -10,7 +10,7 @@ mod in_program;
 mod lines;
 mod part;
 mod partial;
-pub mod path;
+pub(crate) mod path;
 pub mod typing;
 pub mod words;
 

@@ -6,18 +6,18 @@
 
 pub mod beside;
 pub mod elsewhere;
-pub mod flow;
-pub mod held;
+mod flow;
+mod held;
 mod json;
 pub mod lead;
 mod outcomes;
-pub mod possible;
+mod possible;
 pub mod search;
 pub mod steps;
-pub mod trail;
-pub mod visits;
+pub(crate) mod trail;
+pub(crate) mod visits;
 pub mod way;
-pub mod wishes;
+mod wishes;
 pub mod words;
 
 use crate::device::Device;

@@ -23,7 +23,7 @@ pub struct Earlier {
 }
 
 impl Wishes {
-    pub fn for_slot(&self, slot: u8) -> Option<bool> {
+    fn for_slot(&self, slot: u8) -> Option<bool> {
         (self.slots >> slot & 1 == 1).then_some(self.values >> slot & 1 == 1)
     }
 

@@ -6,22 +6,13 @@ mod generated;
 mod numbers;
 #[path = "explained/page.rs"]
 mod page;
-
-// The files, the generator and the reference of the repository's own tests, which call one another by these names.
-#[rustfmt::skip]
-#[allow(clippy::all)]
-#[path = "../../tests"]
-mod shared {
-    pub mod files;
-    pub mod generator;
-    pub mod library;
-    pub mod reference;
-}
-use shared::{files, generator, library, reference};
+#[path = "parts/repository.rs"]
+mod repository;
 
 use abwakiris::{check, read_listing, route, run, Job, Refusal};
 use abwakiris_desk::explain::{explained, Explained, Given};
 use abwakiris_desk::input::Named;
+use repository::{files, generator, library, reference};
 
 fn named(name: &str, bytes: &[u8]) -> Named {
     Named { name: name.to_string(), bytes: bytes.to_vec() }

@@ -5,14 +5,6 @@
 
 #[path = "parts/asked_here.rs"]
 mod asked_here;
-#[path = "../../tests"]
-#[rustfmt::skip]
-#[allow(clippy::all)]
-mod beside {
-    pub mod generator;
-    pub mod library;
-    pub mod reference;
-}
 #[path = "parts/faults.rs"]
 mod faults;
 #[path = "parts/machine_line.rs"]
@@ -21,13 +13,15 @@ mod machine_line;
 mod question;
 #[path = "parts/read_json.rs"]
 mod read_json;
+#[path = "parts/repository.rs"]
+mod repository;
 #[path = "parts/scratch.rs"]
 mod scratch;
 
 use asked_here::Here;
-use beside::{generator, library, reference};
 use generator::{Case, Random};
 use question::{bundle, check, list, route, run, run_by_file, show, show_for, show_run, unlist, why, Question};
+use repository::{generator, library, reference};
 
 const SEED: u64 = 15;
 

@@ -1,17 +1,9 @@
 //! The page that plays a run, without a browser: its data is read back, played, and held against the library step by step.
 
-#[allow(clippy::all)]
-#[path = "../../tests"]
-#[rustfmt::skip]
-mod repository {
-    pub mod files;
-    pub mod generator;
-    pub mod library;
-    pub mod reference;
-}
-
 #[path = "parts/read_json.rs"]
 mod read_json;
+#[path = "parts/repository.rs"]
+mod repository;
 
 use abwakiris::{Job, Records, Told};
 use abwakiris_desk::json::Json;
@@ -20,9 +12,8 @@ use abwakiris_desk::page::page;
 use abwakiris_desk::program::Program;
 use abwakiris_desk::replay::of_files;
 use repository::files::*;
-use repository::generator::{self, Case, Random};
-// the generator names these at the top
-use repository::{library, reference};
+use repository::generator::{Case, Random};
+use repository::{generator, library, reference};
 use std::collections::BTreeMap;
 use std::path::{Path, PathBuf};
 use std::process::Command;

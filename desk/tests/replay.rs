@@ -1,23 +1,15 @@
 //! Runs as they are followed against the library, over generated runs: programs that are typed and others, of which many get stuck.
 
-#[allow(clippy::all)]
-#[path = "../../tests"]
-#[rustfmt::skip]
-mod repository {
-    pub mod files;
-    pub mod generator;
-    pub mod library;
-    pub mod reference;
-}
+#[path = "parts/repository.rs"]
+mod repository;
 
 use abwakiris::{Job, Moved, Number, Record, Records, Refusal, Told};
 use abwakiris_desk::device::Device;
 use abwakiris_desk::program::Program;
 use abwakiris_desk::replay::{of_files, rows, Item, Replay};
 use repository::files::*;
-use repository::generator::{self, Case, Random};
-// the generator names these at the top
-use repository::{library, reference};
+use repository::generator::{Case, Random};
+use repository::{generator, library, reference};
 use std::collections::BTreeMap;
 
 /// The files of a run.

@@ -1,14 +1,8 @@
 //! `why` on generated programs that the check refuses with 21, and on some written for it: the trail names the library's merge, every schedule that is
 //! shown does what is said of it, and what is said to be out of reach is not reached by any outcomes that can be tried.
 
-#[path = "../../tests"]
-#[rustfmt::skip] // they have a layout of their own
-#[allow(clippy::all)]
-mod outside {
-    pub mod generator;
-    pub mod library;
-    pub mod reference;
-}
+#[path = "parts/repository.rs"]
+mod repository;
 
 use abwakiris::{Job, Number, Record, Records, Told, RECORD_BYTES};
 use abwakiris_desk::device::Device;
@@ -20,7 +14,7 @@ use abwakiris_desk::why::search::Against;
 use abwakiris_desk::why::steps::{schedule, Step};
 use abwakiris_desk::why::way::Blocked;
 use abwakiris_desk::why::Why;
-use outside::{generator, library, reference};
+use repository::{generator, library, reference};
 use std::process::Command;
 use std::time::{Duration, Instant};
 

@@ -1,11 +1,15 @@
 //! Bad usage, bad files and any bytes: every command has a clear message and status 2, or the library's refusal and status 1. Nothing panics.
 
+#[path = "parts/scratch.rs"]
+mod scratch;
+
+use scratch::Scratch;
 use std::ffi::{OsStr, OsString};
 use std::fs::{self, File};
 use std::io::Read;
 use std::os::unix::ffi::{OsStrExt, OsStringExt};
 use std::os::unix::fs::PermissionsExt;
-use std::path::PathBuf;
+use std::path::Path;
 use std::process::{Command, Stdio};
 
 const TOOL: &str = env!("CARGO_BIN_EXE_abwakiris");
@@ -14,29 +18,21 @@ const PROGRAM: &str = concat!(env!("CARGO_MANIFEST_DIR"), "/../samples/program-a
 const LISTING: &str = concat!(env!("CARGO_MANIFEST_DIR"), "/../samples/listing-a");
 
 /// A folder for a test, which goes with it.
-struct Room(PathBuf);
+struct Room(Scratch);
 
 impl Room {
     fn new(name: &str) -> Room {
-        let room = PathBuf::from(env!("CARGO_TARGET_TMPDIR")).join(format!("bad-input-{name}-{}", std::process::id()));
-        fs::create_dir_all(&room).unwrap();
-        Room(room)
+        Room(Scratch::new(&format!("bad-input-{name}")))
     }
 
     fn file(&self, name: impl AsRef<OsStr>, bytes: &[u8]) -> OsString {
-        let path = self.0.join(name.as_ref());
+        let path = self.0.path().join(name.as_ref());
         fs::write(&path, bytes).unwrap();
         path.into_os_string()
     }
 
     fn path(&self, name: &str) -> OsString {
-        self.0.join(name).into_os_string()
-    }
-}
-
-impl Drop for Room {
-    fn drop(&mut self) {
-        let _ = fs::remove_dir_all(&self.0);
+        self.0.path().join(name).into_os_string()
     }
 }
 
@@ -195,10 +191,10 @@ fn files_that_cannot_be_read() {
     let endless = OsString::from("/dev/zero");
     let long = room.path("long");
     File::create(&long).unwrap().set_len(5 << 30).unwrap();
-    let inside = PathBuf::from(DEVICE).join("inside").into_os_string();
+    let inside = Path::new(DEVICE).join("inside").into_os_string();
     let mut cases = vec![
         (room.path("missing"), "missing: no such file"),
-        (room.0.clone().into_os_string(), ": is a directory"),
+        (room.0.path().as_os_str().to_os_string(), ": is a directory"),
         (long, "long: has 5368709120 bytes, and no file of more than 1048576 is read"),
         (endless, "/dev/zero: longer than 1048576 bytes"),
         (inside, "inside: cannot be read: Not a directory"),
@@ -290,7 +286,7 @@ fn names_that_are_no_utf8() {
     ran.is_accepted();
     assert!(String::from_utf8(ran.out).unwrap().contains("p\u{FFFD}\\n on "));
 
-    let written = room.0.join(OsStr::from_bytes(b"o\xFE"));
+    let written = room.0.path().join(OsStr::from_bytes(b"o\xFE"));
     let joined = OsString::from_vec([b"-o=", written.as_os_str().as_bytes()].concat());
     for option in [vec![OsString::from("-o"), written.clone().into_os_string()], vec![joined]] {
         let ran = tool(vec![OsString::from("list"), program.clone()].into_iter().chain(option));
@@ -299,13 +295,13 @@ fn names_that_are_no_utf8() {
         fs::remove_file(&written).unwrap();
     }
     room.file("--job", &fs::read(PROGRAM).unwrap());
-    Ran::of(Command::new(TOOL).args(["list", "--", "--job"]).current_dir(&room.0)).is_accepted();
+    Ran::of(Command::new(TOOL).args(["list", "--", "--job"]).current_dir(room.0.path())).is_accepted();
 }
 
 #[test]
 fn files_that_cannot_be_written() {
     let room = Room::new("unwritten");
-    let folder = room.0.clone().into_os_string();
+    let folder = room.0.path().as_os_str().to_os_string();
     let nowhere = room.path("no/such/folder");
     for line in ["list P -o BAD", "list P -o BAD --json", "unlist T -o BAD", "bundle D P -o BAD"] {
         with_bad(line, &nowhere).is_trouble("no/such/folder: there is no such folder");

@@ -2,6 +2,10 @@
 //!
 //! With `DESK_STORE=1` the outputs are written into the pages instead.
 
+#[path = "parts/scratch.rs"]
+mod scratch;
+
+use scratch::Scratch;
 use std::path::{Path, PathBuf};
 use std::process::Command;
 
@@ -13,10 +17,10 @@ fn top() -> PathBuf {
 }
 
 /// A folder that has the samples, and takes what the commands write.
-fn room() -> PathBuf {
-    let room = std::env::temp_dir().join(format!("abwakiris-pages-{}", std::process::id()));
-    let samples = room.join("samples");
-    std::fs::create_dir_all(&samples).expect("a temporary folder");
+fn room() -> Scratch {
+    let room = Scratch::new("pages");
+    let samples = room.path().join("samples");
+    std::fs::create_dir(&samples).expect("a folder for the samples");
     for entry in std::fs::read_dir(top().join("samples")).expect("samples").flatten() {
         std::fs::copy(entry.path(), samples.join(entry.file_name())).expect("a sample copied");
     }
@@ -61,7 +65,7 @@ fn pages() {
     for name in PAGES {
         let path = top().join(name);
         let page = std::fs::read_to_string(&path).expect(name);
-        let (written, commands) = true_page(&page, &room);
+        let (written, commands) = true_page(&page, room.path());
         assert!(commands > 0, "{name} has no command");
         if std::env::var_os("DESK_STORE").is_some() {
             std::fs::write(&path, &written).expect(name);
@@ -70,5 +74,4 @@ fn pages() {
             assert!(written == page, "{name} differs from what the tool prints (DESK_STORE=1 writes it): {differs:?}");
         }
     }
-    let _ = std::fs::remove_dir_all(room);
 }

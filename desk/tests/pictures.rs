@@ -1,5 +1,8 @@
 //! Pictures: layouts, the drawing in the terminal, the SVG, and the command `show`; over known shapes and over some hundred random devices.
 
+#[path = "parts/scratch.rs"]
+mod scratch;
+
 use abwakiris::Job;
 use abwakiris_desk::device::Device;
 use abwakiris_desk::layout::Layout;
@@ -595,29 +598,27 @@ fn edges_of_no_region_are_closed() {
 
 /// The command itself.
 mod show {
+    use super::scratch::Scratch;
     use super::{bytes, grid, tags};
-    use std::path::PathBuf;
     use std::process::Command;
 
     /// A folder of its own with a device in it.
-    struct Folder(PathBuf);
+    struct Folder(Scratch);
 
     impl Folder {
         fn new(name: &str) -> Folder {
-            let folder = PathBuf::from(env!("CARGO_TARGET_TMPDIR")).join(format!("pictures-{name}"));
-            let _ = std::fs::remove_dir_all(&folder);
-            std::fs::create_dir_all(&folder).expect("a folder");
-            std::fs::write(folder.join("device"), bytes(21, &grid(3, 7), |location| 1 + u8::from(location % 7 > 4))).expect("a device");
-            Folder(folder)
+            let folder = Folder(Scratch::new(&format!("pictures-{name}")));
+            folder.write("device", &bytes(21, &grid(3, 7), |location| 1 + u8::from(location % 7 > 4)));
+            folder
         }
 
         fn write(&self, name: &str, bytes: &[u8]) {
-            std::fs::write(self.0.join(name), bytes).expect("a file");
+            std::fs::write(self.0.path().join(name), bytes).expect("a file");
         }
 
         /// The status, standard output and standard error of `show` with these words.
         fn show(&self, words: &[&str]) -> (Option<i32>, String, String) {
-            let output = Command::new(env!("CARGO_BIN_EXE_abwakiris")).current_dir(&self.0).arg("show").args(words).output().expect("it runs");
+            let output = Command::new(env!("CARGO_BIN_EXE_abwakiris")).current_dir(self.0.path()).arg("show").args(words).output().expect("it runs");
             (output.status.code(), String::from_utf8_lossy(&output.stdout).into_owned(), String::from_utf8_lossy(&output.stderr).into_owned())
         }
 
@@ -629,7 +630,7 @@ mod show {
         }
 
         fn names(&self) -> Vec<String> {
-            let entries = std::fs::read_dir(&self.0).expect("the folder");
+            let entries = std::fs::read_dir(self.0.path()).expect("the folder");
             let mut names: Vec<String> = entries.map(|entry| entry.expect("an entry").file_name().to_string_lossy().into_owned()).collect();
             names.sort();
             names
@@ -656,7 +657,7 @@ mod show {
         let folder = Folder::new("svg");
         let (status, out, error) = folder.show(&["device", "--job=1", "-o", "a picture.svg"]);
         assert_eq!((status, out.as_str(), error.as_str()), (Some(0), "written: a picture.svg\n", ""));
-        let text = std::fs::read_to_string(folder.0.join("a picture.svg")).expect("the picture");
+        let text = std::fs::read_to_string(folder.0.path().join("a picture.svg")).expect("the picture");
         assert!(text.contains("viewBox"));
         tags(&text);
         assert_eq!(folder.names(), ["a picture.svg", "device"]);
@@ -706,7 +707,7 @@ mod show {
         folder.refuses(&["nothing"], "nothing: no such file");
         folder.refuses(&["device", "nothing", "--run", "10"], "nothing: no such file");
         folder.refuses(&["device", "-o", "nowhere/x.svg"], "nowhere/x.svg: there is no such folder");
-        std::fs::create_dir(folder.0.join("folder.svg")).expect("a folder");
+        std::fs::create_dir(folder.0.path().join("folder.svg")).expect("a folder");
         folder.refuses(&["device", "-o", "folder.svg"], "folder.svg: is a directory");
         assert_eq!(folder.names(), ["device", "folder.svg"]);
     }

@@ -10,6 +10,7 @@ pub struct Listing {
     pub lines: Vec<Line>,
 }
 
+/// A line of a listing.
 #[derive(Clone, Debug, PartialEq, Eq)]
 pub struct Line {
     /// The offset of the first of its bytes in the program file.

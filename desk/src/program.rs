@@ -14,6 +14,7 @@ pub struct Program {
     pub listing: Listing,
 }
 
+/// A function.
 #[derive(Clone, Debug)]
 pub struct Function {
     /// The offset of its header.
@@ -25,6 +26,7 @@ pub struct Function {
     pub body: Block,
 }
 
+/// A block of statements: the body of main or of a function, or a block of an if or a while.
 #[derive(Clone, Debug)]
 pub struct Block {
     /// The offset of its length word.
@@ -32,6 +34,7 @@ pub struct Block {
     pub statements: Vec<Statement>,
 }
 
+/// A statement.
 #[derive(Clone, Debug)]
 pub struct Statement {
     /// The offset of its first byte.

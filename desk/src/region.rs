@@ -11,22 +11,26 @@ use abwakiris::Job;
 pub struct Locations([u64; 4]);
 
 impl Locations {
+    /// Whether a location is in it.
     pub fn has(&self, location: usize) -> bool {
         self.0.get(location / 64).map_or(false, |word| word >> (location % 64) & 1 == 1)
     }
 
+    /// Puts a location in it; none that no device has.
     pub fn put(&mut self, location: usize) {
         if let Some(word) = self.0.get_mut(location / 64) {
             *word |= 1 << (location % 64);
         }
     }
 
+    /// Takes a location out of it.
     pub fn take(&mut self, location: usize) {
         if let Some(word) = self.0.get_mut(location / 64) {
             *word &= !(1 << (location % 64));
         }
     }
 
+    /// Whether it has no location.
     pub fn is_empty(&self) -> bool {
         self.0 == [0; 4]
     }
@@ -76,6 +80,7 @@ pub struct Region<'a> {
 }
 
 impl<'a> Region<'a> {
+    /// The region of this job.
     pub fn of(device: &'a Device, job: Job) -> Region<'a> {
         let all: Locations = (0..device.locations()).filter(|&location| device.has(job, location)).collect();
         let near = (0..device.locations()).map(|location| device.near(location).iter().copied().collect::<Locations>().and(&all)).collect();

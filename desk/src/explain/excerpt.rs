@@ -14,6 +14,7 @@ pub struct Excerpt {
     step: usize,
 }
 
+/// A line of an excerpt.
 #[derive(Clone, Debug, PartialEq, Eq)]
 pub struct Row {
     /// The number of the line, or the offset of the first byte.

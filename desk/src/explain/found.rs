@@ -39,6 +39,7 @@ pub fn case(found: &Found, program: &Program) -> Of {
 }
 
 impl<'a> Words<'a> {
+    /// Words for what was found in this body, with no line named yet.
     pub fn new(device: &'a Device, program: &'a Program, job: Job, body: Body) -> Words<'a> {
         Words { device, program, job, body, named: RefCell::default() }
     }

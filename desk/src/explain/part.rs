@@ -6,6 +6,7 @@ use super::words::Of;
 /// The words in braces of a text, filled in.
 pub type Values = Vec<(&'static str, String)>;
 
+/// What is said, as far as it is known.
 #[derive(Debug, Default)]
 pub struct Part {
     /// What is at the place.

@@ -34,6 +34,7 @@ pub enum Since {
     },
 }
 
+/// A slot: what it holds, and how that came about.
 #[derive(Clone, Copy, Debug, Default, PartialEq, Eq)]
 pub struct Slot {
     pub holds: Holds,
@@ -42,6 +43,7 @@ pub struct Slot {
     pub lost: Option<Since>,
 }
 
+/// All slots of a body.
 pub type Slots = [Slot; 32];
 
 /// What typing found at a place.

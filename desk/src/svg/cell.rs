@@ -11,6 +11,7 @@ pub const INK: &str = "#222222";
 pub const ROUTE: &str = "#7b1e7a";
 /// What is reached.
 pub const REACHED: &str = "#bfe8d6";
+/// Lines and dots of what is reached.
 pub const REACHED_INK: &str = "#00694d";
 const GREY: &str = "#8a8a8a";
 

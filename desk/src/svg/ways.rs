@@ -62,6 +62,7 @@ impl Ways {
         CELL + self.gap
     }
 
+    /// The space between two rows or columns.
     pub fn gap(&self) -> i32 {
         self.gap
     }

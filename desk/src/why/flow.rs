@@ -26,6 +26,7 @@ pub struct Graph {
 /// A step, by its number in its graph.
 pub type Number = usize;
 
+/// A step of a body: a statement, or the end.
 #[derive(Clone, Debug)]
 pub struct Step {
     /// The offset of its statement; none for the end.
@@ -87,10 +88,12 @@ pub struct Fork {
 }
 
 impl Flow {
+    /// The graphs of this program.
     pub fn of(program: &Program) -> Flow {
         Flow { functions: program.functions.iter().map(|function| Graph::of(&function.body)).collect(), main: Graph::of(&program.main) }
     }
 
+    /// The graph of a body.
     pub fn graph(&self, body: Body) -> &Graph {
         match body {
             Body::Main => &self.main,

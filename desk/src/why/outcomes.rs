@@ -20,6 +20,7 @@ const MOST_OUTCOMES: usize = 24;
 const MOST_REASONS: usize = 4;
 
 impl Words<'_> {
+    /// What the search for outcomes came to.
     pub(super) fn outcomes(&self) -> String {
         let states = self.why.states;
         match &self.why.lead {
@@ -125,6 +126,7 @@ impl Words<'_> {
         }
     }
 
+    /// The run beside it that does not halt; nothing where no outcomes were found that halt the job.
     pub(super) fn beside(&self) -> String {
         let stuck = if let Lead::Found { steps, .. } = &self.why.lead { steps } else { return String::new() };
         let (halts, matters) = (stuck.len(), stuck.iter().any(|step| step.chosen));

@@ -16,6 +16,7 @@ pub struct Values {
 }
 
 impl Values {
+    /// Whether a slot may hold this value.
     pub fn may_be(&self, slot: u8, value: bool) -> bool {
         (if value { self.one } else { self.zero }) >> slot & 1 == 1
     }

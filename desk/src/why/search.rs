@@ -47,6 +47,7 @@ pub enum Run {
     Unknown,
 }
 
+/// A run that was found.
 #[derive(Clone, Debug)]
 pub struct Found {
     /// How many steps it has, where it is the shortest; else about so many.
@@ -126,6 +127,7 @@ impl<'a> Search<'a> {
         run
     }
 
+    /// Which body it is.
     pub fn body(&self, place: Where) -> Body {
         match place {
             Where::Clear(body) => body,

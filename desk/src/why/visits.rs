@@ -79,6 +79,7 @@ pub struct Visits<'a> {
 }
 
 impl<'a> Visits<'a> {
+    /// The visits of this program by the job of this region; none is asked for yet.
     pub fn of(program: &'a Program, region: Region<'a>) -> Visits<'a> {
         let mut visits = Visits { program, region, functions: vec![], ids: HashMap::new(), visits: vec![], met: vec![], clear: HashMap::new() };
         for function in &program.functions {
@@ -126,6 +127,7 @@ impl<'a> Visits<'a> {
         Some(id)
     }
 
+    /// The visit of this number.
     pub fn visit(&self, id: Id) -> Rc<Visit> {
         Rc::clone(&self.visits[id])
     }

@@ -30,6 +30,7 @@ pub enum Blocked {
 }
 
 impl Way {
+    /// The way between the ends of the merge that the trail leads to.
     pub fn of(region: &Region<'_>, trail: &Trail<'_>) -> Way {
         let [first, second] = trail.ends;
         let occupied = trail.last().standing.occupied;

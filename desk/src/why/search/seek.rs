@@ -94,6 +94,7 @@ pub struct Seek<'s, 'a> {
 }
 
 impl<'s, 'a> Seek<'s, 'a> {
+    /// The search for a run through a body from a start to a goal, the looser one where that is asked for.
     pub fn of(search: &'s mut Search<'a>, place: Where, start: Start, goal: Number, loose: bool) -> Seek<'s, 'a> {
         let graph = search.flow.graph(search.body(place));
         let blocked = search.blocked(place);

@@ -87,9 +87,9 @@ pub struct Seek<'s, 'a> {
     looked_at: Vec<Vec<Wishes>>,
     /// What keeps the job from going on, as far as it was seen.
     against: BTreeSet<Against>,
-    /// Whether what is found is the shortest.
+    /// Whether what is found is the shortest, if nothing was left out.
     shortest: bool,
-    /// Whether something was left out for a limit.
+    /// Whether something was left out since the limit of a callee was met.
     unknown: bool,
 }
 
@@ -132,7 +132,7 @@ impl<'s, 'a> Seek<'s, 'a> {
         while let Some(number) = self.next() {
             let State { step, wishes, cost, .. } = self.states[number];
             if step == self.start.step && wishes.granted_by(self.start.values) {
-                return Run::Found(Found { steps: cost.steps, shortest: self.shortest, hops: self.hops(number) });
+                return Run::Found(Found { steps: cost.steps, shortest: self.shortest && !self.unknown, hops: self.hops(number) });
             }
             if looked == MOST_STATES || self.search.left == 0 {
                 return Run::Unknown;

@@ -459,6 +459,17 @@ fn behind_a_loop_without_end() {
     }
 }
 
+/// The outcome by which the loop is come to is the one by which it is not gone into. That the merge has no path is no reason that the job never comes to it.
+#[test]
+fn no_reason_of_its_own() {
+    let bad = "    init 2 1\n    while 4\n      merge 5 X 0 X 1\n    free 2\n";
+    let refused = Refused::on_grid(3, 1, &format!("program 1\nmain\n{ROW}  measure 3 Z 0\n  ref 4 3\n  if 3\n  else\n{bad}  free 1\n  free 0\n"));
+    let why = refused.why();
+    refused.assert_shown(&why);
+    assert!(assert_no_run_says_otherwise(&refused, &why));
+    assert!(matches!(&why.lead, Lead::Never { against, .. } if against.is_empty()), "{:?}", why.lead);
+}
+
 /// The merge that is refused first is out of reach, another one is not.
 #[test]
 fn halts_elsewhere() {
@@ -495,6 +506,28 @@ fn at_the_second_call_only() {
     assert_eq!(found(&why).len(), 3 + 3 + 2);
     assert!(choices(found(&why)).is_empty());
     assert!(matches!(why.beside, Some(Beside::Never)));
+}
+
+/// The lines that may have made the qubits at the merge, for each location.
+fn made(refused: &Refused) -> Vec<Vec<usize>> {
+    let why = refused.why();
+    refused.assert_shown(&why);
+    why.held.iter().map(|held| held.made.iter().map(|&at| refused.line(at)).collect()).collect()
+}
+
+#[test]
+fn made_by_an_earlier_round() {
+    let body = "    measure 5 Z 0\n    if 5\n      merge 6 X 0 X 1\n    else\n    free 2\n    init 2 1\n";
+    let refused = Refused::on_grid(3, 1, &format!("program 1\nmain\n{ROW}  init 2 1\n  bool 3 1\n  ref 4 3\n  while 4\n{body}  free 0\n  free 1\n  free 2\n"));
+    assert_eq!(made(&refused), [vec![3], vec![5, 14], vec![4]]);
+}
+
+#[test]
+fn given_or_made_in_the_callee() {
+    let function = "function 0 locations 2 arguments 2\n  measure 2 X 0\n  if 2\n    free 0\n    init 0 0\n  else\n  merge 3 X 0 X 1\n";
+    let main = format!("main\n{ROW}  init 2 1\n  call 0 at 0 2 with 0 1\n  free 0\n  free 1\n  free 2\n");
+    let refused = Refused::on_grid(3, 1, &format!("program 1\n{function}{main}"));
+    assert_eq!(made(&refused), [vec![6, 10], vec![12], vec![11]]);
 }
 
 /// A round of the loop keeps its outcome; the merge comes where this outcome and the one before are 1.
@@ -581,6 +614,38 @@ fn after_the_most_merges() {
     refused.assert_shown(&why);
     // 2^15 - 1 calls with their returns, 2^14 merges, three inits and the merge itself
     assert!(matches!(why.lead, Lead::TooLong { fewest: 81_922 }), "{:?}", why.lead);
+}
+
+/// A function with a large loop is come to at thousands of lists of locations, and each time its merge has no path. What guards know is the same each time.
+#[test]
+fn at_very_many_locations() {
+    let functions = if cfg!(debug_assertions) { 12 } else { 15 };
+    // each round passes the references on by one
+    let made: String = (3..15).map(|slot| format!("  ref {slot} 2\n")).collect();
+    let passed: String = (3..14).map(|slot| format!("    get {} {}\n    set {slot} {}\n", slot + 12, slot + 1, slot + 12)).collect();
+    let body = format!("{passed}    measure 26 Z 0\n    set 14 26\n{}    measure 29 Z 0\n    set 30 29\n", "    gate H 0\n".repeat(600));
+    let first = format!("  bool 2 0\n{made}  measure 31 Z 0\n  ref 30 31\n  while 30\n{body}  measure 29 Z 0\n  if 29\n    merge 27 X 0 X 1\n  else\n");
+    let mut listing = format!("program 1\nfunction 0 locations 16 arguments 2\n{first}");
+    let mut others: Vec<usize> = (2..16).collect();
+    for function in 1..functions {
+        listing.push_str(&format!("function {function} locations 16 arguments 2\n"));
+        for _ in 0..2 {
+            others.rotate_left(function);
+            others.swap(0, 1);
+            let others: String = others.iter().map(|other| format!(" {other}")).collect();
+            listing.push_str(&format!("  call {} at 0 1{others} with 0 1\n", function - 1));
+        }
+    }
+    let locations: String = (0..16).map(|location| format!(" {}", 2 * location)).collect();
+    let main = format!("main\n{ROW}  call {} at{locations} with 0 1\n  free 0\n  free 1\n", functions - 1);
+    let program = abwakiris::read_listing(listing + &main).expect("a listing");
+    let apart = [b"QLG\x00\x01\x00\x20\x00\x00".to_vec(), vec![1; 32]].concat();
+    let refused = Refused::of(&apart, &program, 1).expect("refused with 21");
+    let why = in_time(|| refused.why());
+    refused.assert_shown(&why);
+    assert!(matches!(&why.lead, Lead::Found { shortest: true, .. }), "{:?}", why.lead);
+    // there are more steps to the end than a schedule can have
+    assert!(matches!(why.beside, Some(Beside::Never)), "{:?}", why.beside);
 }
 
 /// The slots of outcomes, beside two ends, what is between them and two bools with a reference.

@@ -1,6 +1,6 @@
 //! Who holds which location where a trail ends, and which line made the qubit.
 
-use super::trail::Trail;
+use super::trail::{Leg, Trail};
 use super::visits::{Left, Visits};
 use crate::program::{Block, Body, Kind};
 use std::collections::BTreeSet;
@@ -25,17 +25,19 @@ impl Held {
 /// The occupied locations, rising.
 pub fn held(visits: &Visits<'_>, trail: &Trail<'_>) -> Vec<Held> {
     let valid = valid(trail);
-    let made: Vec<Made> = trail.legs.iter().map(|leg| makers(visits, visits.program.body(leg.visit.body), leg.site.at)).collect();
+    let made: Vec<Made> = trail.legs.iter().map(|leg| makers(visits, leg)).collect();
     let at = |location: usize| {
         let mut held = Held { location, holders: vec![], made: vec![] };
         for (i, leg) in trail.legs.iter().enumerate() {
             for slot in (0..32).filter(|&slot| valid[i][slot] && leg.standing.slots[slot] == Some(location)) {
                 held.holders.push((leg.visit.body, slot as u8));
-                if !made[i][slot].is_empty() {
-                    held.made = made[i][slot].iter().copied().collect();
+                if !made[i][slot].contains(&GIVEN) {
+                    held.made.clear();
                 }
+                held.made.extend(made[i][slot].iter().filter(|&&at| at != GIVEN));
             }
         }
+        held.made.sort_unstable();
         held
     };
     trail.last().standing.occupied.list().into_iter().map(at).collect()
@@ -57,15 +59,25 @@ fn valid(trail: &Trail<'_>) -> Vec<[bool; 32]> {
     valid
 }
 
-/// For each slot the statements that may have made its qubit; none where it was given.
+/// For each slot the statements that may have made its qubit.
 type Made = [BTreeSet<usize>; 32];
 
-/// The makers when the statement at `site` comes.
-fn makers(visits: &Visits<'_>, body: &Block, site: usize) -> Made {
+/// Stands for the caller, who gave the qubit.
+const GIVEN: usize = usize::MAX;
+
+/// The makers when the site of a leg comes.
+fn makers(visits: &Visits<'_>, leg: &Leg<'_>) -> Made {
     let mut made = Made::default();
-    over(visits, body, site, &mut made);
+    if let Body::Function(number) = leg.visit.body {
+        let arguments = visits.program.functions[number].arguments;
+        made.iter_mut().take(arguments).for_each(|makers| *makers = BTreeSet::from([GIVEN]));
+    }
+    over(visits, visits.program.body(leg.visit.body), leg.site.at, &mut made);
     made
 }
+
+/// A site that is in no block.
+const NOWHERE: usize = usize::MAX;
 
 /// Goes over a block up to the site; whether it is in this block.
 fn over(visits: &Visits<'_>, block: &Block, site: usize, made: &mut Made) -> bool {
@@ -94,10 +106,12 @@ fn over(visits: &Visits<'_>, block: &Block, site: usize, made: &mut Made) -> boo
             }
             Kind::While { body, .. } => {
                 let before = made.clone();
-                if over(visits, body, site, made) {
-                    return true;
-                }
+                over(visits, body, NOWHERE, made);
                 unite(made, &before);
+                // before each round but the first there was another one
+                if body.statement(site).is_some() {
+                    return over(visits, body, site, made);
+                }
             }
             _ => {}
         }

@@ -36,13 +36,16 @@ impl Values {
     }
 }
 
-/// The values before each step; none where the job never comes. The merges at these offsets do not move.
-pub fn possible(graph: &Graph, start: Start, blocked: &BTreeSet<usize>) -> Vec<Option<Values>> {
+/// The values before each step; none where the job never comes. The merges at these offsets do not move. And how many steps were looked at, a step again
+/// each time.
+pub fn possible(graph: &Graph, start: Start, blocked: &BTreeSet<usize>) -> (Vec<Option<Values>>, usize) {
+    let mut looked = 0;
     let mut before: Vec<Option<Values>> = vec![None; graph.steps.len()];
     before[start.step] = Some(Values { zero: !start.values, one: start.values });
     let mut waiting = BTreeSet::from([start.step]);
     while let Some(&here) = waiting.iter().next() {
         waiting.remove(&here);
+        looked += 1;
         if let Some(values) = before[here] {
             for (next, values) in after(graph, here, &values, blocked) {
                 let more = before[next].map_or(values, |known| known.or(&values));
@@ -53,7 +56,7 @@ pub fn possible(graph: &Graph, start: Start, blocked: &BTreeSet<usize>) -> Vec<O
             }
         }
     }
-    before
+    (before, looked)
 }
 
 /// The steps that may come after a step, each with the values then.

@@ -17,6 +17,12 @@ use std::cmp::Reverse;
 use std::collections::{BTreeSet, BinaryHeap, HashMap};
 use std::rc::Rc;
 
+/// The most grounds that are remembered.
+const MOST_GROUNDS: usize = 1_000;
+
+/// So many steps that a ground is laid over count as a state.
+const STEPS_A_STATE: usize = 8;
+
 /// A body as a search finds it.
 #[derive(Clone, Copy, Debug, PartialEq, Eq, Hash)]
 pub enum Where {
@@ -26,7 +32,7 @@ pub enum Where {
 }
 
 /// Where a run starts: a step, and what the slots hold.
-#[derive(Clone, Copy, Debug)]
+#[derive(Clone, Copy, Debug, PartialEq, Eq, Hash)]
 pub struct Start {
     pub step: Number,
     pub values: u32,
@@ -86,18 +92,26 @@ pub struct Search<'a> {
     left: usize,
     /// The runs through whole bodies.
     through: HashMap<Where, Rc<Run>>,
+    grounds: HashMap<(Body, Start, BTreeSet<usize>), Rc<Ground>>,
     /// The fewest steps through each function, guards left out.
     least: Vec<u64>,
+}
+
+/// What is known of a body before anything is searched for. It is the same for all visits in which the same merges have no path.
+struct Ground {
+    /// What slots may hold before each step; none where the job never comes.
+    possible: Vec<Option<Values>>,
+    /// The fewest steps from the start to each step, guards left out.
+    ahead: Vec<u64>,
 }
 
 impl<'a> Search<'a> {
     /// Searches that look at so many states at most.
     pub fn of(flow: &'a Flow, visits: Visits<'a>, most: usize) -> Search<'a> {
-        let mut search = Search { flow, visits, states: 0, left: most, through: HashMap::new(), least: vec![] };
+        let mut search = Search { flow, visits, states: 0, left: most, through: HashMap::new(), grounds: HashMap::new(), least: vec![] };
         for function in 0..search.visits.program.functions.len() {
-            let graph = flow.graph(Body::Function(function));
-            let none = BTreeSet::new();
-            let least = search.ahead(graph, 0, &possible(graph, Start::ENTRY, &none), &none)[graph.end()];
+            let body = Body::Function(function);
+            let least = search.ground(body, Start::ENTRY, &BTreeSet::new()).ahead[flow.graph(body).end()];
             search.least.push(least);
         }
         search
@@ -110,6 +124,9 @@ impl<'a> Search<'a> {
 
     /// A run through a body from a start to a goal; the shortest, where the limits allow to know it.
     pub fn run(&mut self, place: Where, start: Start, goal: Number) -> Run {
+        if self.left == 0 {
+            return Run::Unknown;
+        }
         match Seek::of(self, place, start, goal, false).run() {
             Run::Unknown => Seek::of(self, place, start, goal, true).run(),
             run => run,
@@ -161,6 +178,23 @@ impl<'a> Search<'a> {
             Where::Clear(_) => BTreeSet::new(),
             Where::Visit(id) => self.visits.met(id).iter().filter_map(|met| if let Met::Blocked(at) = met { Some(*at) } else { None }).collect(),
         }
+    }
+
+    /// The ground of a body in which these merges have no path.
+    fn ground(&mut self, body: Body, start: Start, blocked: &BTreeSet<usize>) -> Rc<Ground> {
+        let key = (body, start, blocked.clone());
+        if let Some(ground) = self.grounds.get(&key) {
+            return Rc::clone(ground);
+        }
+        let graph = self.flow.graph(body);
+        let (possible, looked) = possible(graph, start, blocked);
+        self.left = self.left.saturating_sub(looked / STEPS_A_STATE);
+        let ahead = self.ahead(graph, start.step, &possible, blocked);
+        let ground = Rc::new(Ground { possible, ahead });
+        if self.grounds.len() < MOST_GROUNDS {
+            self.grounds.insert(key, Rc::clone(&ground));
+        }
+        ground
     }
 
     /// The fewest steps from one step to each other, guards heeded only as far as they have one value.

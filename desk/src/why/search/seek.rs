@@ -17,12 +17,12 @@
 //! and goes over an if as a whole where its blocks write no slot that is wished for: then its guard does not matter. It is as sure of what it finds and of
 //! what there is not, but what it finds may not be the shortest.
 
-use super::{Against, Found, Hop, Run, Search, Start, Where};
+use super::{Against, Found, Ground, Hop, Run, Search, Start, Where};
 use crate::why::flow::{Before, Does, Fork, Graph, Number};
-use crate::why::possible::{possible, Values};
 use crate::why::wishes::Wishes;
 use std::cmp::Reverse;
 use std::collections::{BTreeSet, BinaryHeap, HashMap};
+use std::rc::Rc;
 
 /// The most states of one search.
 const MOST_STATES: usize = 120_000;
@@ -72,10 +72,7 @@ pub struct Seek<'s, 'a> {
     loose: bool,
     /// The merges without a path.
     blocked: BTreeSet<usize>,
-    /// What slots may hold before each step; none where the job never comes.
-    possible: Vec<Option<Values>>,
-    /// The fewest steps from the start to each step, guards left out.
-    ahead: Vec<u64>,
+    ground: Rc<Ground>,
     /// In how many steps each statement moves, as far as that is known.
     moves: Vec<Option<Moves>>,
     /// All states that were found.
@@ -98,9 +95,8 @@ impl<'s, 'a> Seek<'s, 'a> {
     pub fn of(search: &'s mut Search<'a>, place: Where, start: Start, goal: Number, loose: bool) -> Seek<'s, 'a> {
         let graph = search.flow.graph(search.body(place));
         let blocked = search.blocked(place);
-        let possible = possible(graph, start, &blocked);
         Seek {
-            ahead: search.ahead(graph, start.step, &possible, &blocked),
+            ground: search.ground(search.body(place), start, &blocked),
             moves: vec![None; graph.steps.len()],
             states: vec![],
             waiting: BinaryHeap::new(),
@@ -116,13 +112,12 @@ impl<'s, 'a> Seek<'s, 'a> {
             goal,
             loose,
             blocked,
-            possible,
         }
     }
 
     /// Looks at states until one is a run, there are no more, or a limit is met.
     pub fn run(mut self) -> Run {
-        if self.possible[self.goal].is_none() {
+        if self.ground.possible[self.goal].is_none() {
             self.search.states += 1;
             self.stand_before_goal();
         }
@@ -168,12 +163,12 @@ impl<'s, 'a> Seek<'s, 'a> {
     /// Takes a state up to be looked at, unless it cannot be or was found before at no more cost.
     fn found(&mut self, state: State) {
         let State { step, wishes, cost, .. } = state;
-        let is_possible = self.possible[step].map_or(false, |values| values.may_grant(&wishes));
+        let is_possible = self.ground.possible[step].map_or(false, |values| values.may_grant(&wishes));
         if !is_possible || self.best.get(&(step, wishes)).map_or(false, |&best| best <= cost) {
             return;
         }
         self.best.insert((step, wishes), cost);
-        let ahead = if self.loose { self.ahead[step].saturating_mul(STRAIGHT) } else { self.ahead[step] };
+        let ahead = if self.loose { self.ground.ahead[step].saturating_mul(STRAIGHT) } else { self.ground.ahead[step] };
         let whole = Cost { steps: cost.steps.saturating_add(ahead), ..cost };
         self.waiting.push(Reverse((whole, Reverse(cost.steps), self.states.len())));
         self.states.push(state);
@@ -185,7 +180,7 @@ impl<'s, 'a> Seek<'s, 'a> {
         let state = self.states[number];
         let forks = if self.loose { self.forks(state.step, &state.wishes) } else { vec![] };
         for fork in &forks {
-            let steps = self.ahead[state.step].saturating_sub(self.ahead[fork.step]).max(1);
+            let steps = self.ground.ahead[state.step].saturating_sub(self.ground.ahead[fork.step]).max(1);
             let cost = Cost { steps: state.cost.steps.saturating_add(steps), ..state.cost };
             self.found(State { step: fork.step, cost, hop: Hop::Fork(fork.step, state.step), then: number, ..state });
         }
@@ -247,7 +242,7 @@ impl<'s, 'a> Seek<'s, 'a> {
 
     /// Whether the job comes to a guard, but never with the value that leads on.
     fn never_goes(&self, before: &Before) -> bool {
-        match (self.possible[before.step], self.graph.steps[before.step].does) {
+        match (self.ground.possible[before.step], self.graph.steps[before.step].does) {
             (Some(values), Does::Guards { guard, .. }) => !values.may_be(guard, before.taken),
             _ => false,
         }
@@ -256,7 +251,8 @@ impl<'s, 'a> Seek<'s, 'a> {
     /// Remembers what keeps the job from going on at a step that it comes to.
     fn stands_against(&mut self, before: &Before) {
         let step = &self.graph.steps[before.step];
-        if let (Some(_), Some(at)) = (self.possible[before.step], step.at) {
+        // in a loop the goal comes before itself, and says nothing of why it is not come to
+        if let (Some(_), Some(at), true) = (self.ground.possible[before.step], step.at, before.step != self.goal) {
             self.against.extend(match step.does {
                 Does::Guards { .. } => Some(Against::Guard { at, needed: before.taken }),
                 Does::Measures { .. } => Some(Against::NoPath { at }),
@@ -273,7 +269,7 @@ impl<'s, 'a> Seek<'s, 'a> {
         let mut seen = BTreeSet::from([self.goal]);
         while let Some(step) = waiting.pop() {
             for before in &graph.before[step] {
-                if self.possible[before.step].is_some() {
+                if self.ground.possible[before.step].is_some() {
                     self.stands_against(before);
                 } else if seen.insert(before.step) {
                     waiting.push(before.step);

@@ -23,21 +23,23 @@ impl Words<'_> {
     /// What the search for outcomes came to.
     pub(super) fn outcomes(&self) -> String {
         let states = self.why.states;
+        // another call may lead to the same merge, by a shorter run too
+        let there = if self.why.trail.legs.len() > 1 { "there by these calls" } else { "there" };
         match &self.why.lead {
             Lead::Found { steps, shortest } => {
-                let which = if *shortest { "no run there is shorter" } else { "this is the shortest run that was found, and there may be a shorter one" };
+                let which = if *shortest { format!("no run {there} is shorter") } else { "it is the shortest run that was found, and there may be a shorter one".into() };
                 format!("  The job halts at step {}; {which}.\n\n{}", steps.len(), self.stuck(steps))
             }
             Lead::Never { body, site, against } => {
                 let shown = if against.len() <= MOST_REASONS { &against[..] } else { &[] };
-                let mut text = format!("  No outcomes lead there: the search saw every state that matters ({states}), and the guards keep the job away.\n");
+                let mut text = format!("  No outcomes lead {there}: the search saw every state that matters ({states}), and the guards keep the job away.\n");
                 text.push_str(&format!("  In {body} it never comes to line {}{}\n", self.line(*site).0, if shown.is_empty() { "." } else { ":" }));
                 shown.iter().for_each(|against| text.push_str(&format!("  - {}\n", self.against(against))));
                 text + &self.elsewhere()
             }
             Lead::TooLong { fewest } => {
                 let fewest = if *fewest == u64::MAX { "more than can be counted".to_string() } else { fewest.to_string() };
-                let most = format!("A schedule has at most {MOST_STEPS} steps, and the shortest run that comes there has {fewest}.");
+                let most = format!("A schedule has at most {MOST_STEPS} steps, and the shortest run that comes {there} has {fewest}.");
                 format!("  {most}\n  So there is none to replay.\n")
             }
             Lead::GivenUp => format!("  None were found. {states} states were looked at, and there are more: outcomes may lead there all the same.\n"),
@@ -49,8 +51,8 @@ impl Words<'_> {
         let chosen: Vec<(usize, &Step)> = steps.iter().enumerate().filter(|(_, step)| step.chosen).collect();
         let mut text = match chosen.len() {
             0 => "  No outcome matters: every run of the job comes there.\n".to_string(),
-            1 => "  One outcome matters:\n".to_string(),
-            number => format!("  {number} outcomes matter:\n"),
+            1 => "  One outcome decides its way:\n".to_string(),
+            number => format!("  {number} outcomes decide its way:\n"),
         };
         let shown = chosen.iter().take(MOST_OUTCOMES).map(|&(i, step)| self.step(i, step, format!("outcome {}", u8::from(step.outcome))));
         let last = steps.last().map(|last| self.step(steps.len() - 1, last, "stuck: no path".to_string()));
@@ -114,8 +116,11 @@ impl Words<'_> {
         match &self.why.elsewhere {
             Some(Elsewhere::Found { at, steps }) => {
                 let (line, text) = self.line(*at);
-                let but = format!("But the job can halt at another merge: line {line}, {text}, has no path either. It halts there at step {}.", steps.len());
-                format!("\n  {but}\n\n{}", self.stuck(steps))
+                let but = match *at == self.why.trail.merge().at {
+                    true => format!("But by another call the job can come to this merge, line {line}, and it has no path there either."),
+                    false => format!("But the job can halt at another merge: line {line}, {text}, has no path either."),
+                };
+                format!("\n  {but} It halts there at step {}.\n\n{}", steps.len(), self.stuck(steps))
             }
             Some(Elsewhere::Nowhere) => {
                 let none = "No outcomes lead to any other merge without a path. The check does not look at the values of guards, so it refuses the program";

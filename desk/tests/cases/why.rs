@@ -85,8 +85,12 @@ fn not_reached() -> Vec<Case> {
     let silent = chain(0, 0, &[], 15, 65);
     let wall = [init(0, 0), init(1, 2), init(2, 1), merge(4, 0, 1), free(0), free(1), free(2)];
     let main = calling(&silent, &[]).len();
+    // the check comes to the merge by a call that no outcomes lead to; another call leads there
+    let calls = [boolean(3, 0), when(3, &[call(0, &[0, 2], &[0, 1])], &[]), call(0, &[0, 2], &[0, 1])];
+    let other = calling(&[function(2, 2, &[merge(2, 0, 1)])], &[&wall[..3], &calls, &wall[4..]].concat());
     vec![
         at(&line(3), "why-21-guard", &ended(&[boolean(2, 0), when(2, &taken, &[])]), 24),
+        at(&line(3), "why-21-by-another-call", &other, 10).stuck_by(&[0x10; 7]).says(&["line 3", "by another call"]),
         at(&line(3), "why-21-guard-of-loop", &ended(&[boolean(2, 0), refer(3, 2), repeat(3, &taken)]), 27),
         at(&line(3), "why-21-never-ending-loop", &ended(&[boolean(2, 1), refer(3, 2), repeat(3, &[]), taken.concat()]), 27),
         at(&line(3), "why-21-elsewhere", &other, 24).says(&["No outcomes lead there", "slot 2 is always 0", "101010101110"]),

@@ -4,6 +4,7 @@
 //! is said that `docs/listing.md` does not allow, and nothing where none is seen.
 
 use super::excerpt::{indent, printable};
+use super::partial::{DEEPEST, MOST_FUNCTIONS};
 use crate::numbers::many;
 use abwakiris::MOST_PROGRAM_BYTES;
 
@@ -54,9 +55,6 @@ const STATEMENTS: [(&str, &str); 14] = [
     ("call", "F"),
     ("bool", "YV"),
 ];
-
-const MOST_FUNCTIONS: usize = 15;
-const DEEPEST: usize = 8;
 
 /// What is wrong, where something is.
 type Wrong = Option<String>;

@@ -45,11 +45,12 @@ struct Reader<'a> {
     lines: usize,
 }
 
-/// The limits of `docs/FORMAT.md`.
-const MOST_FUNCTIONS: usize = 15;
+/// The most functions of a program; this and the others are the limits of `docs/FORMAT.md`.
+pub const MOST_FUNCTIONS: usize = 15;
 const MOST_PARAMETERS: u8 = 16;
 const MOST_ARGUMENTS: u8 = 8;
-const DEEPEST: usize = 8;
+/// The deepest block.
+pub const DEEPEST: usize = 8;
 const SLOTS: usize = 32;
 
 /// An operand in words, by the case of 10 that is about it.

@@ -78,7 +78,7 @@ fn follow(files: &Files, tally: &mut Tally) {
         Ok(run) => run,
     };
     tally.runs += 1;
-    let (_, _, run) = files.replayed().unwrap();
+    let (device, programs, run) = files.replayed().unwrap();
     assert_eq!((run.steps.len(), run.moved, &run.map), (files.schedule.len(), moved, &map));
     let mut before = vec![0; device.locations()];
     for (i, (step, record)) in run.steps.iter().zip(&records).enumerate() {

@@ -27,7 +27,11 @@ impl Words<'_> {
         let there = if self.why.trail.legs.len() > 1 { "there by these calls" } else { "there" };
         match &self.why.lead {
             Lead::Found { steps, shortest } => {
-                let which = if *shortest { format!("no run {there} is shorter") } else { "it is the shortest run that was found, and there may be a shorter one".into() };
+                let which = if *shortest {
+                    format!("no run {there} is shorter")
+                } else {
+                    "it is the shortest run that was found, and there may be a shorter one".into()
+                };
                 format!("  The job halts at step {}; {which}.\n\n{}", steps.len(), self.stuck(steps))
             }
             Lead::Never { body, site, against } => {

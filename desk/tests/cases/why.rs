@@ -80,20 +80,20 @@ fn by_outcomes() -> Vec<Case> {
 fn not_reached() -> Vec<Case> {
     let taken = [init(4, 1), merge(5, 0, 1), free(4)];
     let ended = |rest: &[Statement]| only(&[&[init(0, 0), init(1, 2)][..], rest, &[free(0), free(1)]].concat());
-    let other = ended(&[boolean(2, 0), when(2, &taken, &[]), measure(6, 0), when(6, &taken, &[])]);
+    let elsewhere = ended(&[boolean(2, 0), when(2, &taken, &[]), measure(6, 0), when(6, &taken, &[])]);
     let endless = ended(&[init(4, 1), boolean(2, 1), refer(3, 2), repeat(3, &[measure(6, 0), set(3, 6)]), merge(5, 0, 1), free(4)]);
     let silent = chain(0, 0, &[], 15, 65);
     let wall = [init(0, 0), init(1, 2), init(2, 1), merge(4, 0, 1), free(0), free(1), free(2)];
     let main = calling(&silent, &[]).len();
     // the check comes to the merge by a call that no outcomes lead to; another call leads there
     let calls = [boolean(3, 0), when(3, &[call(0, &[0, 2], &[0, 1])], &[]), call(0, &[0, 2], &[0, 1])];
-    let other = calling(&[function(2, 2, &[merge(2, 0, 1)])], &[&wall[..3], &calls, &wall[4..]].concat());
+    let by_another = calling(&[function(2, 2, &[merge(2, 0, 1)])], &[&wall[..3], &calls, &wall[4..]].concat());
     vec![
         at(&line(3), "why-21-guard", &ended(&[boolean(2, 0), when(2, &taken, &[])]), 24),
-        at(&line(3), "why-21-by-another-call", &other, 10).stuck_by(&[0x10; 7]).says(&["line 3", "by another call"]),
+        at(&line(3), "why-21-by-another-call", &by_another, 10).stuck_by(&[0x10; 7]).says(&["line 3", "by another call"]),
         at(&line(3), "why-21-guard-of-loop", &ended(&[boolean(2, 0), refer(3, 2), repeat(3, &taken)]), 27),
         at(&line(3), "why-21-never-ending-loop", &ended(&[boolean(2, 1), refer(3, 2), repeat(3, &[]), taken.concat()]), 27),
-        at(&line(3), "why-21-elsewhere", &other, 24).says(&["No outcomes lead there", "slot 2 is always 0", "101010101110"]),
+        at(&line(3), "why-21-elsewhere", &elsewhere, 24).says(&["No outcomes lead there", "slot 2 is always 0", "101010101110"]),
         at(&line(3), "why-21-or-still-going", &endless, 34).stuck_by(&[0x10; 10]).says(&["it halts or is still going"]),
         at(&line(3), "why-21-too-many-steps", &calling(&silent, &[&[call(14, &[], &[])][..], &wall].concat()), main + 4 + 9),
     ]

@@ -273,7 +273,11 @@ fn merges_without_a_path() {
     on_g(&called).is(
         21,
         10,
-        &["found: the check comes there by the call of line 9\n", "found: slot 1 is at location 2, slot 0 at location 0\n", "\n9 |   call 0 at 0 2 with 0 1\n"],
+        &[
+            "found: the check comes there by the call of line 9, call 0 at 0 2 with 0 1\n",
+            "found: slot 1 is at location 2, slot 0 at location 0\n",
+            "\n9 |   call 0 at 0 2 with 0 1\n",
+        ],
     );
 }
 

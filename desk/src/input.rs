@@ -57,7 +57,6 @@ fn file_bytes(name: &OsStr) -> Result<Vec<u8>, String> {
 
 /// Opens a file without waiting, as a pipe without a writer would have it.
 fn open(name: &OsStr) -> std::io::Result<File> {
-    const NO_WAITING: i32 = 0o4000; // O_NONBLOCK on Linux
     OpenOptions::new().read(true).custom_flags(NO_WAITING).open(name)
 }
 
@@ -79,8 +78,11 @@ fn unread(wrong: &std::io::Error) -> String {
     }
 }
 
-/// How long a pipe may be without a writer before its first byte.
-const PATIENCE: Duration = Duration::from_secs(1);
+/// How long a pipe may be without a writer before its first byte, or without a reader.
+pub const PATIENCE: Duration = Duration::from_secs(1);
+
+/// The flag with which opening a pipe does not wait: O_NONBLOCK on Linux.
+pub const NO_WAITING: i32 = 0o4000;
 
 /// Whether a source that has nothing yet is waited for.
 #[derive(Clone, Copy)]

@@ -58,7 +58,7 @@ fn give(said: &Said) -> u8 {
     let mut out = std::io::stdout();
     match out.write_all(&said.out).and_then(|()| out.flush()) {
         Err(wrong) if wrong.kind() != std::io::ErrorKind::BrokenPipe => {
-            let _ = writeln!(error, "abwakiris: standard output cannot be written: {wrong}");
+            let _ = writeln!(error, "abwakiris: standard output cannot be written: {}", said::reason(&wrong));
             2
         }
         _ => u8::from(!said.accepted),

@@ -1,12 +1,15 @@
 //! The file that `-o` names. Without one, and for `-`, what a command makes goes to standard output.
 
 use crate::args::{Asked, Takes};
+use crate::input::{NO_WAITING, PATIENCE};
 use crate::json::Json;
 use crate::said::{reason, shown, trouble, Said, Trouble};
 use std::ffi::OsStr;
+use std::fs::OpenOptions;
 use std::io::ErrorKind;
-use std::os::unix::fs::{FileTypeExt, MetadataExt};
+use std::os::unix::fs::{FileTypeExt, MetadataExt, OpenOptionsExt};
 use std::path::{Path, PathBuf};
+use std::time::{Duration, Instant};
 
 /// What a command made, for the file that `-o` names, else for standard output; with `--json` a line of it for machines is said beside.
 ///
@@ -53,7 +56,9 @@ pub fn write(name: &OsStr, bytes: &[u8]) -> Result<(), Trouble> {
     let written = match &there {
         Ok(about) if about.is_dir() => return refused("is a directory"),
         Ok(about) if about.permissions().readonly() => return refused("may not be written"),
-        Ok(about) if !about.is_file() => std::fs::write(&place, bytes), // a pipe or a device
+        Ok(about) if about.file_type().is_fifo() => into_pipe(&place, bytes),
+        Ok(about) if !about.is_file() => std::fs::write(&place, bytes), // a device
+        Err(_) if place.is_symlink() => std::fs::write(&place, bytes),  // a link to what is not there yet
         _ => beside(&place, bytes),
     };
     written.or_else(|wrong| match wrong.kind() {
@@ -61,6 +66,20 @@ pub fn write(name: &OsStr, bytes: &[u8]) -> Result<(), Trouble> {
         ErrorKind::PermissionDenied => refused("may not be written"),
         _ => refused(&format!("cannot be written: {}", reason(&wrong))),
     })
+}
+
+/// Writes into a pipe that somebody reads, or soon does. It opens without waiting first, which does not go as long as nobody reads.
+fn into_pipe(place: &Path, bytes: &[u8]) -> std::io::Result<()> {
+    const NOBODY_READS: i32 = 6; // ENXIO on Linux
+    let end = Instant::now() + PATIENCE;
+    loop {
+        match OpenOptions::new().write(true).custom_flags(NO_WAITING).open(place) {
+            Ok(_held) => return std::fs::write(place, bytes), // held open, so that the reader sees no end before
+            Err(_) if Instant::now() < end => std::thread::sleep(Duration::from_millis(2)),
+            Err(wrong) if wrong.raw_os_error() == Some(NOBODY_READS) => return Err(std::io::Error::new(ErrorKind::Other, "a pipe that nobody reads")),
+            Err(wrong) => return Err(wrong),
+        }
+    }
 }
 
 /// Writes a file under a name that no other process takes, and gives it its own name where all is written.

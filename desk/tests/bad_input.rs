@@ -236,6 +236,35 @@ fn a_pipe() {
 }
 
 #[test]
+fn a_pipe_to_write() {
+    let room = Room::new("pipe-out");
+    let pipe = room.path("pipe");
+    assert!(Command::new("mkfifo").arg(&pipe).status().unwrap().success());
+    with_bad("list P -o BAD", &pipe).is_trouble("pipe: cannot be written: a pipe that nobody reads");
+    let reader = std::thread::spawn({
+        let pipe = pipe.clone();
+        move || fs::read(pipe).unwrap()
+    });
+    let ran = with_bad("list P -o BAD", &pipe);
+    ran.is_accepted();
+    assert_eq!(reader.join().unwrap(), fs::read(LISTING).unwrap());
+}
+
+#[test]
+fn links_to_write() {
+    let room = Room::new("links-out");
+    for (link, to) in [("link", "made"), ("again", "made"), ("itself", "itself")] {
+        std::os::unix::fs::symlink(to, room.path(link)).unwrap();
+    }
+    for link in ["link", "again"] {
+        with_bad("list P -o BAD", &room.path(link)).is_accepted();
+        assert!(fs::symlink_metadata(room.path(link)).unwrap().file_type().is_symlink());
+        assert_eq!(fs::read(room.path("made")).unwrap(), fs::read(LISTING).unwrap());
+    }
+    with_bad("list P -o BAD", &room.path("itself")).is_trouble("itself: cannot be written: Too many levels of symbolic links");
+}
+
+#[test]
 fn lengths() {
     let room = Room::new("lengths");
     let most = room.file("most", &vec![b'Q'; 1 << 20]);

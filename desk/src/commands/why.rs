@@ -13,6 +13,7 @@ use crate::why::Why;
 use crate::{output, svg};
 use abwakiris::{Job, Number, Refusal};
 use std::ffi::OsStr;
+use std::os::unix::ffi::OsStrExt;
 
 pub const COMMAND: Command = Command {
     name: "why",
@@ -97,6 +98,10 @@ fn in_shell(word: &OsStr) -> String {
     if !path.is_empty() && path.chars().all(is_plain) {
         return path;
     }
+    if word.to_str().is_none() || path.chars().any(char::is_control) {
+        let folder = if word.as_bytes().starts_with(b"-") { "./" } else { "" };
+        return format!("$'{folder}{}'", word.as_bytes().escape_ascii());
+    }
     format!("'{}'", path.replace('\'', "'\\''"))
 }
 
@@ -111,5 +116,6 @@ mod tests {
         {
             assert_eq!(in_shell(OsStr::new(name)), written);
         }
+        assert_eq!(in_shell(OsStr::from_bytes(b"-a\xFF'\n\x1B\\")), "$'./-a\\xff\\'\\n\\x1b\\\\'");
     }
 }

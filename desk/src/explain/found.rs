@@ -114,7 +114,7 @@ impl<'a> Words<'a> {
     /// How a slot came to be unbound.
     fn gone(&self, since: Since) -> String {
         match since {
-            Since::Start | Since::Bound(_) => format!("nothing in {} has bound it before this line", self.body),
+            Since::Start | Since::Bound(_) => format!("nothing in {} binds it on the way to this line", self.body),
             Since::Freed(at) => format!("its qubit was freed at {}", self.line(at)),
             Since::Called(at) => format!("its qubit went in the call of {}", self.line(at)),
             Since::Ended { bound, block } => format!("what {} bound went at the end of the block of {}", self.line(bound), self.line(block)),

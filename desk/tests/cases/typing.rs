@@ -20,6 +20,7 @@ pub fn cases() -> Vec<Case> {
 
 fn kinds() -> Vec<Case> {
     let branch = when(0, &[boolean(1, 0)], &[]);
+    let other = when(0, &[boolean(1, 0)], &[refer(2, 1)]);
     vec![
         of("check-11-free", &only(&[free(3)]), 11, 8).finds(&["slot 3", "unbound"]).says(&["free 3"]),
         of("check-11-merge", &only(&[init(0, 0), boolean(1, 1), merge(2, 0, 1), free(0)]), 11, 14).finds(&["slot 1", "bool"]).says(&["merge 2 X 0 X 1"]),
@@ -27,6 +28,7 @@ fn kinds() -> Vec<Case> {
         of("check-11-if", &only(&[boolean(0, 1), refer(1, 0), when(1, &[], &[])]), 11, 14).finds(&["slot 1", "reference"]).says(&["if 1"]),
         of("check-11-set", &only(&[boolean(0, 0), set(0, 0)]), 11, 11).finds(&["slot 0", "bool"]).says(&["set 0 0"]),
         of("check-11-gone-with-its-block", &only(&[boolean(0, 1), branch, when(1, &[], &[])]), 11, 20).finds(&["slot 1", "unbound"]),
+        of("check-11-bound-in-the-other-block", &only(&[boolean(0, 1), other]), 11, 20).finds(&["slot 1", "on the way"]),
         of("check-11-argument", &calling(&[function(1, 1, &[])], &[call(0, &[0], &[0])]), 11, 12).finds(&["slot 0", "unbound"]).says(&["call 0 at 0 with 0"]),
         of("check-11-argument-lost", &calling(&[losing()], &[init(0, 0), call(0, &[0], &[0]), gate(0)]), 11, 23).finds(&["slot 0"]).says(&["gate H 0"]),
         of("check-11-function", &calling(&[function(1, 0, &[gate(4)])], &[]), 11, 10).finds(&["slot 4", "unbound"]),

@@ -121,7 +121,7 @@ fn slots_of_the_wrong_kind() {
     let seen = on_g(&only(&[init(0, 0), free(0), gate(0)]));
     seen.is(11, 13, &["program-walled:13, line 5 of its listing", "5 |   gate H 0\n  |   ^^^^^^^^\n", "asked: slot 0 holds a qubit"]).on_line(5, "gate H 0");
     seen.is(11, 13, &["found: slot 0 is unbound: its qubit was freed at line 4"]);
-    on_g(&only(&[gate(3)])).is(11, 8, &["slot 3 is unbound: nothing in main has bound it before this line"]);
+    on_g(&only(&[gate(3)])).is(11, 8, &["slot 3 is unbound: nothing in main binds it on the way to this line"]);
     on_g(&only(&[boolean(3, 1), gate(3)])).is(11, 11, &["slot 3 holds a bool, bound at line 3"]);
     let ended = only(&[init(0, 0), boolean(1, 1), when(1, &[], &[measure(3, 0)]), when(3, &[], &[])]);
     on_g(&ended).is(11, 24, &["asked: slot 3 holds a bool", "slot 3 is unbound: what line 7 bound went at the end of the block of line 6"]);

@@ -194,13 +194,13 @@ fn named(name: &OsStr) -> Result<&'static Command, Trouble> {
     let hint = if text.starts_with('-') {
         "; options stand after the command".to_string()
     } else {
-        did_you_mean(nearest(&text, COMMANDS.iter().map(|command| command.name)))
+        perhaps(nearest(&text, COMMANDS.iter().map(|command| command.name)))
     };
     trouble(format!("there is no command {}{hint}; abwakiris --help says which there are", quoted(name)))
 }
 
-fn did_you_mean(known: Option<&str>) -> String {
-    known.map_or(String::new(), |known| format!("; did you mean {known}?"))
+fn perhaps(known: Option<&str>) -> String {
+    known.map_or(String::new(), |known| format!(", perhaps {known} is meant"))
 }
 
 /// The words after the name of a command.
@@ -257,7 +257,7 @@ fn unknown_option(command: &Command, name: &OsStr) -> Trouble {
     }
     let options = command.options.iter().map(|option| option.written().0);
     let known = options.chain(["--json", "--help"]);
-    Trouble(format!("unknown option {}{}", quoted(name), did_you_mean(nearest(&name.to_string_lossy(), known))))
+    Trouble(format!("unknown option {}{}", quoted(name), perhaps(nearest(&name.to_string_lossy(), known))))
 }
 
 #[cfg(test)]
@@ -314,13 +314,13 @@ mod tests {
     fn bad_usage() {
         for (words, message) in [
             ("", "a command is needed"),
-            ("chek d p", "there is no command `chek`; did you mean check?"),
+            ("chek d p", "there is no command `chek`, perhaps check is meant"),
             ("--json check d p", "there is no command `--json`; options stand after the command"),
-            ("help chek", "there is no command `chek`; did you mean check?"),
+            ("help chek", "there is no command `chek`, perhaps check is meant"),
             ("help check list", "help takes one command, and `list` is a word too many"),
             ("check d", "PROGRAM is missing: abwakiris check DEVICE PROGRAM; abwakiris check --help says more"),
             ("check d p q", "`q` is a word too many: abwakiris check DEVICE PROGRAM"),
-            ("check d p --jbo 1", "unknown option `--jbo`; did you mean --job?"),
+            ("check d p --jbo 1", "unknown option `--jbo`, perhaps --job is meant"),
             ("check d p --width 3", "check takes no --width"),
             ("bundle d p --width 3", "bundle takes no --width"),
             ("check d p --job", "--job takes a value, --job N"),

@@ -116,7 +116,7 @@ const SCHEDULES: [&str; 2] = ["run D P P BAD", "show D P P --run BAD"];
 #[test]
 fn bad_usage() {
     for (line, message) in [
-        ("chek D P", "there is no command `chek`; did you mean check?"),
+        ("chek D P", "there is no command `chek`, perhaps check is meant"),
         ("\u{1B}[1m", "there is no command `\\u{1b}[1m`"),
         ("--json check D P", "options stand after the command"),
         ("help me", "there is no command `me`"),
@@ -130,7 +130,7 @@ fn bad_usage() {
         ("check D P --job 1.0", "--job takes a number, not `1.0`"),
         ("check D P --job 18446744073709551616", "--job takes a number up to 18446744073709551615"),
         ("check D P --job 1 --job=2", "--job is given twice"),
-        ("check D P --jop 1", "unknown option `--jop`; did you mean --job?"),
+        ("check D P --jop 1", "unknown option `--jop`, perhaps --job is meant"),
         ("check D P --width 3", "check takes no --width"),
         ("check D P --json=yes", "--json takes no value"),
         ("check - -", "standard input, -, is given twice"),
@@ -165,7 +165,7 @@ fn bad_usage() {
         ("show D --width 0", "--width takes a number from 1 on, not 0"),
         ("show D --occupied 6", "location 6"),
         ("show D P P --run 101", "`1` stands alone"),
-        ("show D --output x", "unknown option `--output`; did you mean -o?"),
+        ("show D --output x", "unknown option `--output`, perhaps -o is meant"),
         ("bundle D", "PROGRAM is missing"),
         ("bundle D P --width 3", "bundle takes no --width"),
         ("refusal x", "takes a number, not `x`"),

@@ -97,7 +97,7 @@
     if (after.put.length) return `moved: a qubit is put down at location ${after.put[0]}`;
     if (after.gone.length) return `moved: location ${after.gone[0].location} is free again`;
     if ('at' in step) return `moved: the qubit at location ${step.at}`;
-    if (kind === 'if') return `moved: slot ${first} is ${Number(step.guard)}, so the ${step.guard ? 'first' : 'else'} block`;
+    if (kind === 'if') return `moved: slot ${first} is ${Number(step.guard)}, so the ${step.guard ? 'first' : 'second'} block`;
     if (kind === 'while') return `moved: slot ${first} holds ${Number(step.guard)}, so ${step.guard ? 'the block' : 'the loop is over'}`;
     if (kind === 'call' && job.call !== null) return `moved into function ${first}${parameters(run.calls[job.call])}`;
     return 'moved';

@@ -645,7 +645,36 @@ fn at_very_many_locations() {
     refused.assert_shown(&why);
     assert!(matches!(&why.lead, Lead::Found { shortest: true, .. }), "{:?}", why.lead);
     // there are more steps to the end than a schedule can have
-    assert!(matches!(why.beside, Some(Beside::Never)), "{:?}", why.beside);
+    assert!(matches!(why.beside, Some(Beside::Never | Beside::GivenUp)), "{:?}", why.beside);
+}
+
+/// Each of thousands of calls goes through twelve functions that do nothing but call the next.
+#[test]
+fn through_very_many_calls() {
+    let times = if cfg!(debug_assertions) { 8 } else { 28 };
+    let (mut others, mut turn): (Vec<usize>, usize) = ((2..16).collect(), 0);
+    let mut call = |of: usize, actual: fn(usize) -> usize| {
+        turn += 1;
+        others.rotate_left(turn % 13);
+        others.swap(0, turn % 11 + 1);
+        let others: String = others.iter().map(|&other| format!(" {}", actual(other))).collect();
+        format!("  call {of} at {} {}{others} with 0 1\n", actual(0), actual(1))
+    };
+    let header = "locations 16 arguments 2";
+    let mut listing = format!("program 1\nfunction 0 {header}\n  measure 2 Z 0\n  if 2\n    merge 3 X 0 X 1\n  else\n");
+    for function in 1..15 {
+        let times = if function < 13 { 1 } else { times };
+        let calls: String = (0..times).map(|_| call(function - 1, |parameter| parameter)).collect();
+        listing.push_str(&format!("function {function} {header}\n{calls}"));
+    }
+    let calls: String = (0..times).map(|_| call(14, |parameter| 2 * parameter)).collect();
+    let program = abwakiris::read_listing(format!("{listing}main\n{ROW}{calls}  free 0\n  free 1\n")).expect("a listing");
+    let apart = [b"QLG\x00\x01\x00\x20\x00\x00".to_vec(), vec![1; 32]].concat();
+    let refused = Refused::of(&apart, &program, 1).expect("refused with 21");
+    let why = in_time(|| refused.why());
+    refused.assert_shown(&why);
+    assert!(matches!(&why.lead, Lead::Found { steps, shortest: true } if steps.len() == 20), "{:?}", why.lead);
+    assert!(matches!(why.beside, Some(Beside::Never | Beside::GivenUp)), "{:?}", why.beside);
 }
 
 /// The slots of outcomes, beside two ends, what is between them and two bools with a reference.

@@ -23,6 +23,9 @@ const MOST_GROUNDS: usize = 1_000;
 /// So many steps that a ground is laid over count as a state.
 const STEPS_A_STATE: usize = 8;
 
+/// A search counts as so many states, beside those that it looks at.
+const STATES_A_SEARCH: usize = 4;
+
 /// A body as a search finds it.
 #[derive(Clone, Copy, Debug, PartialEq, Eq, Hash)]
 pub enum Where {
@@ -127,6 +130,7 @@ impl<'a> Search<'a> {
         if self.left == 0 {
             return Run::Unknown;
         }
+        self.left = self.left.saturating_sub(STATES_A_SEARCH);
         match Seek::of(self, place, start, goal, false).run() {
             Run::Unknown => Seek::of(self, place, start, goal, true).run(),
             run => run,

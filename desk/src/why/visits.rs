@@ -6,14 +6,14 @@
 
 use crate::program::{Block, Body, Kind, Program, Statement};
 use crate::region::{Locations, Region};
-use std::collections::HashMap;
+use std::collections::{HashMap, HashSet};
 use std::rc::Rc;
 
 /// The number of a visit that is not clear.
 pub type Id = usize;
 
-/// The most visits of which it is remembered whether they are clear.
-const MOST_REMEMBERED: usize = 100_000;
+/// The most clear visits of each body that are remembered.
+const MOST_REMEMBERED: usize = 8_000;
 
 /// A body at actual locations.
 #[derive(Clone, Debug, PartialEq, Eq, Hash)]
@@ -75,7 +75,7 @@ pub struct Visits<'a> {
     ids: HashMap<Rc<Visit>, Id>,
     visits: Vec<Rc<Visit>>,
     met: Vec<Option<Rc<Vec<Met>>>>,
-    clear: HashMap<Visit, bool>,
+    clear: HashMap<Body, HashSet<Visit>>,
 }
 
 impl<'a> Visits<'a> {
@@ -112,12 +112,23 @@ impl<'a> Visits<'a> {
         self.id(Visit { body: Body::Main, locations: vec![], occupied: Locations::default() })
     }
 
-    /// The number of a visit; none where it is clear.
+    /// The number of a visit; none where every merge of it and of those below it has a path. It goes as deep as functions call each other.
     pub fn id(&mut self, visit: Visit) -> Option<Id> {
         if let Some(&id) = self.ids.get(&visit) {
             return Some(id);
         }
-        if self.is_clear(&visit) {
+        if self.clear.get(&visit.body).map_or(false, |clear| clear.contains(&visit)) {
+            return None;
+        }
+        let is_blocked = self.seen(&visit).into_iter().any(|seen| match seen {
+            Seen::Blocked(_) => true,
+            Seen::Call(_, below) => self.id(below).is_some(),
+        });
+        if !is_blocked {
+            let clear = self.clear.entry(visit.body).or_default();
+            if clear.len() < MOST_REMEMBERED {
+                clear.insert(visit);
+            }
             return None;
         }
         let (id, visit) = (self.visits.len(), Rc::new(visit));
@@ -169,21 +180,6 @@ impl<'a> Visits<'a> {
         let met = Rc::new(met);
         self.met[id] = Some(Rc::clone(&met));
         met
-    }
-
-    /// Whether every merge of a visit and of those below it has a path. It goes as deep as functions call each other.
-    fn is_clear(&mut self, visit: &Visit) -> bool {
-        if let Some(&clear) = self.clear.get(visit) {
-            return clear;
-        }
-        let clear = self.seen(visit).iter().all(|seen| match seen {
-            Seen::Blocked(_) => false,
-            Seen::Call(_, below) => self.is_clear(below),
-        });
-        if self.clear.len() < MOST_REMEMBERED {
-            self.clear.insert(visit.clone(), clear);
-        }
-        clear
     }
 
     /// The merges without a path and the calls of a visit. Callees without a merge are left out.

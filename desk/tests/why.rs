@@ -576,13 +576,19 @@ fn for_job_two() {
     assert_eq!(schedule(refused.job, found(&why)).as_bytes(), [0x20, 0x20, 0x20]);
 }
 
-/// Answers in time also in a build that is not optimized.
-fn in_time<T>(what: impl FnOnce() -> T) -> T {
-    let start = Instant::now();
-    let done = what();
-    let most = Duration::from_secs(if cfg!(debug_assertions) { 20 } else { 2 });
-    assert!(start.elapsed() < most, "{:?}", start.elapsed());
-    done
+/// Answers in time, also in a build that is not optimized; on a busy computer at the third try.
+fn in_time<T>(what: impl Fn() -> T) -> T {
+    let most = Duration::from_secs(if cfg!(debug_assertions) { 30 } else { 2 });
+    let mut taken = vec![];
+    while taken.len() < 3 {
+        let start = Instant::now();
+        let done = what();
+        if start.elapsed() < most {
+            return done;
+        }
+        taken.push(start.elapsed());
+    }
+    panic!("it took {taken:?}");
 }
 
 /// A chain of functions, each of which calls the one before so many times.

@@ -5,6 +5,7 @@ use Rattle.answers.specs.declared.ReadAnswer.{ReadAnswer}
 use Rattle.answers.specs.declared.ReadAnswer.the-variants.{Readable, Refused as NotReadable}
 use Rattle.answers.specs.declared.LocationsAnswer.{LocationsAnswer}
 use Rattle.answers.specs.declared.LocationsAnswer.the-variants.{Locations, Refused as NoLocations}
+use Rattle.answers.specs.declared.Counted.{Counted}
 use Rattle.answers.specs.declared.CheckAnswer.{CheckAnswer}
 use Rattle.answers.specs.declared.CheckAnswer.the-variants.{Accepted, Refused as NotAccepted}
 use Rattle.answers.specs.declared.RouteAnswer.{RouteAnswer}
@@ -29,7 +30,7 @@ abbrev locations-back : Check ℕ → LocationsAnswer
 locations-back (ok n) = Locations n
 locations-back (refused r) = NoLocations r
 
-abbrev check-back : Check ℕ → CheckAnswer
+abbrev check-back : Check Counted → CheckAnswer
 check-back (ok n) = Accepted n
 check-back (refused r) = NotAccepted r
 

@@ -7,6 +7,7 @@ use Rattle.answers.specs.declared.ReadAnswer.{ReadAnswer}
 use Rattle.answers.specs.declared.ReadAnswer.the-variants.{Readable, Refused as NotReadable}
 use Rattle.answers.specs.declared.LocationsAnswer.{LocationsAnswer}
 use Rattle.answers.specs.declared.LocationsAnswer.the-variants.{Locations, Refused as NoLocations}
+use Rattle.answers.specs.declared.Counted.{Counted}
 use Rattle.answers.specs.declared.CheckAnswer.{CheckAnswer}
 use Rattle.answers.specs.declared.CheckAnswer.the-variants.{Accepted, Refused as NotAccepted}
 use Rattle.answers.specs.declared.RouteAnswer.{RouteAnswer}
@@ -27,8 +28,8 @@ abbrev pub locationsSaid : LocationsAnswer → Check ℕ
 locationsSaid (Locations n) = ok n
 locationsSaid (NoLocations r) = refused r
 
--- a check accepts with the command count
-abbrev pub checkSaid : CheckAnswer → Check ℕ
+-- a check accepts with the command count and the number left live
+abbrev pub checkSaid : CheckAnswer → Check Counted
 checkSaid (Accepted n) = ok n
 checkSaid (NotAccepted r) = refused r
 

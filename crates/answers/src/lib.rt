@@ -52,9 +52,15 @@ pub enum LocationsAnswer {
     Refused(Refusal),
 }
 
-// The answer of a check: the command count.
+// What a check counts: the commands, and the qubits that main leaves live.
+pub struct Counted {
+    pub count: usize,
+    pub live: usize,
+}
+
+// The answer of a check.
 pub enum CheckAnswer {
-    Accepted(usize),
+    Accepted(Counted),
     Refused(Refusal),
 }
 

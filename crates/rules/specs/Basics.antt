@@ -42,6 +42,11 @@ module _ {A : Type 0} where
   setAll v [] φ = φ
   setAll v (n ∷ ns) φ = set (setAll v ns φ) n v
 
+-- how many pass
+abbrev pub count : {A : Type 0} → (A → Bool) → List A → ℕ
+count p [] = 0
+count p (x ∷ xs) = chosen (p x) 1 0 + count p xs
+
 -- nothing comes twice
 abbrev pub distinct : List ℕ → Bool
 distinct [] = true

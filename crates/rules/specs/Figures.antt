@@ -106,6 +106,11 @@ mutual
     T-Close : {Γ Δ : Env s} {o : ℕ} {ts : Statements s} {c : Commands s} → StatementsRule C Γ ts Δ c → allStay (Γ .slots) (Δ .slots) ≡ true
         → BlockRule C Γ (block o ts) (record { slots = narrowed (Γ .slots) (Δ .slots); free = Δ .free }) c
 
+-- at the end of main's block bools and references go too, and any qubit may stay: T-Prog asks nothing of the environment that main ends with
+pub data MainRule (C : Context device) : Env device → Block device → Env device → Commands device → Type 0 where
+  T-Main : {Γ Δ : Env device} {o : ℕ} {ts : Statements device} {c : Commands device} → StatementsRule C Γ ts Δ c
+      → MainRule C Γ (block o ts) (record { slots = narrowed (Γ .slots) (Δ .slots); free = Δ .free }) c
+
 -- each function by those before it
 pub data FunctionsRule : List Function → List Signature → List Signature → Type 0 where
   T-NoFun : {gs : List Signature} → FunctionsRule [] gs gs
@@ -129,11 +134,11 @@ pub data Connects (R : Region) : List Bool → Commands device → List Bool →
   C-If : {L M N : List Bool} {a b c : Commands device} → Connects R L a M → Connects R L b M → Connects R M c N → Connects R L (either a b c) N
   C-Loop : {L M : List Bool} {a c : Commands device} → Connects R L a L → Connects R L c M → Connects R L (repeat a c) M
 
--- T-Prog, for the region of a job: functions and main are typed, all region locations free, and the commands connect
-pub record ProgramRule (R : Region) (p : Program) (c : Commands device) : Type 0 where
+-- T-Prog, for the region of a job: functions and main are typed, all region locations free, and the commands connect. Main ends with `ends`, and the
+-- qubits in it are those left live.
+pub record ProgramRule (R : Region) (p : Program) (ends : Env device) (c : Commands device) : Type 0 where
   pub signatures : List Signature
   pub functions : FunctionsRule (p .functions) [] signatures
-  pub ends : Env device
-  pub main : BlockRule (mainContext (R .owned) signatures) (start (R .owned)) (p .main) ends c
+  pub main : MainRule (mainContext (R .owned) signatures) (start (R .owned)) (p .main) ends c
   pub left : List Bool
   pub connects : Connects R (R .owned) c left

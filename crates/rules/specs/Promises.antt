@@ -6,6 +6,7 @@ use lib.Dec.{eqb, leb}
 use lib.ListN.{length, drop}
 use Rattle.answers.specs.Check.{Check, ok, refused, _>>=_, _>>_, need, within}
 use Rattle.answers.specs.declared.File.the-variants.{Device, Schedule, Listing, Program}
+use Rattle.answers.specs.declared.Counted.{Counted}
 use Rattle.answers.specs.declared.Moved.{Moved}
 use Rattle.rules.specs.Basics.{chosen}
 use Rattle.rules.specs.Device.{readDevice}
@@ -17,7 +18,7 @@ use Rattle.rules.specs.Words.{Text}
 use Rattle.rules.specs.Listing.{listing}
 use Rattle.rules.specs.Unlisting.{unlisted}
 use Rattle.rules.specs.Commands.{sizeOf, needRoute, walk}
-use Rattle.rules.specs.Typing.{typeProgram}
+use Rattle.rules.specs.Typing.{typeProgram, liveIn}
 use Rattle.rules.specs.Run.{turns, Machine, started, final, Told, records, recordBytes, movedBy}
 
 -- the number of locations, which an occupancy and a map have a byte for each of
@@ -36,16 +37,16 @@ readProgramOf bytes = do
 abbrev pub needJob : ℕ → Check (Unit {0})
 needJob job = need (eqb job 1 || eqb job 2) 25 0
 
--- typing, 20, 21: the command count
-abbrev pub judged : Region → syntax.Program → Check ℕ
+-- typing, 20, 21: the command count, and the number left live
+abbrev pub judged : Region → syntax.Program → Check Counted
 judged R p = do
   t ← typeProgram (R .owned) p
   need (leb (sizeOf (t .commands)) 65535) 20 0
   walk R (R .owned) (t .commands)
-  ok (sizeOf (t .commands))
+  ok (record { count = sizeOf (t .commands); live = liveIn (t .env) })
 
 -- Check: 25, device, program, typing, 20, 21
-abbrev pub checkOf : List ℕ → List ℕ → ℕ → Check ℕ
+abbrev pub checkOf : List ℕ → List ℕ → ℕ → Check Counted
 checkOf device program job = do
   needJob job
   D ← within Device (readDevice device)

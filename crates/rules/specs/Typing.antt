@@ -5,7 +5,7 @@ use Prim.Native.Nat.{ℕ, _+_, _-_}
 use lib.Dec.{eqb, ltb}
 use lib.ListN.{getD, set, length, replicate}
 use Rattle.answers.specs.Check.{Check, ok, refused, _>>=_, _>>_, need}
-use Rattle.rules.specs.Basics.{chosen, all, sameList, upTo, without, setAll}
+use Rattle.rules.specs.Basics.{chosen, all, count, sameList, upTo, without, setAll}
 use Rattle.rules.specs.Syntax.{Side, device, parameter, Place, param, at, Statement, op, if, while, call}
 use Rattle.rules.specs.Syntax.{Statements, done, _⨾_, Block, block, Function, Program}
 use Rattle.rules.specs.Slots.{Slot, unbound, qubit, bool, ref, slot, needBool, needRef, isUnbound, holdsNoQubit, isClassical}
@@ -82,11 +82,15 @@ module _ {s : Side} where
   abbrev pub narrowed : List (Kind s) → List (Kind s) → List (Kind s)
   narrowed vs ws = upTo 0 32 λ x. chosen (isClassical (slot ws x) && not (isClassical (slot vs x))) unbound (slot ws x)
 
+  -- what a block that was entered with Γ ends with
+  abbrev pub closed : Env s → Typed s → Typed s
+  closed Γ t = record { env = record { slots = narrowed (Γ .slots) (t .env .slots); free = t .env .free }; commands = t .commands }
+
   -- the closing of the block whose length word is at o, entered with Γ
   abbrev pub close : ℕ → Env s → Typed s → Check (Typed s)
   close o Γ t = do
     need (allStay (Γ .slots) (t .env .slots)) 17 o
-    ok (record { env = record { slots = narrowed (Γ .slots) (t .env .slots); free = t .env .free }; commands = t .commands })
+    ok (closed Γ t)
 
   unfoldable pub sameEnv : Env s → Env s → Bool
   sameEnv Γ Δ = sameList sameKind (Γ .slots) (Δ .slots) && sameList Bool·beq (Γ .free) (Δ .free)
@@ -149,7 +153,17 @@ mainContext owned gs = record { inside = λ l. getD owned (l .no) false; functio
 abbrev pub start : List Bool → Env device
 start owned = record { slots = replicate 32 unbound; free = owned }
 
+-- Main's own block may end with live qubits: 17 is not asked of it. The rest of its closing is any block's.
+abbrev pub typeMain : Context device → Env device → Block device → Check (Typed device)
+typeMain C Γ (block o ts) = do
+  d ← typeStatements C Γ ts
+  ok (closed Γ d)
+
 abbrev pub typeProgram : List Bool → Program → Check (Typed device)
 typeProgram owned p = do
   gs ← typeFunctions [] (p .functions)
-  typeBlock (mainContext owned gs) (start owned) (p .main)
+  typeMain (mainContext owned gs) (start owned) (p .main)
+
+-- the number left live: how many slots hold a qubit
+abbrev pub liveIn : Env device → ℕ
+liveIn Γ = count (λ v. not (holdsNoQubit v)) (Γ .slots)

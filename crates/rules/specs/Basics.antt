@@ -43,9 +43,9 @@ module _ {A : Type 0} where
   setAll v (n ∷ ns) φ = set (setAll v ns φ) n v
 
 -- how many pass
-abbrev pub count : {A : Type 0} → (A → Bool) → List A → ℕ
-count p [] = 0
-count p (x ∷ xs) = chosen (p x) 1 0 + count p xs
+abbrev pub howMany : {A : Type 0} → (A → Bool) → List A → ℕ
+howMany p [] = 0
+howMany p (x ∷ xs) = chosen (p x) 1 0 + howMany p xs
 
 -- nothing comes twice
 abbrev pub distinct : List ℕ → Bool

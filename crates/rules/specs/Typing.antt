@@ -5,7 +5,7 @@ use Prim.Native.Nat.{ℕ, _+_, _-_}
 use lib.Dec.{eqb, ltb}
 use lib.ListN.{getD, set, length, replicate}
 use Rattle.answers.specs.Check.{Check, ok, refused, _>>=_, _>>_, need}
-use Rattle.rules.specs.Basics.{chosen, all, count, sameList, upTo, without, setAll}
+use Rattle.rules.specs.Basics.{chosen, all, howMany, sameList, upTo, without, setAll}
 use Rattle.rules.specs.Syntax.{Side, device, parameter, Place, param, at, Statement, op, if, while, call}
 use Rattle.rules.specs.Syntax.{Statements, done, _⨾_, Block, block, Function, Program}
 use Rattle.rules.specs.Slots.{Slot, unbound, qubit, bool, ref, slot, needBool, needRef, isUnbound, holdsNoQubit, isClassical}
@@ -166,4 +166,4 @@ typeProgram owned p = do
 
 -- the number left live: how many slots hold a qubit
 abbrev pub liveIn : Env device → ℕ
-liveIn Γ = count (λ v. not (holdsNoQubit v)) (Γ .slots)
+liveIn Γ = howMany (λ v. not (holdsNoQubit v)) (Γ .slots)

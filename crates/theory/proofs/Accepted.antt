@@ -11,4 +11,4 @@ pub never-stuck : NeverStuck
 never-stuck file D programs j n reads accepted ts =
     let read = well-read file (programs j) reads in
     let judged = holds-at (judged-sound (regionOf D j) (length file) (programs j) read) accepted in
-    never-stuck-derived D programs j (length file) (judged .commands) read (judged .derived) ts
+    never-stuck-derived D programs j (length file) (judged .ends) (judged .commands) read (judged .derived) ts

@@ -1,15 +1,15 @@
--- Small facts on what stands in a list: on numbers of which none comes twice, and after a store, by whether the store is there and in range.
+-- Small facts on what stands in a list: on numbers of which none comes twice, after a store, by whether the store is there and in range, and how many pass.
 use mathlib.Core.Bool.{Bool, true, false, not, false≢true}
 use mathlib.Core.List.{List, [], _∷_}
 use mathlib.Core.Logic.{_⊎_, inl, inr, ⊎-elim}
 use mathlib.Core.Path.{_≡_, refl, ap, _∙_}
 use native.Mathlib.Decide.{ℕ-discrete, decLt}
 use native.Mathlib.Omega.{arith}
-use Prim.Native.Nat.{ℕ, zero, suc, _≤_, _<_}
+use Prim.Native.Nat.{ℕ, zero, suc, _+_, _≤_, _<_}
 use lib.Dec.{eqb}
 use lib.ListN.{length, getD, set, replicate, List·getD-eq-default}
 use lib.Seq.{getD-set-same, getD-set-other, set-out}
-use Rattle.rules.specs.Basics.{chosen, any, distinct}
+use Rattle.rules.specs.Basics.{chosen, any, howMany, distinct}
 use Rattle.rules.proofs.Tests.{and-left, and-right, not-true}
 
 -- of numbers of which none comes twice, the first is not among the others, and none of those comes twice
@@ -56,3 +56,17 @@ module _ {A : Type 0} where
   getD-replicate-default zero i d = refl
   getD-replicate-default (suc n) zero d = refl
   getD-replicate-default (suc n) (suc i) d = getD-replicate-default n i d
+
+-- how many pass: no more than there are; where one element changes, those before it and those after it count as they did
+module _ {A : Type 0} (p : A → Bool) where
+  pub how-many-few : (xs : List A) → howMany p xs ≤ length xs
+  how-many-few [] = omega arith
+  how-many-few (x ∷ xs) =
+      let once : chosen (p x) 1 0 ≤ 1 = chosen-has (λ (n : ℕ). n ≤ 1) (p x) (omega arith) (omega arith) in
+      omega (arith, how-many-few xs)
+
+  pub how-many-set : (xs : List A) (i : ℕ) (a d : A) → i < length xs
+      → howMany p (set xs i a) + chosen (p (getD xs i d)) 1 0 ≡ howMany p xs + chosen (p a) 1 0
+  how-many-set [] i a d h = absurd (omega arith)
+  how-many-set (x ∷ xs) zero a d h = omega arith
+  how-many-set (x ∷ xs) (suc i) a d h = let r = how-many-set xs i a d (omega arith) in omega arith

@@ -1,6 +1,6 @@
 -- What typing and the walk stay within. Typing refuses at the offset of a statement or of a block of the tree that was read, and its commands have only
 -- such offsets; the walk refuses at the offset of a command.
-use mathlib.Core.Bool.{Bool, true, false, cond}
+use mathlib.Core.Bool.{Bool, true, false, not, cond}
 use mathlib.Core.List.{List, [], _∷_}
 use mathlib.Core.Option.{Option, none, some}
 use mathlib.Core.Path.{_≡_, refl}
@@ -13,13 +13,16 @@ use Rattle.rules.specs.Region.{Region}
 use Rattle.rules.specs.Path.{route}
 use Rattle.rules.specs.Syntax.{Side, device, Place, at}
 use Rattle.rules.specs.Syntax.{Statement, op, if, while, call, Statements, done, _⨾_, Block, block, Function, Program}
-use Rattle.rules.specs.Slots.{slot, Act, quiet, takes, gives, merges}
+use Rattle.rules.specs.Slots.{slot, holdsNoQubit, Act, quiet, takes, gives, merges}
 use Rattle.rules.specs.Commands.{Commands, ε, alloc, release, connect, either, repeat, _then_, commandsAt, sizeOf, needRoute, walk}
-use Rattle.rules.specs.Typing.{Env, Typed, Signature, signature, Context, kinds, allStay, sameEnv, command}
-use Rattle.rules.specs.Typing.{typeStatement, typeStatements, typeBlock, entry, bodyContext, signatureOf, typeFunctions, mainContext, start, typeProgram}
+use Rattle.rules.specs.Typing.{Env, Typed, Signature, signature, Context, kinds, allStay, narrowed, sameEnv, command}
+use Rattle.rules.specs.Typing.{typeStatement, typeStatements, typeBlock, entry, bodyContext, signatureOf, typeFunctions, mainContext, start}
+use Rattle.rules.specs.Typing.{typeMain, typeProgram, liveIn}
 use Rattle.rules.specs.Promises.{judged}
 use Rattle.theory.specs.Bounds.{Within, value, refusal as refuses}
 use Rattle.rules.proofs.Tests.{at-most}
+use Rattle.theory.proofs.Base.{how-many-few}
+use Rattle.theory.proofs.Places.{length-narrowed}
 use Rattle.theory.proofs.BoundsLaws.{bind-within, then-within, Any, given, need-within}
 use Rattle.theory.proofs.Reasons.{reason-above, reason-few, Reasoned, gives-value, reason, bool-row, ref-row, perform-row, callable-row}
 use Rattle.theory.proofs.BoundsRead.{StatementPlaced, StatementsPlaced, BlockPlaced, FunctionsPlaced, ProgramPlaced}
@@ -111,10 +114,21 @@ functions-typed gs (g ∷ rest) h k =
     bind-within (block-typed (bodyContext gs g) h (entry g) (g .body) (k .0)) λ d i.
     functions-typed (signatureOf g d ∷ gs) rest (i, h) (k .1)
 
-program-typed : (owned : List Bool) (p : Program) → ProgramPlaced p → Within TypedPlaced (typeProgram owned p)
+-- main ends with 32 slots, so at most 32 of them hold a qubit
+abbrev MainPlaced : Typed device → Type 0
+MainPlaced d = CommandsPlaced (d .commands) × (liveIn (d .env) ≤ 32)
+
+main-typed : (C : Context device) (callees : SignaturesPlaced (C .functions)) (Γ : Env device) (b : Block device) → BlockPlaced b
+    → Within MainPlaced (typeMain C Γ b)
+main-typed C callees Γ (block o ts) h =
+    bind-within (statements-typed C callees Γ ts (h .1)) λ d i.
+    let few = how-many-few (λ v. not (holdsNoQubit v)) (narrowed (Γ .slots) (d .env .slots)) in
+    value (i, omega (arith, few, length-narrowed (Γ .slots) (d .env .slots)))
+
+program-typed : (owned : List Bool) (p : Program) → ProgramPlaced p → Within MainPlaced (typeProgram owned p)
 program-typed owned p h =
     bind-within (functions-typed [] (p .functions) tt (h .0)) λ gs k.
-    block-typed (mainContext owned gs) k (start owned) (p .main) (h .1)
+    main-typed (mainContext owned gs) k (start owned) (p .main) (h .1)
 
 -- 21 at a merge's offset
 
@@ -133,8 +147,8 @@ walk-within R L (either a b c) h =
     then-within (walk-within R L b (h .1)) λ N j. walk-within R M c (h .2)
 walk-within R L (repeat a c) h = then-within (walk-within R L a (h .0)) λ M i. walk-within R L c (h .1)
 
-pub judged-within : (R : Region) (p : Program) → ProgramPlaced p → Within (λ n. n ≤ 65535) (judged R p)
+pub judged-within : (R : Region) (p : Program) → ProgramPlaced p → Within (λ a. (a .count ≤ 65535) × (a .live ≤ 32)) (judged R p)
 judged-within R p h =
     bind-within (program-typed (R .owned) p h) λ t k.
     then-within (need-within (leb (sizeOf (t .commands)) 65535) 20 0 refl (omega arith)) λ u l.
-    then-within (walk-within R (R .owned) (t .commands) k) λ M j. value (at-most (sizeOf (t .commands)) 65535 l)
+    then-within (walk-within R (R .owned) (t .commands) (k .0)) λ M j. value (at-most (sizeOf (t .commands)) 65535 l, k .1)

@@ -16,13 +16,13 @@ use Rattle.rules.specs.Commands.{Commands, ε, alloc, release, connect, either,
 use Rattle.rules.specs.Typing.{Env, Signature, Context, signature, bodyContext, signatureOf}
 use Rattle.rules.specs.Figures.{OpRule, T-Init, T-MInit, T-Free, T-Gate, T-Meas1, T-Meas2, T-MkRef, T-Deref, T-Assign, T-Bool}
 use Rattle.rules.specs.Figures.{StatementRule, T-Op, T-If, T-While, T-Call, StatementsRule, T-Unit, T-Seq}
-use Rattle.rules.specs.Figures.{BlockRule, T-Close, FunctionsRule, T-NoFun, T-Fundecl}
+use Rattle.rules.specs.Figures.{BlockRule, T-Close, MainRule, T-Main, FunctionsRule, T-NoFun, T-Fundecl}
 use Rattle.rules.specs.Program.{Scope}
 use Rattle.rules.specs.Run.{recordBytes, movedBy}
 use Rattle.theory.specs.WellRead.{StatementRead, op-read, if-read, while-read, call-read, StatementsRead, done-read, next-read}
 use Rattle.theory.specs.WellRead.{BlockRead, block-read, FunctionsRead, none-read, function-read}
 use Rattle.theory.specs.Interleaving.{recordsOf}
-use Rattle.theory.specs.Counts.{beginWithZero, MovedCount, opSize, statementSize, statementsSize, blockSize, BlockSize, CalleeSize, callees}
+use Rattle.theory.specs.Counts.{beginWithZero, MovedCount, opSize, statementSize, statementsSize, blockSize, BlockSize, MainSize, CalleeSize, callees}
 use Rattle.theory.proofs.Places.{signature-newest, signature-older}
 
 pub moved-count : MovedCount
@@ -83,6 +83,9 @@ mutual
 
 pub block-size : BlockSize
 block-size s C Γ Δ b c r = block-sum C b r
+
+pub main-size : MainSize
+main-size C Γ Δ (block o ts) c (T-Main r) = statements-sum C ts r
 
 -- two lists of signatures that say the same of every function in scope give a read block one size
 abbrev SameBelow : ℕ → List Signature → List Signature → Type 0

@@ -8,6 +8,7 @@ use Prim.Native.Nat.{ℕ, _≤_}
 use lib.Dec.{eqb, leb, le→leb}
 use lib.ListN.{length}
 use Rattle.answers.specs.Check.{ok, _>>=_, _>>_}
+use Rattle.answers.specs.declared.Counted.{Counted}
 use Rattle.answers.specs.declared.File.the-variants.{Device, Program}
 use Rattle.answers.proofs.Laws.{Holds, by, holds-bind, holds-then, holds-need, holds-any, holds-map, holds-within, holds-at}
 use Rattle.rules.specs.Device as devices
@@ -16,7 +17,7 @@ use Rattle.rules.specs.Region.{Region, regionOf}
 use Rattle.rules.specs.Syntax as trees
 use Rattle.rules.specs.Program.{readProgram}
 use Rattle.rules.specs.Commands.{Commands, sizeOf, walk}
-use Rattle.rules.specs.Typing.{Typed, typeProgram}
+use Rattle.rules.specs.Typing.{Env, Typed, typeProgram, liveIn}
 use Rattle.rules.specs.Figures.{Connects, ProgramRule}
 use Rattle.rules.specs.Promises.{judged, checkOf}
 use Rattle.theory.specs.WellRead.{ProgramRead}
@@ -27,11 +28,13 @@ use Rattle.theory.proofs.ExactTyping.{exact-typing}
 use Rattle.theory.proofs.WalkDecides.{walk-decides}
 
 -- what a program that was judged and accepted has
-pub record Judged (R : Region) (p : trees.Program) (n : ℕ) : Type 0 where
+pub record Judged (R : Region) (p : trees.Program) (a : Counted) : Type 0 where
   pub commands : Commands trees.device
-  pub derived : ProgramRule R p commands
-  pub count : sizeOf commands ≡ n
-  pub small : n ≤ 65535
+  pub ends : Env trees.device
+  pub derived : ProgramRule R p ends commands
+  pub count : sizeOf commands ≡ a .count
+  pub live : liveIn ends ≡ a .live
+  pub small : a .count ≤ 65535
 
 pub judged-sound : (R : Region) (size : ℕ) (p : trees.Program) → ProgramRead size p → Holds (Judged R p) (judged R p)
 judged-sound R size p read =
@@ -41,28 +44,31 @@ judged-sound R size p read =
     by (accepted t L (exact-typing (R .owned) size p t read .0 e) s w)
   where
     accepted : (t : Typed trees.device) (L : List Bool) → Derives (R .owned) p t → leb (sizeOf (t .commands)) 65535 ≡ true
-        → walk R (R .owned) (t .commands) ≡ ok L → Judged R p (sizeOf (t .commands))
+        → walk R (R .owned) (t .commands) ≡ ok L → Judged R p (record { count = sizeOf (t .commands); live = liveIn (t .env) })
     accepted t L d s w = record {
       commands = t .commands;
-      derived = record { signatures = d .signatures; functions = d .functions; ends = t .env; main = d .main; left = L; connects = connected };
+      ends = t .env;
+      derived = record { signatures = d .signatures; functions = d .functions; main = d .main; left = L; connects = connected };
       count = refl;
+      live = refl;
       small = at-most (sizeOf (t .commands)) 65535 s;
     }
       where
         connected : Connects R (R .owned) (t .commands) L
         connected = walk-decides R size p t L read d .0 w
 
-judged-complete : (R : Region) (size n : ℕ) (p : trees.Program) (c : Commands trees.device) → ProgramRead size p → ProgramRule R p c
-    → sizeOf c ≡ n → n ≤ 65535
-    → judged R p ≡ ok n
+judged-complete : (R : Region) (size : ℕ) (a : Counted) (p : trees.Program) (Δ : Env trees.device) (c : Commands trees.device) → ProgramRead size p
+    → ProgramRule R p Δ c
+    → sizeOf c ≡ a .count → liveIn Δ ≡ a .live → a .count ≤ 65535
+    → judged R p ≡ ok a
 unfolding _>>=_ _>>_
-judged-complete R size n p c read rule count small =
-    let t : Typed trees.device = record { env = rule .ends; commands = c } in
+judged-complete R size a p Δ c read rule count live small =
+    let t : Typed trees.device = record { env = Δ; commands = c } in
     let d : Derives (R .owned) p t = record { signatures = rule .signatures; functions = rule .functions; main = rule .main } in
     let typed : typeProgram (R .owned) p ≡ ok t = exact-typing (R .owned) size p t read .1 d in
     let walked : walk R (R .owned) c ≡ ok (rule .left) = walk-decides R size p t (rule .left) read d .1 (rule .connects) in
-    let fits : leb (sizeOf c) 65535 ≡ true = rw count (T→eq _ (le→leb n 65535 small)) in
-    rw (typed, fits, walked, count)
+    let fits : leb (sizeOf c) 65535 ≡ true = rw count (T→eq _ (le→leb (a .count) 65535 small)) in
+    rw (typed, fits, walked, count, live)
 
 is-job : (job : ℕ) → (eqb job 1 || eqb job 2) ≡ true → (job ≡ 1) ⊎ (job ≡ 2)
 is-job job h = go (eqb job 1) refl h
@@ -82,7 +88,7 @@ check-sound d p job =
     holds-bind (holds-within (Program job) (holds-any (readProgram p))) λ q f.
     holds-within (Program job) (holds-map (λ n. accepts D q n j e f) (judged-sound (regionOf D job) (length p) q (well-read p q f)))
   where
-    accepts : (D : devices.Device) (q : trees.Program) (n : ℕ) → (eqb job 1 || eqb job 2) ≡ true → readDevice d ≡ ok D → readProgram p ≡ ok q
+    accepts : (D : devices.Device) (q : trees.Program) (n : Counted) → (eqb job 1 || eqb job 2) ≡ true → readDevice d ≡ ok D → readProgram p ≡ ok q
         → Judged (regionOf D job) q n → Accepts d p job n
     accepts D q n j e f a = record {
       a-job = is-job job j;
@@ -91,18 +97,21 @@ check-sound d p job =
       device-reads = e;
       program-reads = f;
       commands = a .commands;
+      ends = a .ends;
       derived = a .derived;
       count = a .count;
+      live = a .live;
       small = a .small;
     }
 
-check-complete : (d p : List ℕ) (job n : ℕ) → Accepts d p job n → checkOf d p job ≡ ok n
+check-complete : (d p : List ℕ) (job : ℕ) (n : Counted) → Accepts d p job n → checkOf d p job ≡ ok n
 unfolding _>>=_ _>>_
 check-complete d p job n a =
     let R : Region = regionOf (a .the-device) job in
     let q : trees.Program = a .the-program in
     let read : ProgramRead (length p) q = well-read p q (a .program-reads) in
-    let accepted : judged R q ≡ ok n = judged-complete R (length p) n q (a .commands) read (a .derived) (a .count) (a .small) in
+    let accepted : judged R q ≡ ok n =
+    judged-complete R (length p) n q (a .ends) (a .commands) read (a .derived) (a .count) (a .live) (a .small) in
     rw (a-job job (a .a-job), a .device-reads, a .program-reads, accepted)
 
 pub exact-check : ExactCheck

@@ -20,10 +20,11 @@ use Rattle.rules.specs.Program.{Scope}
 use Rattle.rules.specs.Slots.{unbound, qubit, bool, ref, slot, needBool, needRef, isUnbound, isClassical, Done, perform, argumentsAt, callable}
 use Rattle.rules.specs.Commands.{Commands, commandsAt}
 use Rattle.rules.specs.Typing.{Kind, Env, Typed, Signature, Context, signature, kinds, afterAct, afterCall, command, sameKind, allStay, sameEnv}
-use Rattle.rules.specs.Typing.{typeStatement, typeStatements, typeBlock, entry, bodyContext, signatureOf, typeFunctions, mainContext, start, typeProgram}
+use Rattle.rules.specs.Typing.{typeStatement, typeStatements, typeBlock, entry, bodyContext, signatureOf, typeFunctions, mainContext, start}
+use Rattle.rules.specs.Typing.{typeMain, typeProgram}
 use Rattle.rules.specs.Figures.{kindAt, OpRule, T-Init, T-MInit, T-Free, T-Gate, T-Meas1, T-Meas2, T-MkRef, T-Deref, T-Assign, T-Bool}
 use Rattle.rules.specs.Figures.{Arguments, no-more, and, Callable, StatementRule, T-Op, T-If, T-While, T-Call}
-use Rattle.rules.specs.Figures.{StatementsRule, T-Unit, T-Seq, BlockRule, T-Close, FunctionsRule, T-NoFun, T-Fundecl}
+use Rattle.rules.specs.Figures.{StatementsRule, T-Unit, T-Seq, BlockRule, T-Close, MainRule, T-Main, FunctionsRule, T-NoFun, T-Fundecl}
 use Rattle.theory.specs.WellRead.{CallRead, StatementRead, if-read, while-read, call-read, StatementsRead, next-read}
 use Rattle.theory.specs.WellRead.{BlockRead, block-read, FunctionsRead, none-read, function-read, ProgramRead}
 use Rattle.theory.specs.Exact.{Derives, ExactTyping, EndsAlike}
@@ -270,10 +271,21 @@ functions-complete [] T-NoFun none-read H = refl
 functions-complete (g ∷ fs) {gs = gs} (T-Fundecl j w) (function-read k m h b r) H =
     rw (block-complete (bodyContext gs g) _ (g .body) j b H (linear-entry gs g h (omega arith))) (functions-complete fs w r (function-ends gs g _ h m H b j, H))
 
+-- main, whose own block closes without 17
+main-sound : (C : Context device) (S : Scope) (Γ : Env device) (b : Block device) {d o p : ℕ} → BlockRead S d o p b → Known C S → Linear C Γ
+    → Holds (λ (t : Typed device). MainRule C Γ b (t .env) (t .commands)) (typeMain C Γ b)
+main-sound C S Γ (block i ts) (block-read r) K I = holds-bind (statements-sound C S Γ ts r K I) λ d p. by (T-Main p)
+
+main-complete : (C : Context device) (S : Scope) (b : Block device) {Γ Δ : Env device} {c : Commands device} {d o p : ℕ} → MainRule C Γ b Δ c
+    → BlockRead S d o p b
+    → AllEnd (C .functions) → Linear C Γ → typeMain C Γ b ≡ ok (record { env = Δ; commands = c })
+unfolding _>>=_ _>>_
+main-complete C S (block i ts) (T-Main j) (block-read r) H I = rw (statements-complete C S ts j r H I)
+
 program-sound : (owned : List Bool) (size : ℕ) (p : Program) → ProgramRead size p → Holds (Derives owned p) (typeProgram owned p)
 program-sound owned size p R = holds-bind (functions-sound (p .functions) [] (R .functions) tt no-match) λ gs w.
     holds-map (λ t j. record { signatures = gs; functions = w; main = j })
-    (block-sound (mainContext owned gs) _ (start owned) (p .main) (R .main) (known gs w) (linear-start owned gs))
+    (main-sound (mainContext owned gs) _ (start owned) (p .main) (R .main) (known gs w) (linear-start owned gs))
   where
     known : (gs : List Signature) → FunctionsRule (p .functions) [] gs → Known (mainContext owned gs) (record { places = 256; earlier = p .functions })
     known gs w = record { end = functions-end (p .functions) (R .functions) w tt; match = functions-match (p .functions) [] w no-match }
@@ -285,7 +297,7 @@ program-complete owned size p t R D =
     let gs : List Signature = D .signatures in
     let f : typeFunctions [] (p .functions) ≡ ok gs = functions-complete (p .functions) (D .functions) (R .functions) tt in
     let H : AllEnd gs = functions-end (p .functions) (R .functions) (D .functions) tt in
-    rw f (block-complete (mainContext owned gs) _ (p .main) (D .main) (R .main) H (linear-start owned gs))
+    rw f (main-complete (mainContext owned gs) _ (p .main) (D .main) (R .main) H (linear-start owned gs))
 
 pub exact-typing : ExactTyping
 exact-typing owned size p t R = ((λ e. holds-at (program-sound owned size p R) e), program-complete owned size p t R)

@@ -16,7 +16,7 @@ use Rattle.rules.specs.Region.{regionOf, owns, freeIn}
 use Rattle.rules.specs.Path.{route}
 use Rattle.rules.specs.Program.{readProgram}
 use Rattle.rules.specs.Commands.{sizeOf, needRoute, walk}
-use Rattle.rules.specs.Typing.{typeProgram}
+use Rattle.rules.specs.Typing.{typeProgram, liveIn}
 use Rattle.rules.specs.Run.{turns}
 use Rattle.rules.specs.Promises.{needJob, checkOf, routed, ran}
 use Rattle.theory.specs.Tests.{firstOf, refusalOf}
@@ -83,7 +83,8 @@ check-row d p j =
     (let R = regionOf D j in
     instead (ap (within (Program j)) (typing-order (R .owned) q))
     (stages-judged (Program j) (typeProgram (R .owned) q) (λ t. leb (sizeOf (t .commands)) 65535) (λ t. walk R (R .owned) (t .commands))
-    (λ t. firstOf (walkTests (λ l. l) R (R .owned) (t .commands))) (λ t. sizeOf (t .commands)) λ t. walk-order .main R (R .owned) (t .commands)))))
+    (λ t. firstOf (walkTests (λ l. l) R (R .owned) (t .commands))) (λ t. record { count = sizeOf (t .commands); live = liveIn (t .env) })
+    λ t. walk-order .main R (R .owned) (t .commands)))))
 
 pub check-order : CheckOrder
 check-order d p j = check-row d p j .same

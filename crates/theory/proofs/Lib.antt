@@ -18,6 +18,7 @@ pub mod Frames
 pub mod Safety
 pub mod NeverStuck
 pub mod Accepted
+pub mod Live
 pub mod Neat
 pub mod Tidy
 pub mod Counts
@@ -28,6 +29,7 @@ pub mod Records
 pub mod StuckRuns
 pub mod FromBytes
 pub mod OccupiedRuns
+pub mod LiveRuns
 pub mod BoundsLaws
 pub mod BoundsRead
 pub mod BoundsTyped

@@ -3,10 +3,10 @@
 -- two ways to say what a call leaves, the callee's environment substituted and the arguments that did not stay unbound, are one.
 --
 -- Exported: Linear, Ends, AllEnd (each callee of the list ends so); linear-start, linear-entry; linear-put, linear-held, linear-released, linear-op,
--- linear-call, linear-callable, linear-close, linear-statement, linear-statements, linear-block; free-length-op, -statement, -statements, -block (as many
--- places as before); block-qubit, block-argument (a slot over a block); function-ends, functions-end; Matches, no-match, more-match, functions-match
--- (signatures against the functions read); call-slot, call-other-slot, call-place, call-other-place, call-kept, call-old, other-free (slots and places
--- after a call); call-agrees, callable-agrees.
+-- linear-call, linear-callable, linear-close, linear-statement, linear-statements, linear-block, linear-main; free-length-op, -statement, -statements,
+-- -block (as many places as before); block-qubit, block-argument (a slot over a block); function-ends, functions-end; Matches, no-match, more-match,
+-- functions-match (signatures against the functions read); call-slot, call-other-slot, call-place, call-other-place, call-kept, call-old, other-free (slots
+-- and places after a call); call-agrees, callable-agrees.
 use mathlib.Core.Bool.{Bool, true, false, false≢true}
 use mathlib.Core.List.{List, [], _∷_, _++_, append-nil}
 use mathlib.Core.Logic.{_≢_, _⊎_, inl, inr, ⊎-elim}
@@ -17,7 +17,7 @@ use Prim.Native.Nat.{ℕ, _-_, _≤_, _<_}
 use lib.ListN.{getD, set, length, drop, length-set, length-append, List·getD-append, List·getD-eq-default}
 use lib.Seq.{getD-set-same, getD-set-other, getD-append-seam, append-snoc}
 use Rattle.rules.specs.Basics.{all, upTo, without, setAll, distinct}
-use Rattle.rules.specs.Syntax.{Side, parameter, Place, param, at, Op, Statement, op, if, while, call, Statements, done, _⨾_, Block, block}
+use Rattle.rules.specs.Syntax.{Side, device, parameter, Place, param, at, Op, Statement, op, if, while, call, Statements, done, _⨾_, Block, block}
 use Rattle.rules.specs.Syntax.{Function, function}
 use Rattle.rules.specs.Program.{Scope}
 use Rattle.rules.specs.Slots.{unbound, qubit, bool, ref, slot, holdsNoQubit, isQubitAt, kept}
@@ -26,7 +26,7 @@ use Rattle.rules.specs.Typing.{Kind, Env, Typed, Signature, Context, signature,
 use Rattle.rules.specs.Figures.{stored, bind, take, give, kindAt, substituted}
 use Rattle.rules.specs.Figures.{OpRule, T-Init, T-MInit, T-Free, T-Gate, T-Meas1, T-Meas2, T-MkRef, T-Deref, T-Assign, T-Bool}
 use Rattle.rules.specs.Figures.{Arguments, Callable, StatementRule, T-Op, T-If, T-While, T-Call}
-use Rattle.rules.specs.Figures.{StatementsRule, T-Unit, T-Seq, BlockRule, T-Close, FunctionsRule, T-NoFun, T-Fundecl}
+use Rattle.rules.specs.Figures.{StatementsRule, T-Unit, T-Seq, BlockRule, T-Close, MainRule, T-Main, FunctionsRule, T-NoFun, T-Fundecl}
 use Rattle.rules.proofs.Basics.{length-upTo, getD-upTo-zero}
 use Rattle.theory.specs.WellRead.{OpRead, StatementRead, op-read, if-read, while-read, StatementsRead, next-read}
 use Rattle.theory.specs.WellRead.{BlockRead, block-read, FunctionsRead, none-read, function-read}
@@ -334,6 +334,11 @@ mutual
       → BlockRead S d o p b
       → AllEnd (C .functions) → Linear C Γ → Linear C Δ
   linear-block C S (block i ts) (T-Close {Γ = Γ} {Δ = Δ} j e) (block-read r) H I = linear-close C Γ Δ (linear-statements C S ts j r H I)
+
+pub linear-main : (C : Context device) (S : Scope) (b : Block device) {Γ Δ : Env device} {c : Commands device} {d o p : ℕ} → MainRule C Γ b Δ c
+    → BlockRead S d o p b
+    → AllEnd (C .functions) → Linear C Γ → Linear C Δ
+linear-main C S (block i ts) (T-Main {Γ = Γ} {Δ = Δ} j) (block-read r) H I = linear-close C Γ Δ (linear-statements C S ts j r H I)
 
 -- as many places as before
 pub free-length-op : {s : Side} {C : Context s} {Γ Δ : Env s} {o : ℕ} {a : Op s} {c : Commands s} → OpRule C Γ o a Δ c

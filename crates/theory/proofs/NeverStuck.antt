@@ -17,7 +17,7 @@ use Rattle.rules.specs.Region.{Region, regionOf, owns, freeIn}
 use Rattle.rules.specs.Syntax.{device, Function, function, Program}
 use Rattle.rules.specs.Slots.{unbound, slot, Act, quiet, takes, gives, merges}
 use Rattle.rules.specs.Commands.{Commands, commandsAt}
-use Rattle.rules.specs.Typing.{Signature, afterAct, mainContext, start}
+use Rattle.rules.specs.Typing.{Env, Signature, afterAct, mainContext, start}
 use Rattle.rules.specs.Figures.{FunctionsRule, T-NoFun, T-Fundecl, Connects, ProgramRule}
 use Rattle.rules.specs.Machine.{fresh, themselves}
 use Rattle.rules.specs.Run.{Turn, written, started, records}
@@ -25,7 +25,7 @@ use Rattle.theory.specs.WellRead.{FunctionsRead, none-read, function-rea
 use Rattle.theory.specs.Interleaving.{turnsOf, recordsOf}
 use Rattle.theory.proofs.Base.{true-in-range, getD-set-default, getD-replicate-default}
 use Rattle.theory.proofs.Places.{at-same}
-use Rattle.theory.proofs.Safety.{Known, known-none, known-more, finished, rest-block, Inv, Fine, fine-step}
+use Rattle.theory.proofs.Safety.{Known, known-none, known-more, rest-main, Inv, Fine, fine-step}
 use Rattle.theory.proofs.Isolation.{OwnAct, own-step, View, view, view-step, view-after, view-records, sound-started, view-started, free-started}
 use Rattle.theory.proofs.Isolation.{SoundView, sound-view, sound-view-after, records-of}
 
@@ -45,23 +45,23 @@ read-roomy : {fs gs : List Function} {o q : ℕ} → FunctionsRead fs o gs q →
 read-roomy none-read = tt
 read-roomy (function-read k m n b r) = (omega arith, read-roomy r)
 
-module _ (R : Region) (fs : List Function) where
+module _ (R : Region) (fs : List Function) (last-free : List Bool) where
   known-all : {rest : List Function} {gs hs : List Signature} → FunctionsRule rest gs hs → drop (length gs) fs ≡ rest → Roomy rest
-      → Known R fs (length (R .owned)) gs → Known R fs (length (R .owned)) hs
+      → Known R fs (length (R .owned)) last-free gs → Known R fs (length (R .owned)) last-free hs
   known-all T-NoFun h m K = K
   known-all (T-Fundecl {g = g} {fs = rest} {gs = gs} j r) h m K =
       known-all r (drop-tail fs (length gs) g rest h) (m .1) (known-more K (function-at fs (length gs) g rest h) (m .0) j)
 
-first-typed : (R : Region) (p : Program) (c : Commands device) → Roomy (p .functions) → ProgramRule R p c
-    → Inv R (p .functions) (length (R .owned)) (R .owned) (fresh p)
-first-typed R p c m A =
+first-typed : (R : Region) (p : Program) (Δ : Env device) (c : Commands device) → Roomy (p .functions) → (A : ProgramRule R p Δ c)
+    → Inv R (p .functions) (length (R .owned)) (A .left) (R .owned) (fresh p)
+first-typed R p Δ c m A =
     let w : Connects R (R .owned) (commandsAt (λ l. l) c) (A .left) = rw (at-same c) (A .connects) in
     record {
       s = device;
       B = record { context = mainContext (R .owned) (A .signatures); actual = themselves; place = λ l. l; size = length (R .owned) };
       Γ = start (R .owned);
       good = record {
-        known = known-all R (p .functions) (A .functions) refl m known-none;
+        known = known-all R (p .functions) (A .left) (A .functions) refl m known-none;
         placed =
             record { agree = λ l h. refl; own = λ l h. h; range = λ l h. true-in-range (R .owned) (l .no) h; apart = λ l k h i e. e; room = λ l h. h };
         sized = refl;
@@ -69,7 +69,7 @@ first-typed R p c m A =
         fits = record { kinds-long = refl; slots-long = refl; each = λ x. rw (no-kind x, nothing x) };
         frees = λ l h. h;
       };
-      rest = rest-block R (p .functions) (length (R .owned)) (p .main) (A .main) w finished;
+      rest = rest-main R (p .functions) (length (R .owned)) (A .left) (p .main) (A .main) w;
     }
   where
     no-kind : (x : ℕ) → slot (start (R .owned) .slots) x ≡ unbound
@@ -101,40 +101,47 @@ module _ (R : Region) (j : ℕ) where
   free-after (merges b k e k′) L occ own F l h = F l h
 
 -- 3. Over any schedule
-module _ (D : Device) (programs : ℕ → Program) (j len : ℕ) where
-  record TypedView (W : View) : Type 0 where
-    L : List Bool
-    inv : Inv (regionOf D j) (programs j .functions) len L (W .job)
-    frees : FreeOn (regionOf D j) j L (W .mine)
-    sound : SoundView D programs j W
+module _ (D : Device) (programs : ℕ → Program) (j len : ℕ) (last-free : List Bool) where
+  -- the job's state is typed, and these locations are free
+  pub record TypedView (W : View) (L : List Bool) : Type 0 where
+    pub inv : Inv (regionOf D j) (programs j .functions) len last-free L (W .job)
+    pub frees : FreeOn (regionOf D j) j L (W .mine)
+    pub sound : SoundView D programs j W
 
-  fine-view : (v : Bool) (W : View) (T : TypedView W)
-      → Fine (regionOf D j) (programs j .functions) len v (freeIn (regionOf D j) (W .mine)) (T .L) (view-step D programs j v W)
-  fine-view v W T = fine-step (regionOf D j) (programs j .functions) len v (freeIn (regionOf D j) (W .mine)) (T .L) (W .job) (T .frees) (T .inv)
+  fine-view : (v : Bool) (W : View) (L : List Bool) → TypedView W L
+      → Fine (regionOf D j) (programs j .functions) len last-free v (freeIn (regionOf D j) (W .mine)) L (view-step D programs j v W)
+  fine-view v W L T =
+      fine-step (regionOf D j) (programs j .functions) len last-free v (freeIn (regionOf D j) (W .mine)) L (W .job) (T .frees) (T .inv)
 
-  typed-after : (v : Bool) (W : View) → TypedView W → TypedView (view-after D programs j v W)
-  typed-after v W T = record {
-    L = afterAct (view-step D programs j v W .act) (T .L);
-    inv = fine-view v W T .inv;
-    frees = free-after (regionOf D j) j (view-step D programs j v W .act) (T .L) (W .mine)
+  pub typed-after : (v : Bool) (W : View) (L : List Bool) → TypedView W L
+      → TypedView (view-after D programs j v W) (afterAct (view-step D programs j v W .act) L)
+  typed-after v W L T = record {
+    inv = fine-view v W L T .inv;
+    frees = free-after (regionOf D j) j (view-step D programs j v W .act) L (W .mine)
         (own-step (regionOf D j) (programs j .functions) v (freeIn (regionOf D j) (W .mine)) (W .job) (T .sound .own) .1) (T .frees);
     sound = sound-view-after D programs j v W (T .sound);
   }
 
-  unstuck-view : (ts : List Turn) (W : View) → TypedView W → all (λ r. leb (r .told .code) 1) (view-records D programs j ts W) ≡ true
-  unstuck-view [] W T = refl
-  unstuck-view (t ∷ ts) W T =
-      rw (fine-view (t .outcome) W T .unstuck) (unstuck-view ts (view-after D programs j (t .outcome) W) (typed-after (t .outcome) W T))
+  unstuck-view : (ts : List Turn) (W : View) (L : List Bool) → TypedView W L → all (λ r. leb (r .told .code) 1) (view-records D programs j ts W) ≡ true
+  unstuck-view [] W L T = refl
+  unstuck-view (t ∷ ts) W L T =
+      rw (fine-view (t .outcome) W L T .unstuck) (unstuck-view ts (view-after D programs j (t .outcome) W) _ (typed-after (t .outcome) W L T))
 
-pub never-stuck-derived : (D : Device) (programs : ℕ → Program) (j size : ℕ) (c : Commands device) → ProgramRead size (programs j)
-    → ProgramRule (regionOf D j) (programs j) c
-    → (ts : List Turn) → all (λ r. leb (r .told .code) 1) (recordsOf j (records D programs ts (started D programs))) ≡ true
-never-stuck-derived D programs j size c read A ts =
-    rw (records-of D programs j ts (started D programs) (sound-started D programs))
-    (unstuck-view D programs j (length (regionOf D j .owned)) (turnsOf j ts) (view D programs j (started D programs))
-    (record {
-      L = regionOf D j .owned;
-      inv = first-typed (regionOf D j) (programs j) c (read-roomy (read .functions)) A;
-      frees = λ l h. ap (λ W. freeIn (regionOf D j) (W .mine) l) (view-started D programs j) ∙ free-started D programs j l ∙ h;
-      sound = sound-view D programs j (started D programs) (sound-started D programs);
-    }))
+-- 4. A derived program
+module _ (D : Device) (programs : ℕ → Program) (j size : ℕ) (Δ : Env device) (c : Commands device) (read : ProgramRead size (programs j))
+    (A : ProgramRule (regionOf D j) (programs j) Δ c) where
+  -- at the start its region's locations are free, and no others
+  pub started-free : (l : ℕ) → freeIn (regionOf D j) (view D programs j (started D programs) .mine) l ≡ owns (regionOf D j) l
+  started-free l = ap (λ W. freeIn (regionOf D j) (W .mine) l) (view-started D programs j) ∙ free-started D programs j l
+
+  pub typed-started : TypedView D programs j (length (regionOf D j .owned)) (A .left) (view D programs j (started D programs)) (regionOf D j .owned)
+  typed-started = record {
+    inv = first-typed (regionOf D j) (programs j) Δ c (read-roomy (read .functions)) A;
+    frees = λ l h. started-free l ∙ h;
+    sound = sound-view D programs j (started D programs) (sound-started D programs);
+  }
+
+  pub never-stuck-derived : (ts : List Turn) → all (λ r. leb (r .told .code) 1) (recordsOf j (records D programs ts (started D programs))) ≡ true
+  never-stuck-derived ts =
+      rw (records-of D programs j ts (started D programs) (sound-started D programs))
+      (unstuck-view D programs j (length (regionOf D j .owned)) (A .left) (turnsOf j ts) (view D programs j (started D programs)) _ typed-started)

@@ -83,7 +83,7 @@ take-all : (xs ys : List ℕ) → take (length xs) (xs ++ ys) ≡ xs
 take-all [] ys = refl
 take-all (x ∷ xs) ys = ap (λ (l : List ℕ). x ∷ l) (take-all xs ys)
 
-positive : (j : ℕ) → (eqb j 1 || eqb j 2) ≡ true → 1 ≤ j
+pub positive : (j : ℕ) → (eqb j 1 || eqb j 2) ≡ true → 1 ≤ j
 positive zero h = absurd (false≢true h)
 positive (suc j) h = omega arith
 
@@ -109,7 +109,7 @@ module _ (device first second schedule buffer map′ : List ℕ) (m : Moved) (e 
   readable : Readable P
   readable j = (length (ofJob first second j), well-read (ofJob first second j) (P j) (reads j))
 
-  map-bytes : take (word device 5) (runOf device first second schedule buffer map′ .map) ≡ end .occupancy
+  pub map-bytes : take (word device 5) (runOf device first second schedule buffer map′ .map) ≡ end .occupancy
   map-bytes =
       let fits : length (D .owners) ≡ length (end .occupancy) = sound-final D P ts (started D P) (sound-started D P) .fits in
       let long : word device 5 ≡ length (end .occupancy) = sym (owner-bytes device D (F .device-reads) .many) ∙ fits in

@@ -25,7 +25,7 @@ use Rattle.rules.specs.Commands.{Commands, ε, alloc, release, connect, either,
 use Rattle.rules.specs.Typing.{Kind, Env, Typed, Signature, Context, signature, afterAct, narrowed, entry, bodyContext, signatureOf}
 use Rattle.rules.specs.Figures.{stored, kindAt, substituted, OpRule, T-Init, T-MInit, T-Free, T-Gate, T-Meas1, T-Meas2, T-MkRef, T-Deref, T-Assign, T-Bool}
 use Rattle.rules.specs.Figures.{Arguments, no-more, and, Callable, StatementRule, T-Op, T-If, T-While, T-Call, StatementsRule, T-Unit, T-Seq}
-use Rattle.rules.specs.Figures.{BlockRule, T-Close, Linked, Connects, C-Empty, C-Alloc, C-Free, C-Merge, C-If, C-Loop}
+use Rattle.rules.specs.Figures.{BlockRule, T-Close, MainRule, T-Main, Linked, Connects, C-Empty, C-Alloc, C-Free, C-Merge, C-If, C-Loop}
 use Rattle.rules.specs.Machine.{Frame, Actual, locations, locate, Item, run, return, Job, statementsBefore, blockBefore}
 use Rattle.rules.specs.Machine.{Move, silent, floor, edgesOf, move, Stepped, stepItems, step}
 use Rattle.rules.proofs.Tests.{eqb-same, eqb-other, below, and-left, and-right}
@@ -105,7 +105,8 @@ Frees ρ fs N = (p : Place _) → getD fs (p .no) false ≡ true → getD N (ρ 
 abbrev pub Home : ℕ → List (Kind parameter) → Type 0
 Home m vs = (j : ℕ) → j < m → (slot vs j ≡ qubit (param j)) ⊎ (slot vs j ≡ unbound)
 
-module _ (R : Region) (fs : List Function) (len : ℕ) where
+-- the device has len locations, and these are free once main is done
+module _ (R : Region) (fs : List Function) (len : ℕ) (last-free : List Bool) where
   pub record Placed {s : Side} (B : Body s) : Type 0 where
     pub agree : (p : Place s) → B .context .inside p ≡ true → locate (B .actual) p ≡ B .place p
     pub own : (p : Place s) → B .context .inside p ≡ true → owns R (B .place p .no) ≡ true
@@ -205,7 +206,7 @@ module _ (R : Region) (fs : List Function) (len : ℕ) where
 
   -- What is left to do, typed. N is free now, L will be free when the items are reached.
   pub data Rest (N : List Bool) : (s : Side) → Body s → Env s → List Bool → List Frame → List Item → Type 0 where
-    finished : {s : Side} {B : Body s} {Γ : Env s} {L : List Bool} → Rest N s B Γ L [] []
+    finished : {s : Side} {B : Body s} {Γ : Env s} → Rest N s B Γ last-free [] []
     close : {s : Side} {B : Body s} {Γ : Env s} {L : List Bool} {φs : List Frame} {is : List Item}
         → (Γ₀ : Env s) → Rest N s B (record { slots = narrowed (Γ₀ .slots) (Γ .slots); free = Γ .free }) L φs is → Rest N s B Γ L φs is
     next : {s : Side} {B : Body s} {Γ Δ : Env s} {L M : List Bool} {φs : List Frame} {is : List Item} {t : Statement s} {c : Commands s}
@@ -320,6 +321,18 @@ module _ (R : Region) (fs : List Function) (len : ℕ) where
       → BlockRule (B .context) Γ b Δ c → Connects R L (commandsAt (B .place) c) M → Rest N s B Δ M φs is
       → Rest N s B Γ L φs (blockBefore (B .actual) b is)
   rest-block {Γ = Γ} (block o ts) (T-Close j p) w r = rest-statements ts j w (close Γ r)
+
+  pub rest-main : {N : List Bool} {B : Body device} {Γ Δ : Env device} (b : Block device) {c : Commands device} {L : List Bool}
+      → MainRule (B .context) Γ b Δ c → Connects R L (commandsAt (B .place) c) last-free → Rest N device B Γ L [] (blockBefore (B .actual) b [])
+  rest-main {Γ = Γ} (block o ts) (T-Main j) w = rest-statements ts j w finished
+
+  -- where nothing is to come, the locations that are free are those that main ends with
+  pub rest-end : {N : List Bool} {s : Side} {B : Body s} {Γ : Env s} {L : List Bool} {φs : List Frame} {is : List Item} → Rest N s B Γ L φs is
+      → is ≡ [] → L ≡ last-free
+  rest-end finished e = refl
+  rest-end (close Γ₀ r) e = rest-end r e
+  rest-end (next j w r) e = let z : _≡_ {A = ℕ} 0 1 = cc in absurd (omega arith)
+  rest-end (back w h r) e = let z : _≡_ {A = ℕ} 0 1 = cc in absurd (omega arith)
 
   -- 6. One step
   module _ (v : Bool) (isFree : ℕ → Bool) where

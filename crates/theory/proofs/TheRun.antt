@@ -11,6 +11,7 @@ use lib.Dec.{eqb, leb}
 use lib.ListN.{length, length-append}
 use Rattle.answers.specs.Check.{Check, ok, refused, _>>=_, _>>_, need}
 use Rattle.answers.specs.declared.File.the-variants.{Device, Schedule, Program}
+use Rattle.answers.specs.declared.Counted.{Counted}
 use Rattle.answers.specs.declared.Moved.{Moved}
 use Rattle.answers.proofs.Laws.{Holds, by, holds-bind, holds-then, holds-need, holds-map, holds-any, holds-within, holds-at, ok-not-refused}
 use Rattle.rules.specs.Basics.{chosen, all}
@@ -210,7 +211,7 @@ same-value : {A : Type 0} {c : Check A} {x y : A} → c ≡ ok x → c ≡ ok y 
 same-value e f = cc
 
 -- a program that the check accepts on a device
-record Checked (device program : List ℕ) (j n : ℕ) : Type 0 where
+record Checked (device program : List ℕ) (j : ℕ) (n : Counted) : Type 0 where
   D : rules.Device
   p : syntax.Program
   device-reads : readDevice device ≡ ok D
@@ -224,7 +225,7 @@ checked device program j =
     holds-bind (holds-within (Program j) (holds-any (readProgram program))) λ p b.
     holds-within (Program j) (holds-map (λ n e. made D p n a b e) (holds-any (judged (regionOf D j) p)))
   where
-    made : (D : rules.Device) (p : syntax.Program) (n : ℕ) → readDevice device ≡ ok D → readProgram program ≡ ok p
+    made : (D : rules.Device) (p : syntax.Program) (n : Counted) → readDevice device ≡ ok D → readProgram program ≡ ok p
         → judged (regionOf D j) p ≡ ok n → Checked device program j n
     made D p n a b e = record { D = D; p = p; device-reads = a; program-reads = b; accepted = e }
 
@@ -277,7 +278,7 @@ module _ (device first second schedule buffer map′ : List ℕ) (m : Moved) (e 
   its-records : (j : ℕ) → recordsFor j schedule (runOf device first second schedule buffer map′ .records) ≡ recordBytes (recordsOf j (f .records))
   its-records j = ap (λ (w : Ran). recordsFor j schedule (w .records)) ran-as ∙ records-for (B .D) P j _ schedule (started (B .D) P)
 
-  its-codes : (j : ℕ) → codesFor j schedule (runOf device first second schedule buffer map′ .records) ≡ map code (recordsOf j (f .records))
+  pub its-codes : (j : ℕ) → codesFor j schedule (runOf device first second schedule buffer map′ .records) ≡ map code (recordsOf j (f .records))
   its-codes j = ap (λ (w : Ran). codesFor j schedule (w .records)) ran-as ∙ codes-for (B .D) P j _ schedule (started (B .D) P)
 
   -- ---- the moved counts
@@ -293,17 +294,23 @@ module _ (device first second schedule buffer map′ : List ℕ) (m : Moved) (e 
         second-moved = ap (λ (n : Moved). n .second) counted ∙ its-moved 2;
       }
 
+  pub reads : (j : ℕ) → readProgram (ofJob first second j) ≡ ok (P j)
+  reads j = job-reads first second (B .p) (B .q) (B .first-reads) (B .second-reads) j
+
+  -- what the check accepts is accepted on the device and with the program of the run
+  pub accepted-here : (j : ℕ) (a : Counted) → checkOf device (ofJob first second j) j ≡ ok a → judged (regionOf (B .D) j) (P j) ≡ ok a
+  accepted-here j a k =
+      let C = holds-at (checked device (ofJob first second j) j) k in
+      let same-program : C .p ≡ P j = same-value (C .program-reads) (reads j) in
+      let same-device : C .D ≡ B .D = same-value (C .device-reads) (B .device-reads) in
+      let there : judged (regionOf (C .D) j) (P j) ≡ ok a = rw same-program at (C .accepted) in
+      rw same-device at there
+
   -- ---- never stuck
   not-stuck : NotStuck device first second schedule buffer map′
-  not-stuck j n h k =
-      let C = holds-at (checked device (ofJob first second j) j) k in
-      let reads : readProgram (ofJob first second j) ≡ ok (P j) = job-reads first second (B .p) (B .q) (B .first-reads) (B .second-reads) j in
-      let same-program : C .p ≡ P j = same-value (C .program-reads) reads in
-      let same-device : C .D ≡ B .D = same-value (C .device-reads) (B .device-reads) in
-      let there : judged (regionOf (C .D) j) (P j) ≡ ok n = rw same-program at (C .accepted) in
-      let accepted : judged (regionOf (B .D) j) (P j) ≡ ok n = rw same-device at there in
+  not-stuck j a h k =
       ap (all (λ c. leb c 1)) (its-codes j) ∙ all-codes (recordsOf j (f .records))
-      ∙ never-stuck (ofJob first second j) (B .D) P j n reads accepted (map turnOf schedule)
+      ∙ never-stuck (ofJob first second j) (B .D) P j a (reads j) (accepted-here j a k) (map turnOf schedule)
 
   -- ---- in order
   abbrev s : List ℕ

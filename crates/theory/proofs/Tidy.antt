@@ -25,6 +25,7 @@ use Rattle.rules.specs.Run.{Turn, Machine, written, started, stepOf, after, fin
 use Rattle.theory.specs.Interleaving.{turnsOf}
 use Rattle.theory.specs.Tidy.{isInit, isFree, bytesOf, Readable, acts, Occupied, MapByte, frame, Stuck, StuckStays, HeldOnce}
 use Rattle.rules.proofs.Tests.{eqb-same, eqb-other}
+use Rattle.theory.proofs.Base.{how-many-set}
 use Rattle.theory.proofs.Isolation.{Byte, ownSlot, OwnFrame, OwnFrames, OwnAct, OwnJob, owns-owner, part, Sound, sound-started, sound-after}
 use Rattle.theory.proofs.Isolation.{sound-final}
 use Rattle.theory.proofs.Isolation.{View, view, view-step, view-after, view-final, acts-own, same-step, view-same, view-of-final}
@@ -55,9 +56,7 @@ module _ (D : Device) (programs : ℕ → Program) where
   -- 3. How a step changes the number of a job's bytes
   bytes-set : (j : ℕ) (occ : List ℕ) (l x : ℕ) → l < length occ
       → bytesOf j (set occ l x) + chosen (eqb (getD occ l 0) j) 1 0 ≡ bytesOf j occ + chosen (eqb x j) 1 0
-  bytes-set j [] l x h = absurd (omega arith)
-  bytes-set j (b ∷ occ) zero x h = omega arith
-  bytes-set j (b ∷ occ) (suc l) x h = let r = bytes-set j occ l x (omega arith) in omega arith
+  bytes-set j occ l x h = how-many-set (λ b. eqb b j) occ l x 0 h
 
   -- a store where neither the old byte nor the new one is the job
   bytes-same : (j : ℕ) (occ : List ℕ) (l x : ℕ) → l < length occ → getD occ l 0 ≢ j → x ≢ j → bytesOf j (set occ l x) ≡ bytesOf j occ

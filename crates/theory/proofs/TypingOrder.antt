@@ -19,11 +19,11 @@ use Rattle.rules.specs.Slots.{Slot, unbound, qubit, bool, ref, slot, isQubitAt,
 use Rattle.rules.specs.Slots.{Setting, Done, perform, argumentsAt, callable}
 use Rattle.rules.specs.Commands.{needRoute}
 use Rattle.rules.specs.Typing.{Env, Typed, Signature, Context, kinds, allStay, sameEnv, typeStatement, typeStatements, typeBlock}
-use Rattle.rules.specs.Typing.{entry, bodyContext, signatureOf, typeFunctions, mainContext, start}
+use Rattle.rules.specs.Typing.{entry, bodyContext, signatureOf, typeFunctions, mainContext, start, typeMain}
 use Rattle.rules.specs.Machine.{Frame, locate, Item, run, return, floor, edgesOf, move}
 use Rattle.theory.specs.Tests.{Test, test}
 use Rattle.theory.specs.TypingOrder.{isQubit, isBool, isRef, opTests, argumentTests, callTests, OpOrder, CallOrder, typedFrom}
-use Rattle.theory.specs.TypingOrder.{statementTests, statementsTests, blockTests, bodiesTests, TypingOrder}
+use Rattle.theory.specs.TypingOrder.{statementTests, statementsTests, blockTests, mainTests, bodiesTests, TypingOrder}
 use Rattle.theory.specs.TypingOrder.{isSome, pathTests, stepTests, StepOrder}
 use Rattle.theory.proofs.Rows.{past, past-any, AsFirst, end, next, passed, fails, made, gives, after-having, after, then, row-in, both, each}
 
@@ -121,11 +121,15 @@ module _ {s : Side} (C : Context s) where
         after-having (typed Γ (typeStatements C Γ ts)) (statements-row ts Γ) λ d p.
         rw p (next (allStay (Γ .slots) (d .env .slots)) 17 o (end _))
 
+-- main's own block: its statements, and no test behind them
+main-row : (C : Context device) (b : Block device) (Γ : Env device) → AsFirst (typeMain C Γ b) (mainTests C Γ b)
+main-row C (block o ts) Γ = made _ (statements-row C ts Γ)
+
 -- functions in file order, then main
 bodies-row : (owned : List Bool) (fs : List Function) (gs : List Signature) (main : Block device)
-    → AsFirst (typeFunctions gs fs >>= λ hs. typeBlock (mainContext owned hs) (start owned) main) (bodiesTests owned gs fs main)
+    → AsFirst (typeFunctions gs fs >>= λ hs. typeMain (mainContext owned hs) (start owned) main) (bodiesTests owned gs fs main)
 unfolding _>>=_
-bodies-row owned [] gs main = block-row (mainContext owned gs) main (start owned)
+bodies-row owned [] gs main = main-row (mainContext owned gs) main (start owned)
 bodies-row owned (g ∷ fs) gs main =
     row-in (typeBlock (bodyContext gs g) (entry g) (g .body)) _ _
     (after-having (typed (entry g) (typeBlock (bodyContext gs g) (entry g) (g .body))) (block-row (bodyContext gs g) (g .body) (entry g)) λ d p.

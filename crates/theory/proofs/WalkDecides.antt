@@ -23,7 +23,7 @@ use Rattle.rules.specs.Program.{Scope}
 use Rattle.rules.specs.Commands.{Commands, ε, alloc, release, connect, either, repeat, _then_, commandsAt, needRoute, walk}
 use Rattle.rules.specs.Typing.{Env, Typed, Signature, Context, signature, entry, bodyContext, signatureOf, mainContext}
 use Rattle.rules.specs.Figures.{stored, OpRule, T-Init, T-MInit, T-Free, T-Gate, T-Meas1, T-Meas2, T-MkRef, T-Deref, T-Assign, T-Bool}
-use Rattle.rules.specs.Figures.{Arguments, StatementRule, T-Op, T-If, T-While, T-Call, StatementsRule, T-Unit, T-Seq, BlockRule, T-Close}
+use Rattle.rules.specs.Figures.{Arguments, StatementRule, T-Op, T-If, T-While, T-Call, StatementsRule, T-Unit, T-Seq, BlockRule, T-Close, MainRule, T-Main}
 use Rattle.rules.specs.Figures.{FunctionsRule, T-NoFun, T-Fundecl, Linked, Connects, C-Empty, C-Alloc, C-Free, C-Merge, C-If, C-Loop}
 use Rattle.theory.specs.WellRead.{StatementRead, if-read, while-read, StatementsRead, next-read}
 use Rattle.theory.specs.WellRead.{BlockRead, block-read, FunctionsRead, none-read, function-read, ProgramRead}
@@ -293,6 +293,12 @@ module _ (R : Region) (len : ℕ) where
             → Effect size σ (Γ .free) (Δ .free) (commandsAt σ c)
         block-does (block i ts) (T-Close j e) (block-read r) I z = statements-do ts j r I z
 
+  main-block-does : (C : Context device) (size : ℕ) (σ : Place device → Place device) → Apart size σ → (S : Scope) → AllEnd (C .functions)
+      → AllDo (C .functions) → (b : Block device) {Γ Δ : Env device} {c : Commands device} {d o p : ℕ} → MainRule C Γ b Δ c → BlockRead S d o p b
+      → Linear C Γ
+      → length (Γ .free) ≡ size → Effect size σ (Γ .free) (Δ .free) (commandsAt σ c)
+  main-block-does C size σ A S N H (block i ts) (T-Main j) (block-read r) I z = statements-do C size σ A S N H ts j r I z
+
   -- functions one after the other
   functions-do : (fs : List Function) {earlier : List Function} {o q : ℕ} {gs hs : List Signature} → FunctionsRead earlier o fs q → FunctionsRule fs gs hs
       → AllEnd gs → AllDo gs → AllEnd hs × AllDo hs
@@ -327,11 +333,17 @@ module _ (R : Region) (size : ℕ) (p : Program) (t : Typed device) (W : Program
       let C : Context device = mainContext (R .owned) (D .signatures) in
       let H = functions-do R len (p .functions) (W .functions) (D .functions) tt tt in
       let themselves : Apart R len len (λ (l : Place device). l) = record { apart = λ q r h k e. e; room = λ q h. h } in
-      block-does R len C len (λ l. l) themselves _ (H .0) (H .1) (p .main) (D .main) (W .main) (linear-start (R .owned) (D .signatures)) refl
+      main-block-does R len C len (λ l. l) themselves _ (H .0) (H .1) (p .main) (D .main) (W .main) (linear-start (R .owned) (D .signatures)) refl
 
   main-does : Holds (MainAfter (t .commands)) (walk R (R .owned) (t .commands))
   main-does =
       subst (λ (c : Commands device). Holds (MainAfter c) (walk R (R .owned) c)) (at-same (t .commands)) (main-effect (R .owned) refl (λ q h. refl))
+
+-- what is free after the walk is what main's environment has as free
+pub walk-leaves : (R : Region) (size : ℕ) (p : Program) (t : Typed device) (L : List Bool) → ProgramRead size p → Derives (R .owned) p t
+    → Connects R (R .owned) (t .commands) L → (l : ℕ) → l < length (R .owned) → getD (t .env .free) l false ≡ getD L l false
+walk-leaves R size p t L W D w l h =
+    holds-at (main-does R size p t W D) (connects-walk R (length (R .owned)) (R .owned) (t .commands) w) .exact (record { no = l }) h
 
 -- For a typed program the walk that tests only merges decides Figure 12.
 pub walk-decides : WalkDecides

@@ -1,5 +1,5 @@
 -- What every answer stays within, so that an export's packing keeps it whole: a number of 1 to 26, a place in a file of at most 4,096 bytes, a file that
--- names job 0, 1 or 2; 1 to 256 locations, a count of at most 65,535, a route of at most 256 locations, at most 4,096 steps moved.
+-- names job 0, 1 or 2; 1 to 256 locations, a count of at most 65,535, at most 32 left live, a route of at most 256 locations, at most 4,096 steps moved.
 use mathlib.Core.List.{List}
 use Prim.Native.Nat.{ℕ, _≤_}
 use Rattle.answers.specs.Check.{Check, ok, refused}
@@ -39,7 +39,7 @@ abbrev pub ReadProgramWithin : Type 0
 ReadProgramWithin = (program : List ℕ) → Within (λ u. Unit {0}) (readProgramOf program)
 
 abbrev pub CheckWithin : Type 0
-CheckWithin = (device program : List ℕ) (job : ℕ) → Within (λ n. n ≤ 65535) (checkOf device program job)
+CheckWithin = (device program : List ℕ) (job : ℕ) → Within (λ a. (a .count ≤ 65535) × (a .live ≤ 32)) (checkOf device program job)
 
 abbrev pub RouteWithin : Type 0
 RouteWithin = (device : List ℕ) (job : ℕ) (occupancy : List ℕ) (a b : ℕ) (buffer : List ℕ)

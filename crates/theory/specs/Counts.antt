@@ -5,11 +5,11 @@ use Prim.Native.Nat.{ℕ, _+_, _<_}
 use lib.Dec.{eqb}
 use lib.ListN.{length}
 use Rattle.rules.specs.Basics.{chosen}
-use Rattle.rules.specs.Syntax.{Side, Op, init, free, gate, measure, merge, newRef, getRef, setRef, constant}
+use Rattle.rules.specs.Syntax.{Side, device, Op, init, free, gate, measure, merge, newRef, getRef, setRef, constant}
 use Rattle.rules.specs.Syntax.{Statement, op, if, while, call, Statements, done, _⨾_, Block, block, Function, function}
 use Rattle.rules.specs.Commands.{Commands, sizeOf}
 use Rattle.rules.specs.Typing.{Env, Signature, Context, signature}
-use Rattle.rules.specs.Figures.{BlockRule, FunctionsRule}
+use Rattle.rules.specs.Figures.{BlockRule, MainRule, FunctionsRule}
 use Rattle.rules.specs.Run.{Told, recordBytes, movedBy}
 use Rattle.theory.specs.WellRead.{FunctionsRead}
 use Rattle.theory.specs.Interleaving.{recordsOf}
@@ -60,6 +60,11 @@ callees gs f = sizeOf (signature gs f .commands)
 abbrev pub BlockSize : Type 0
 BlockSize =
     (s : Side) (C : Context s) (Γ Δ : Env s) (b : Block s) (c : Commands s) → BlockRule C Γ b Δ c → sizeOf c ≡ blockSize (callees (C .functions)) b
+
+-- and so is main's
+abbrev pub MainSize : Type 0
+MainSize = (C : Context device) (Γ Δ : Env device) (b : Block device) (c : Commands device) → MainRule C Γ b Δ c
+    → sizeOf c ≡ blockSize (callees (C .functions)) b
 
 -- and a callee's is that of its body
 abbrev pub CalleeSize : Type 0

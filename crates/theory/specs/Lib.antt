@@ -5,6 +5,7 @@ pub mod Exact
 pub mod NeverStuck
 pub mod Counts
 pub mod Tidy
+pub mod Live
 pub mod Tests
 pub mod ReadingOrder
 pub mod TypingOrder

@@ -6,6 +6,7 @@ use mathlib.Core.Path.{_≡_}
 use Prim.Native.Nat.{ℕ}
 use lib.Dec.{leb}
 use Rattle.answers.specs.Check.{ok}
+use Rattle.answers.specs.declared.Counted.{Counted}
 use Rattle.rules.specs.Basics.{all}
 use Rattle.rules.specs.Device.{Device}
 use Rattle.rules.specs.Region.{regionOf}
@@ -16,6 +17,6 @@ use Rattle.rules.specs.Promises.{judged}
 use Rattle.theory.specs.Interleaving.{recordsOf}
 
 abbrev pub NeverStuck : Type 0
-NeverStuck = (programFile : List ℕ) (D : Device) (programs : ℕ → Program) (j n : ℕ) → readProgram programFile ≡ ok (programs j)
-    → judged (regionOf D j) (programs j) ≡ ok n
+NeverStuck = (programFile : List ℕ) (D : Device) (programs : ℕ → Program) (j : ℕ) (a : Counted) → readProgram programFile ≡ ok (programs j)
+    → judged (regionOf D j) (programs j) ≡ ok a
     → (ts : List Turn) → all (λ r. leb (r .told .code) 1) (recordsOf j (records D programs ts (started D programs))) ≡ true

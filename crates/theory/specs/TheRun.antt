@@ -8,9 +8,10 @@ use Prim.Native.Nat.{ℕ, suc, _+_, _*_, _/_, _%_, _≤_, _<_}
 use lib.Dec.{eqb, leb}
 use lib.ListN.{length, take, drop}
 use Rattle.answers.specs.Check.{Check, ok, refused}
+use Rattle.answers.specs.declared.Counted.{Counted}
 use Rattle.answers.specs.declared.Moved.{Moved}
 use Rattle.answers.specs.declared.Refusal.{Refusal}
-use Rattle.rules.specs.Basics.{chosen, all, byte, word}
+use Rattle.rules.specs.Basics.{chosen, all, any, byte, word}
 use Rattle.rules.specs.Device.{Device, readDevice}
 use Rattle.rules.specs.Region.{Region, regionOf, freeIn}
 use Rattle.rules.specs.Path.{Route}
@@ -137,8 +138,14 @@ module _ (device first second schedule records map′ : List ℕ) where
 
   -- A job whose program the check accepts on the device: each of its records begins with 0, moved, or 1, finished.
   abbrev pub NotStuck : Type 0
-  NotStuck = (j n : ℕ) → (eqb j 1 || eqb j 2) ≡ true → checkOf device (ofJob first second j) j ≡ ok n
+  NotStuck = (j : ℕ) (a : Counted) → (eqb j 1 || eqb j 2) ≡ true → checkOf device (ofJob first second j) j ≡ ok a
       → all (λ c. leb c 1) (codesFor j schedule (theRun .records)) ≡ true
+
+  -- The same of a job that finished, as a record of it tells that begins with 1: it occupies as many locations, by the map's n bytes, as the check answered
+  -- to be left live.
+  abbrev pub LeavesLive : Type 0
+  LeavesLive = (j : ℕ) (a : Counted) → (eqb j 1 || eqb j 2) ≡ true → checkOf device (ofJob first second j) j ≡ ok a
+      → any (eqb 1) (codesFor j schedule (theRun .records)) ≡ true → bytesOf j (take (word device 5) (theRun .map)) ≡ a .live
 
   -- the run with all of job 1's bytes first and job 2's then
   abbrev pub jobByJob : List ℕ
@@ -186,6 +193,9 @@ RecordsInRuns = Answered λ device first second schedule records map′ m. EachT
 
 abbrev pub NeverStuckInRuns : Type 0
 NeverStuckInRuns = Answered λ device first second schedule records map′ m. NotStuck device first second schedule records map′
+
+abbrev pub LiveInRuns : Type 0
+LiveInRuns = Answered λ device first second schedule records map′ m. LeavesLive device first second schedule records map′
 
 abbrev pub RunsInOrder : Type 0
 RunsInOrder = Answered λ device first second schedule records map′ m. RunAlike device first second schedule records map′ m

@@ -6,7 +6,7 @@ use mathlib.Core.Path.{_≡_}
 use Prim.Native.Nat.{ℕ, _+_, _≤_}
 use lib.Dec.{eqb}
 use lib.ListN.{getD}
-use Rattle.rules.specs.Basics.{chosen}
+use Rattle.rules.specs.Basics.{chosen, howMany}
 use Rattle.rules.specs.Device.{Device}
 use Rattle.rules.specs.Syntax.{device, Place, Program}
 use Rattle.rules.specs.Slots.{qubit, slot, Act, quiet, takes, gives, merges}
@@ -28,8 +28,7 @@ isFree (merges b l e k) = false
 
 -- how many map bytes are j
 abbrev pub bytesOf : ℕ → List ℕ → ℕ
-bytesOf j [] = 0
-bytesOf j (b ∷ bs) = chosen (eqb b j) 1 0 + bytesOf j bs
+bytesOf j bs = howMany (λ b. eqb b j) bs
 
 -- every job's program is readable
 abbrev pub Readable : (ℕ → Program) → Type 0

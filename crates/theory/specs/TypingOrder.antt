@@ -115,9 +115,13 @@ module _ {s : Side} (C : Context s) where
     blockTests Γ (block o ts) =
         statementsTests Γ ts ++ (test (allStay (Γ .slots) (typedFrom Γ (typeStatements C Γ ts) .env .slots)) 17 o ∷ [])
 
+-- main's own block: 17 does not fall at its end
+abbrev pub mainTests : Context device → Env device → Block device → List Test
+mainTests C Γ (block o ts) = statementsTests C Γ ts
+
 -- Functions are judged in file order, each by those before it, then main with all region locations free.
 abbrev pub bodiesTests : List Bool → List Signature → List Function → Block device → List Test
-bodiesTests owned gs [] main = blockTests (mainContext owned gs) (start owned) main
+bodiesTests owned gs [] main = mainTests (mainContext owned gs) (start owned) main
 bodiesTests owned gs (g ∷ rest) main =
     blockTests (bodyContext gs g) (entry g) (g .body)
     ++ bodiesTests owned (signatureOf g (typedFrom (entry g) (typeBlock (bodyContext gs g) (entry g) (g .body))) ∷ gs) rest main

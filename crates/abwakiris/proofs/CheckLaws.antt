@@ -5,6 +5,7 @@ use mathlib.Core.Path.{_≡_, refl, sym, ap, _∙_}
 use Prim.Native.Nat.{ℕ}
 use lib.Dec.{eqb}
 use Rattle.answers.specs.Check.{Check, ok, refused, refusal, inFile, _>>=_, _>>_, within}
+use Rattle.answers.specs.declared.Counted.{Counted}
 use Rattle.answers.specs.declared.File.the-variants.{Device, Program}
 use Rattle.answers.specs.declared.Refusal.{Refusal}
 use Rattle.answers.proofs.Laws.{ok-not-refused}
@@ -45,7 +46,7 @@ module _ (s : List ℕ) (job : ℕ) where
     unfolding checkedIn _>>=_
     check-no-program x e = rw (sym (program-refuses x e)) refl
 
-    pub check-judged : (p : syntax.Program) → readProgram s ≡ ok p → (m : Check ℕ) → m ≡ within (Program job) (judged R p)
+    pub check-judged : (p : syntax.Program) → readProgram s ≡ ok p → (m : Check Counted) → m ≡ within (Program job) (judged R p)
         → m ≡ checkedIn R s job
     unfolding checkedIn _>>=_
     check-judged p q m e = e ∙ sym (rw q refl)
@@ -62,6 +63,6 @@ module _ (device program : List ℕ) (job : ℕ) where
   check-no-device x e q = rw (e, sym q) refl
 
   pub check-done : (D : rules.Device) → (eqb job 1 || eqb job 2) ≡ true → readDevice device ≡ ok D
-      → (m : Check ℕ) → m ≡ checkedIn (regionOf D job) program job → m ≡ checkOf device program job
+      → (m : Check Counted) → m ≡ checkedIn (regionOf D job) program job → m ≡ checkOf device program job
   unfolding _>>_ _>>=_ checkedIn
   check-done D e q m h = h ∙ sym (rw (e, q) refl)

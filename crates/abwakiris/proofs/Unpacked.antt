@@ -8,6 +8,7 @@ use lib.Dec.{eqb}
 use Rattle.answers.specs.Check.{Check, ok, refused}
 use Rattle.answers.specs.declared.File.{File}
 use Rattle.answers.specs.declared.File.the-variants.{NoFile, Device, Schedule, Listing, Program}
+use Rattle.answers.specs.declared.Counted.{Counted}
 use Rattle.answers.specs.declared.Moved.{Moved}
 use Rattle.answers.specs.declared.Refusal.{Refusal}
 use Rattle.theory.specs.Bounds.{jobNamed, Given, WithinBy, Within, value, refusal}
@@ -15,8 +16,9 @@ use Rattle.trips.specs.Bounds.{GivenListing}
 use Rattle.rules.proofs.Tests.{eqb-other}
 use Rattle.theory.proofs.Bounds.{read-device-within, read-program-within, check-within, route-within, run-within}
 use Rattle.trips.proofs.Bounds.{write-listing-within, read-listing-within}
-use Rattle.abwakiris.specs.Packed.{fileCode, packedRefusal, packedRead, packedValue, packedMoved}
-use Rattle.abwakiris.specs.Unpacked.{valueOf, numberOf, codeOf, movedOf, fileOf, unpacked, unpackedRead, unpackedValue, unpackedMoved}
+use Rattle.abwakiris.specs.Packed.{fileCode, packedRefusal, packedRead, packedValue, packedPair, packedCounted, packedMoved}
+use Rattle.abwakiris.specs.Unpacked.{valueOf, numberOf, codeOf, lowOf, highOf, countedOf, movedOf, fileOf}
+use Rattle.abwakiris.specs.Unpacked.{unpacked, unpackedRead, unpackedValue, unpackedCounted, unpackedMoved}
 use Rattle.abwakiris.specs.Unpacked.{Kept, ReadDeviceKept, ReadProgramKept, CheckKept, RouteKept, RunKept, WriteListingKept, ReadListingKept}
 
 -- a file by its code
@@ -91,25 +93,34 @@ value-kept : {G : Refusal → Type 0} {P : ℕ → Type 0} → ((r : Refusal) �
     → ((n : ℕ) → P n → n < 2 ^ 32) → {m : Check ℕ} → WithinBy G P m → Kept unpackedValue packedValue m
 value-kept small few = kept valueOf packedValue (λ r. refl) small λ n h. let l : n < 2 ^ 32 = few n h in (omega arith, omega arith)
 
--- two counts, each below 2^16
-module _ (n : Moved) (h : (n .first ≤ 4096) × (n .second ≤ 4096)) where
-  both : valueOf (packedMoved (ok n)) ≡ n .first + n .second * 65536
-  both =
-      let one : n .first % 65536 ≡ n .first = omega arith in
-      let two : n .second % 65536 ≡ n .second = omega arith in
+-- two numbers, each below 2^16
+module _ (a b : ℕ) (h : a < 65536) (k : b < 65536) where
+  pair-value : valueOf (packedPair a b) ≡ a + b * 65536
+  pair-value =
+      let one : a % 65536 ≡ a = omega arith in
+      let two : b % 65536 ≡ b = omega arith in
       omega arith
 
-  halves : movedOf (packedMoved (ok n)) ≡ n
-  halves =
-      let one : (n .first + n .second * 65536) % 65536 ≡ n .first = omega arith in
-      let two : (n .first + n .second * 65536) / 65536 ≡ n .second = omega arith in
-      rw (both, one, two)
+  low-kept : lowOf (packedPair a b) ≡ a
+  low-kept = rw pair-value (omega arith)
 
-  moved-fits : packedMoved (ok n) < 2 ^ 32
-  moved-fits = omega (arith, both)
+  high-kept : highOf (packedPair a b) ≡ b
+  high-kept = rw pair-value (omega arith)
+
+  pair-fits : packedPair a b < 2 ^ 32
+  pair-fits = omega (arith, pair-value)
+
+counted-kept : {m : Check Counted} → Within (λ a. (a .count ≤ 65535) × (a .live ≤ 32)) m → Kept unpackedCounted packedCounted m
+counted-kept = kept countedOf packedCounted (λ r. refl) given-small λ a h.
+    let c : a .count < 65536 = omega arith in
+    let l : a .live < 65536 = omega arith in
+    ((λ i. record { count = low-kept (a .count) (a .live) c l i; live = high-kept (a .count) (a .live) c l i }), pair-fits (a .count) (a .live) c l)
 
 moved-kept : {m : Check Moved} → Within (λ n. (n .first ≤ 4096) × (n .second ≤ 4096)) m → Kept unpackedMoved packedMoved m
-moved-kept = kept movedOf packedMoved (λ r. refl) given-small λ n h. (halves n h, moved-fits n h)
+moved-kept = kept movedOf packedMoved (λ r. refl) given-small λ n h.
+    let f : n .first < 65536 = omega arith in
+    let s : n .second < 65536 = omega arith in
+    ((λ i. record { first = low-kept (n .first) (n .second) f s i; second = high-kept (n .first) (n .second) f s i }), pair-fits (n .first) (n .second) f s)
 
 pub read-device-kept : ReadDeviceKept
 read-device-kept device = value-kept given-small (λ n h. omega arith) (read-device-within device)
@@ -118,7 +129,7 @@ pub read-program-kept : ReadProgramKept
 read-program-kept program = read-kept (read-program-within program)
 
 pub check-kept : CheckKept
-check-kept device program job = value-kept given-small (λ n h. omega arith) (check-within device program job)
+check-kept device program job = counted-kept (check-within device program job)
 
 pub route-kept : RouteKept
 route-kept device job occupancy a b buffer = value-kept given-small (λ n h. omega arith) (route-within device job occupancy a b buffer)

@@ -2,6 +2,7 @@
 -- the file that the place is in.
 use Prim.Native.Nat.{ℕ, _+_, _*_, _%_, _^_}
 use Rattle.answers.specs.Check.{Check, ok, refused}
+use Rattle.answers.specs.declared.Counted.{Counted}
 use Rattle.answers.specs.declared.File.{File}
 use Rattle.answers.specs.declared.File.the-variants.{NoFile, Device, Schedule, Listing, Program}
 use Rattle.answers.specs.declared.Moved.{Moved}
@@ -18,7 +19,7 @@ fileCode (Program j) = 16 + j
 abbrev pub packedRefusal : Refusal → ℕ
 packedRefusal r = r .place % 2 ^ 32 + r .number * 2 ^ 32 + fileCode (r .file) * 2 ^ 40
 
--- a read of a program has no value; a read of a device, a check, a route and a listing written or read have one; a run has two
+-- a read of a program has no value; a read of a device, a route and a listing written or read have one; a check and a run have two, each in 16 bits
 abbrev pub packedRead : Check (Unit {0}) → ℕ
 packedRead (ok u) = 0
 packedRead (refused r) = packedRefusal r
@@ -27,6 +28,13 @@ abbrev pub packedValue : Check ℕ → ℕ
 packedValue (ok v) = v % 2 ^ 32
 packedValue (refused r) = packedRefusal r
 
+abbrev pub packedPair : ℕ → ℕ → ℕ
+packedPair a b = a % 65536 + (b % 65536) * 65536
+
+abbrev pub packedCounted : Check Counted → ℕ
+packedCounted (ok a) = packedPair (a .count) (a .live)
+packedCounted (refused r) = packedRefusal r
+
 abbrev pub packedMoved : Check Moved → ℕ
-packedMoved (ok m) = m .first % 65536 + (m .second % 65536) * 65536
+packedMoved (ok m) = packedPair (m .first) (m .second)
 packedMoved (refused r) = packedRefusal r

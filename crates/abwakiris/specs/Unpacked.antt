@@ -7,12 +7,13 @@ use lib.Dec.{eqb}
 use Rattle.answers.specs.Check.{Check, ok, refused}
 use Rattle.answers.specs.declared.File.{File}
 use Rattle.answers.specs.declared.File.the-variants.{NoFile, Device, Schedule, Listing, Program}
+use Rattle.answers.specs.declared.Counted.{Counted}
 use Rattle.answers.specs.declared.Moved.{Moved}
 use Rattle.answers.specs.declared.Refusal.{Refusal}
 use Rattle.rules.specs.Basics.{chosen}
 use Rattle.rules.specs.Promises.{readDeviceOf, readProgramOf, checkOf, routeOf, runOf, writeListingOf, readListingOf}
 use Rattle.trips.specs.Trips.{Bytes}
-use Rattle.abwakiris.specs.Packed.{packedRead, packedValue, packedMoved}
+use Rattle.abwakiris.specs.Packed.{packedRead, packedValue, packedCounted, packedMoved}
 
 -- bits 0 to 31 (ABWAKIRIS_VALUE), 32 to 39 (ABWAKIRIS_NUMBER) and 40 to 47 (ABWAKIRIS_FILE)
 abbrev pub valueOf : ℕ → ℕ
@@ -24,9 +25,18 @@ numberOf a = a / 2 ^ 32 % 256
 abbrev pub codeOf : ℕ → ℕ
 codeOf a = a / 2 ^ 40 % 256
 
--- the halves of the value (ABWAKIRIS_MOVED_1, ABWAKIRIS_MOVED_2)
+-- the halves of the value (ABWAKIRIS_COUNT and ABWAKIRIS_LIVE of a check, ABWAKIRIS_MOVED_1 and ABWAKIRIS_MOVED_2 of a run)
+abbrev pub lowOf : ℕ → ℕ
+lowOf a = valueOf a % 65536
+
+abbrev pub highOf : ℕ → ℕ
+highOf a = valueOf a / 65536
+
+abbrev pub countedOf : ℕ → Counted
+countedOf a = record { count = lowOf a; live = highOf a }
+
 abbrev pub movedOf : ℕ → Moved
-movedOf a = record { first = valueOf a % 65536; second = valueOf a / 65536 }
+movedOf a = record { first = lowOf a; second = highOf a }
 
 -- 0 none, 1 device, 2 schedule, 3 a listing, 16 + j the program of job j
 abbrev pub fileOf : ℕ → File
@@ -45,6 +55,9 @@ unpackedRead = unpacked λ a. tt
 abbrev pub unpackedValue : ℕ → Check ℕ
 unpackedValue = unpacked valueOf
 
+abbrev pub unpackedCounted : ℕ → Check Counted
+unpackedCounted = unpacked countedOf
+
 abbrev pub unpackedMoved : ℕ → Check Moved
 unpackedMoved = unpacked movedOf
 
@@ -59,7 +72,7 @@ abbrev pub ReadProgramKept : Type 0
 ReadProgramKept = (program : List ℕ) → Kept unpackedRead packedRead (readProgramOf program)
 
 abbrev pub CheckKept : Type 0
-CheckKept = (device program : List ℕ) (job : ℕ) → Kept unpackedValue packedValue (checkOf device program job)
+CheckKept = (device program : List ℕ) (job : ℕ) → Kept unpackedCounted packedCounted (checkOf device program job)
 
 abbrev pub RouteKept : Type 0
 RouteKept = (device : List ℕ) (job : ℕ) (occupancy : List ℕ) (a b : ℕ) (buffer : List ℕ)

@@ -17,7 +17,7 @@ ghost use Rattle.rules.specs.Device.{Device};
 ghost use Rattle.rules.specs.Region.{regionOf};
 ghost use Rattle.rules.specs.Promises.{checkOf};
 ghost use Rattle.device.specs.Reader.{Reads};
-ghost use Rattle.abwakiris.specs.Packed.{packedValue};
+ghost use Rattle.abwakiris.specs.Packed.{packedCounted};
 ghost use Rattle.abwakiris.specs.Checking.{checkedIn};
 
 // Job, device, program, typing, 20, 21.
@@ -33,13 +33,13 @@ pub fn check(device: &[u8], program: &[u8], job: u64) -> CheckAnswer
     }
 }
 
-// Value: the command count.
+// Value: the command count, and 65,536 times the number left live.
 #[no_mangle]
 pub extern "C" fn abwakiris_check(device: &[u8], program: &[u8], job: u64) -> u64
-    ensures { λ r. ⌜ r ≡ packedValue (checkOf (now (device .entry)) (now (program .entry)) job) ⌝ }
+    ensures { λ r. ⌜ r ≡ packedCounted (checkOf (now (device .entry)) (now (program .entry)) job) ⌝ }
 {
     match check(device, program, job) {
-        CheckAnswer::Accepted(n) => (n as u64) % 4294967296,
+        CheckAnswer::Accepted(n) => (n.count as u64) % 65536 + (n.live as u64) % 65536 * 65536,
         CheckAnswer::Refused(x) => packed_refusal(x),
     }
 }

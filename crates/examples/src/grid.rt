@@ -9,6 +9,10 @@ const GRID: [u8; 29] = *b"QLG\x00\x01\x00\x06\x00\x07\
 const A: [u8; 24] = *b"QLS\x00\x01\x00\x00\x10\
     \x01\x00\x00\x01\x01\x02\x06\x02\x00\x00\x00\x01\x03\x00\x03\x01";
 
+// A without its last free.
+const LIVE: [u8; 22] = *b"QLS\x00\x01\x00\x00\x0e\
+    \x01\x00\x00\x01\x01\x02\x06\x02\x00\x00\x00\x01\x03\x00";
+
 const EMPTY: [u8; 8] = *b"QLS\x00\x01\x00\x00\x00";
 
 // A with qubits at 1 and 4 made before the merge, which then has no path.
@@ -19,9 +23,11 @@ const TAKEN: [u8; 34] = *b"QLS\x00\x01\x00\x00\x1a\
 pub fn examples() {
     say::read_device(b"the grid", &GRID);
     check(b"A", &A, 1);
+    check(b"A without its last free", &LIVE, 1);
     check(b"A with both corridors taken", &TAKEN, 1);
     runs();
     run_taken();
+    run_live();
     check(b"all doubling functions and a loop", &DOUBLING_ALL, 1);
     check(b"the last doubling function twice", &DOUBLING_TWICE, 1);
 }
@@ -44,6 +50,22 @@ fn run_taken() {
         b"A with both corridors taken",
         &GRID,
         &TAKEN,
+        &EMPTY,
+        schedule,
+        &mut records,
+        &mut map,
+    );
+}
+
+// At the end, which the last record tells, the job occupies the one location that its check answered to be left live.
+fn run_live() {
+    let mut records = [0xaa; 20];
+    let mut map = [0xaa; 6];
+    let schedule = b"\x10\x10\x10\x10\x10";
+    say::run(
+        b"A without its last free",
+        &GRID,
+        &LIVE,
         &EMPTY,
         schedule,
         &mut records,

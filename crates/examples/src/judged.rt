@@ -51,12 +51,18 @@ fn calls() {
     check(b"an argument that is elsewhere", elsewhere, 1);
 }
 
+// Main's own block may end with live qubits; a block of an if and a function's may not.
 fn blocks() {
     check(
-        b"a qubit left at the end",
+        b"a qubit left at main's end",
         b"QLS\x00\x01\x00\x00\x03\x01\x00\x00",
         1,
     );
+    let branch = b"QLS\x00\x01\x00\x00\x0c\
+        \x0d\x00\x01\x0a\x00\x00\x03\x01\x01\x00\x00\x00";
+    check(b"a qubit left at a branch's end", branch, 1);
+    let function = b"QLS\x00\x01\x01\x01\x00\x00\x03\x01\x00\x00\x00\x00";
+    check(b"a qubit left at a function's end", function, 1);
 }
 
 // The then-block frees a qubit, the else-block does not.

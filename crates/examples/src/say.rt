@@ -27,12 +27,18 @@ pub fn read_program(what: &[u8], program: &[u8]) {
     }
 }
 
-// The command count.
+// `OK`, the command count and the number left live, as the printing program has it.
 pub fn check(what: &[u8], device: &[u8], program: &[u8], job: u64) {
     text(b"check ");
     text(what);
     match abwakiris::checks::check(device, program, job) {
-        CheckAnswer::Accepted(n) => count(n as u64, b" commands\n"),
+        CheckAnswer::Accepted(n) => {
+            text(b": OK ");
+            number(n.count as u64);
+            text(b" ");
+            number(n.live as u64);
+            text(b"\n");
+        },
         CheckAnswer::Refused(x) => refusal(x),
     }
 }

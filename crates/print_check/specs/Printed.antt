@@ -5,6 +5,7 @@ use Prim.Native.Nat.{ℕ, zero, suc, _+_, _/_, _%_}
 use lib.Dec.{eqb, leb, ltb}
 use lib.ListN.{length, take, drop}
 use Rattle.answers.specs.Check.{Check, ok, refused}
+use Rattle.answers.specs.declared.Counted.{Counted}
 use Rattle.rules.specs.Basics.{chosen, word}
 use Rattle.rules.specs.Promises.{checkOf}
 use Rattle.print_check.specs.declared.bundle.Bundle.{Bundle}
@@ -26,17 +27,14 @@ decimalBy (suc k) n = cond (ltb n 10) ((0x30 + n) ∷ []) (decimalBy k (n / 10) 
 abbrev pub decimal : ℕ → List ℕ
 decimal n = decimalBy n n
 
--- `OK`, count
-unfoldable pub countLine : ℕ → List ℕ
-countLine n = (0x4F ∷ 0x4B ∷ 0x20 ∷ []) ++ decimal n ++ (0x0A ∷ [])
+-- a word and a space, two numbers
+unfoldable pub numbersLine : List ℕ → ℕ → ℕ → List ℕ
+numbersLine word a b = word ++ decimal a ++ (0x20 ∷ []) ++ decimal b ++ (0x0A ∷ [])
 
--- `NO`, number, place
-unfoldable pub refusalLine : ℕ → ℕ → List ℕ
-refusalLine number place = (0x4E ∷ 0x4F ∷ 0x20 ∷ []) ++ decimal number ++ (0x20 ∷ []) ++ decimal place ++ (0x0A ∷ [])
-
-abbrev pub verdictOf : Check ℕ → List ℕ
-verdictOf (ok n) = countLine n
-verdictOf (refused r) = refusalLine (r .number) (r .place)
+-- `OK`, count, number left live; `NO`, number, place
+abbrev pub verdictOf : Check Counted → List ℕ
+verdictOf (ok a) = numbersLine (0x4F ∷ 0x4B ∷ 0x20 ∷ []) (a .count) (a .live)
+verdictOf (refused r) = numbersLine (0x4E ∷ 0x4F ∷ 0x20 ∷ []) (r .number) (r .place)
 
 -- for job 1; `BAD`
 unfoldable pub printedFor : List ℕ → Bundle → List ℕ

@@ -1,5 +1,5 @@
 // Reads a bundle, a device and a program, from standard input, checks the program for job 1, and writes one line:
-// `OK` and the count, `NO` and number and place, or `BAD` where the bundle does not fit.
+// `OK`, the count and the number left live, `NO`, number and place, or `BAD` where the bundle does not fit.
 mod bundle;
 mod text;
 

@@ -5,7 +5,7 @@ ghost use Prim.Native.Nat.{_+_, _≤_};
 ghost use lib.ListN.{length, take};
 ghost use Rattle.io.specs.Counts.{Counts};
 ghost use Rattle.answers.specs.Said.{checkSaid};
-ghost use Rattle.print_check.specs.Printed.{decimal, countLine, refusalLine, verdictOf};
+ghost use Rattle.print_check.specs.Printed.{decimal, numbersLine, verdictOf};
 ghost use Rattle.print_check.specs.Text.{Put};
 
 // Puts the verdict at the start of out, and answers its length.
@@ -15,32 +15,22 @@ pub fn put_verdict(answer: CheckAnswer, out: &mut [u8]) -> usize
     ensures { λ r. ⌜ take r (now (out .exit)) ≡ verdictOf (checkSaid answer) ⌝ }
 {
     match answer {
-        CheckAnswer::Accepted(n) => put_count(n as u64, out),
-        CheckAnswer::Refused(x) => put_refusal(x.number as u64, x.place as u64, out),
+        CheckAnswer::Accepted(n) => put_numbers(b"OK ", n.count as u64, n.live as u64, out),
+        CheckAnswer::Refused(x) => put_numbers(b"NO ", x.number as u64, x.place as u64, out),
     }
 }
 
-// `OK 5`
-fn put_count(n: u64, out: &mut [u8]) -> usize
+// A word, two numbers and the line's end: `OK 5 0`, `NO 21 20`.
+fn put_numbers(word: &[u8], first: u64, second: u64, out: &mut [u8]) -> usize
+    requires { ⌜ length (now word) ≤ 3 ⌝ }
     requires { ⌜ 64 ≤ length (now out) ⌝ }
     ensures { λ r. ⌜ Counts r (now (out .exit)) ⌝ }
-    ensures { λ r. ⌜ take r (now (out .exit)) ≡ countLine n ⌝ }
+    ensures { λ r. ⌜ take r (now (out .exit)) ≡ numbersLine (now (word .entry)) first second ⌝ }
 {
-    let a = put(b"OK ", 0, out);
-    let b = put_number(n, a, out);
-    put(b"\n", b, out)
-}
-
-// `NO 21 20`
-fn put_refusal(number: u64, place: u64, out: &mut [u8]) -> usize
-    requires { ⌜ 64 ≤ length (now out) ⌝ }
-    ensures { λ r. ⌜ Counts r (now (out .exit)) ⌝ }
-    ensures { λ r. ⌜ take r (now (out .exit)) ≡ refusalLine number place ⌝ }
-{
-    let a = put(b"NO ", 0, out);
-    let b = put_number(number, a, out);
+    let a = put(word, 0, out);
+    let b = put_number(first, a, out);
     let c = put(b" ", b, out);
-    let d = put_number(place, c, out);
+    let d = put_number(second, c, out);
     put(b"\n", d, out)
 }
 

@@ -18,7 +18,8 @@ use Rattle.rules.specs.Syntax.{Side, device, parameter, Place, param, at, Op, i
 use Rattle.rules.specs.Slots.{unbound, qubit, bool, ref, slot, holdsNoQubit}
 use Rattle.rules.specs.Commands.{Commands, commandsAt, needRoute}
 use Rattle.rules.specs.Typing.{Kind, Env, Signature, Context, signature}
-use Rattle.rules.specs.Figures.{stored, kindAt, substituted, OpRule, T-Init, T-MInit, T-Free, T-Gate, T-Meas1, T-Meas2, T-MkRef, T-Deref, T-Assign, T-Bool, Callable, StatementRule, T-Op, T-If, T-While, T-Call, StatementsRule, T-Unit, T-Seq, BlockRule, T-Close}
+use Rattle.rules.specs.Figures.{stored, kindAt, substituted, OpRule, T-Init, T-MInit, T-Free, T-Gate, T-Meas1, T-Meas2, T-MkRef, T-Deref, T-Assign, T-Bool, Callable, StatementRule, T-Op, T-If, T-While, T-Call, StatementsRule, T-Unit, T-Seq}
+use Rattle.rules.specs.Figures.{BlockRule, T-Close, MainRule, T-Main}
 use Rattle.rules.proofs.Basics.{getD-upTo-zero}
 use Rattle.rules.proofs.Tests.{eqb-same, eqb-other}
 use Rattle.theory.proofs.Base.{getD-set-cases}
@@ -162,3 +163,10 @@ module _ {s : Side} (R : Region) (W : Walker) (σ : Place s → Place device) (C
     pub block-follows : (b : Block s) {Γ Δ : Env s} {c : Commands s} → BlockRule C Γ b Δ c → (st : Standing) → Agrees σ Γ (st .frame)
         → walkBlock R W σ b st ≡ walkSet R (st .free) (commandsAt σ c)
     block-follows (block o ts) (T-Close j e) st A = statements-follow ts j st A
+
+-- the same for main, whose own block closes without 17
+pub main-block-follows : (R : Region) (W : Walker) (σ : Place device → Place device) (C : Context device) → Good R W (C .functions) → (b : Block device)
+    {Γ Δ : Env device} {c : Commands device} → MainRule C Γ b Δ c → (st : Standing) → Agrees σ Γ (st .frame)
+    → walkBlock R W σ b st ≡ walkSet R (st .free) (commandsAt σ c)
+unfolding walkStatement
+main-block-follows R W σ C H (block o ts) (T-Main j) st A = statements-follow R W σ C H ts j st A

@@ -17,7 +17,8 @@ use Rattle.rules.specs.Syntax.{Side, device, parameter, Place, at, Op, Statemen
 use Rattle.rules.specs.Slots.{unbound, qubit, bool, ref, slot}
 use Rattle.rules.specs.Commands.{Commands, ε, alloc, release, connect, either, repeat, _then_, commandsAt, sizeOf, walk}
 use Rattle.rules.specs.Typing.{Env, Typed, Signature, Context, signature, entry, bodyContext, signatureOf, mainContext}
-use Rattle.rules.specs.Figures.{OpRule, T-Init, T-MInit, T-Free, T-Gate, T-Meas1, T-Meas2, T-MkRef, T-Deref, T-Assign, T-Bool, StatementRule, T-Op, T-If, T-While, T-Call, StatementsRule, T-Unit, T-Seq, BlockRule, T-Close, FunctionsRule, T-NoFun, T-Fundecl}
+use Rattle.rules.specs.Figures.{OpRule, T-Init, T-MInit, T-Free, T-Gate, T-Meas1, T-Meas2, T-MkRef, T-Deref, T-Assign, T-Bool, StatementRule, T-Op, T-If, T-While, T-Call, StatementsRule, T-Unit, T-Seq}
+use Rattle.rules.specs.Figures.{BlockRule, T-Close, MainRule, T-Main, FunctionsRule, T-NoFun, T-Fundecl}
 use Rattle.theory.specs.Exact.{Derives}
 use Rattle.rules.proofs.Tests.{below, is-below}
 use Rattle.theory.proofs.Base.{true-in-range, getD-set-cases, getD-replicate-default}
@@ -25,7 +26,7 @@ use Rattle.theory.proofs.Places.{at-at, at-same, all-at, same-qubit, unbound-qu
 use Rattle.theory.proofs.Linear.{block-qubit}
 use Rattle.walking.specs.Walk.{Walker, enteredAt, walkBlock, Callees}
 use Rattle.walking.proofs.Sets.{walkSet, Gives, agree-done, sets-agree}
-use Rattle.walking.proofs.Follow.{Agrees, Older, Keeps, Good, older-put, older-call, block-follows}
+use Rattle.walking.proofs.Follow.{Agrees, Older, Keeps, Good, older-put, older-call, block-follows, main-block-follows}
 
 -- Γ's qubits are at places of the body
 pub record Inside {s : Side} (C : Context s) (Γ : Env s) : Type 0 where
@@ -83,6 +84,10 @@ module _ {s : Side} (n : ℕ) (σ : Place s → Place device) (C : Context s) (H
 
     block-gives : (b : Block s) {Γ Δ : Env s} {c : Commands s} → BlockRule C Γ b Δ c → Inside C Γ → Gives n (commandsAt σ c)
     block-gives (block o ts) (T-Close j e) I = statements-give ts j I
+
+main-gives : (n : ℕ) (σ : Place device → Place device) (C : Context device) → Tidy n (C .functions) → ((l : Place device) → C .inside l ≡ true → σ l .no < n)
+    → (b : Block device) {Γ Δ : Env device} {c : Commands device} → MainRule C Γ b Δ c → Inside C Γ → Gives n (commandsAt σ c)
+main-gives n σ C H room (block o ts) (T-Main j) I = statements-give n σ C H room ts j I
 
 -- the signature of a function among those before it and the newest
 data Which (g : Signature) (gs : List Signature) (f : ℕ) : Type 0 where
@@ -192,12 +197,12 @@ module _ (R : Region) (p : Program) (d : Typed device) (e : Derives (R .owned) p
   pub main-follows : (f : ℕ → ℕ) (F : ℕ → Bool) → F ≡ (λ i. getD (R .owned) i false)
       → (walkBlock R (byCommands R (e .signatures)) (λ l. l) (p .main) (record { frame = f; free = F }) >> ok (tt {0})) ≡ (walk R (R .owned) (d .commands) >> ok tt)
   main-follows f F h =
-      ap (λ (m : Check (ℕ → Bool)). m >> ok (tt {0})) (block-follows R (byCommands R (e .signatures)) (λ l. l) (mainContext (R .owned) (e .signatures)) good (p .main) (e .main) (record { frame = f; free = F })
+      ap (λ (m : Check (ℕ → Bool)). m >> ok (tt {0})) (main-block-follows R (byCommands R (e .signatures)) (λ l. l) (mainContext (R .owned) (e .signatures)) good (p .main) (e .main) (record { frame = f; free = F })
       (record { sits = λ x l q. unbound-qubit _ l (getD-replicate-default 32 x unbound) q }))
       ∙ ap (λ (c : Commands device). walkSet R F c >> ok (tt {0})) (at-same (d .commands))
       ∙ agree-done (sets-agree R (d .commands) F (R .owned) gives (record { long = refl; here = h }))
     where
       gives : Gives (length (R .owned)) (d .commands)
       gives = subst (λ (c : Commands device). Gives (length (R .owned)) c) (at-same (d .commands))
-          (block-gives (length (R .owned)) (λ l. l) (mainContext (R .owned) (e .signatures)) tidy (λ l i. true-in-range (R .owned) (l .no) i) (p .main) (e .main)
+          (main-gives (length (R .owned)) (λ l. l) (mainContext (R .owned) (e .signatures)) tidy (λ l i. true-in-range (R .owned) (l .no) i) (p .main) (e .main)
           (record { inside = λ x l q. unbound-qubit _ l (getD-replicate-default 32 x unbound) q }))

@@ -1,6 +1,6 @@
 -- The call's answer, packed.
 use mathlib.Core.Path.{ap, _∙_}
-use Rattle.abwakiris.specs.Packed.{packedValue}
+use Rattle.abwakiris.specs.Packed.{packedCounted}
 use borrow.Author.Needs.{needs}
 use Rattle.abwakiris.proofs.checks.abwakiris_check.Statement.{statement}
 use Rattle.abwakiris.proofs.checks.abwakiris_check.Tie as tie
@@ -18,10 +18,10 @@ packed-refusal-requires : tie.Need-packed-refusal-requires
 packed-refusal-requires c κs = search needs
 
 returns : tie.Need-returns
-returns c = ap packedValue (rw (c .before .n .given .1) at (c .before .before .before .check .ensures))
+returns c = ap packedCounted (rw (c .before .n .given .1) at (c .before .before .before .check .ensures))
 
 returns-2 : tie.Need-returns-2
-returns-2 c = c .packed-refusal .ensures ∙ ap packedValue (rw (c .before .before .x .given .1) at (c .before .before .before .before .check .ensures))
+returns-2 c = c .packed-refusal .ensures ∙ ap packedCounted (rw (c .before .before .x .given .1) at (c .before .before .before .before .check .ensures))
 
 pub abwakiris-check-spec : {M : Type 1} → statement M
 abwakiris-check-spec =

@@ -1,6 +1,6 @@
 -- An accepted job that has finished occupies as many locations as are left live. What is free on the device when it has finished is what Figure 12 ends
 -- with (`rest-end`), and that is what main's last environment has as free (`walk-leaves`). That environment is linear: a location of the region is free in
--- it or held by one slot. So the bytes of the job on the map and the slots that hold a qubit are told off against one another, a slot at a time.
+-- it or held by one slot. So the bytes of the job on the map and the slots that hold a qubit pair off, a slot at a time.
 use mathlib.Core.Bool.{Bool, true, false, not, _&&_, false≢true}
 use mathlib.Core.List.{List, [], _∷_, map}
 use mathlib.Core.Logic.{_≢_, inl, inr, ⊎-elim}
@@ -40,7 +40,7 @@ use Rattle.theory.proofs.NeverStuck.{TypedView, typed-after, typed-star
 
 -- 1. Slots against bytes: each qubit sits on a byte of its own that is the job, and each byte that is the job has a qubit on it.
 module _ (j : ℕ) (pos : 1 ≤ j) where
-  pub record Told {B : Type 0} (φ : List (Slot device B)) (occ : List ℕ) : Type 0 where
+  record Paired {B : Type 0} (φ : List (Slot device B)) (occ : List ℕ) : Type 0 where
     pub once : Once φ
     pub on-map : (x : ℕ) (l : Place device) → slot φ x ≡ qubit l → (l .no < length occ) × (getD occ (l .no) 0 ≡ j)
     pub held : (l : Place device) → getD occ (l .no) 0 ≡ j → (x : ℕ) × (slot φ x ≡ qubit l)
@@ -51,7 +51,7 @@ module _ (j : ℕ) (pos : 1 ≤ j) where
 
   module _ {B : Type 0} (φ : List (Slot device B)) (occ : List ℕ) where
     -- a slot that holds no qubit
-    past : (v : Slot device B) → holdsNoQubit v ≡ true → Told (v ∷ φ) occ → Told φ occ
+    past : (v : Slot device B) → holdsNoQubit v ≡ true → Paired (v ∷ φ) occ → Paired φ occ
     past v h T = record {
       once = λ x y l k p q e. let z : suc x ≡ suc y = T .once (suc x) (suc y) l k p q e in omega arith;
       on-map = λ x l p. T .on-map (suc x) l p;
@@ -62,9 +62,9 @@ module _ (j : ℕ) (pos : 1 ≤ j) where
         later l (zero, p) = absurd (false≢true (sym (ap holdsNoQubit p) ∙ h))
         later l (suc x, p) = (x, p)
 
-    -- a slot with a qubit: it is told off against its byte
-    off : (k : Place device) → Told (qubit k ∷ φ) occ → Told φ (set occ (k .no) 0)
-    off k T = record {
+    -- a slot with a qubit goes with its byte
+    pair-off : (k : Place device) → Paired (qubit k ∷ φ) occ → Paired φ (set occ (k .no) 0)
+    pair-off k T = record {
       once = λ x y l m p q e. let z : suc x ≡ suc y = T .once (suc x) (suc y) l m p q e in omega arith;
       on-map = λ x l p. let o = T .on-map (suc x) l p in
           (omega (arith, o .0, length-set occ (k .no) 0), getD-set-other occ (k .no) (l .no) 0 0 (apart x l p) ∙ o .1);
@@ -84,7 +84,7 @@ module _ (j : ℕ) (pos : 1 ≤ j) where
             there (zero, q) = absurd (n (ap (λ (m : Place device). m .no) (same-qubit (qubit k) l k q refl)))
             there (suc x, q) = (x, q)
 
-  as-many : {B : Type 0} (φ : List (Slot device B)) (occ : List ℕ) → Told φ occ → bytesOf j occ ≡ howMany (λ v. not (holdsNoQubit v)) φ
+  as-many : {B : Type 0} (φ : List (Slot device B)) (occ : List ℕ) → Paired φ occ → bytesOf j occ ≡ howMany (λ v. not (holdsNoQubit v)) φ
   as-many [] occ T = none-held occ (λ l e. unbound-qubit unbound (record { no = l }) refl (T .held (record { no = l }) e .1))
   as-many (unbound ∷ φ) occ T = let r = as-many φ occ (past φ occ unbound refl T) in omega arith
   as-many (bool b ∷ φ) occ T = let r = as-many φ occ (past φ occ (bool b) refl T) in omega arith
@@ -93,7 +93,7 @@ module _ (j : ℕ) (pos : 1 ≤ j) where
       let here = T .on-map 0 k refl in
       let one = how-many-set (λ b. eqb b j) occ (k .no) 0 0 (here .0) in
       let less : bytesOf j (set occ (k .no) 0) + 1 ≡ bytesOf j occ + 0 = rw (here .1, eqb-same j, eqb-other 0 j (λ e. omega arith)) at one in
-      let rest = as-many φ (set occ (k .no) 0) (off φ occ k T) in
+      let rest = as-many φ (set occ (k .no) 0) (pair-off φ occ k T) in
       omega arith
 
 -- 2. What is free on the device is free in typing's list too, as far as this job sees: its acts write both alike. (Number 0 is no job: its init would

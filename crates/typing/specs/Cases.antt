@@ -3,16 +3,20 @@
 use mathlib.Core.List.{List}
 use Prim.Native.Nat.{ℕ}
 use Rattle.answers.specs.Check.{Check, ok, need, _>>=_, _>>_}
-use Rattle.rules.specs.Syntax.{Side, Op, Statement, op, Block}
+use Rattle.rules.specs.Syntax.{Side, Op, Statement, op, Statements, Block, block}
 use Rattle.rules.specs.Program.{Scope}
 use Rattle.rules.specs.Commands.{Commands}
-use Rattle.rules.specs.Typing.{Env as Environment, Typed, Context, sameEnv, typeStatement, typeBlock}
+use Rattle.rules.specs.Typing.{Env as Environment, Typed, Context, sameEnv, typeStatement, typeStatements, typeBlock}
 use Rattle.program.specs.In.{BlockIn, StatementIn}
 use Rattle.sets.specs.declared.LocationSet.{LocationSet}
 use Rattle.typing.specs.declared.env.Env.{Env}
 use Rattle.typing.specs.declared.env.Outcome.{Outcome}
 use Rattle.typing.specs.declared.endings.Endings.{Endings}
 use Rattle.typing.specs.Stands.{EnvIs, Within, Knows, Answers}
+
+-- the statements that a block holds
+abbrev pub inBlock : {d : Side} → Block d → Statements d
+inBlock (block o ts) = ts
 
 module _ (s : List ℕ) (endings : Endings) (inside : LocationSet) (env : Env) (at : ℕ) where
   -- a block that stands at `at`, and what it is typed with
@@ -47,6 +51,10 @@ module _ (s : List ℕ) (endings : Endings) (inside : LocationSet) (env : Env) (
 
   abbrev pub BlockTyped : Outcome → Type 0
   BlockTyped r = (b : BlockCase) → Answers (b .places) (b .next) (typeBlock (b .context) (b .entry) (b .it)) r
+
+  -- the statements of a block, which is not closed
+  abbrev pub StatementsTyped : Outcome → Type 0
+  StatementsTyped r = (b : BlockCase) → Answers (b .places) (b .next) (typeStatements (b .context) (b .entry) (inBlock (b .it))) r
 
   abbrev pub StatementTyped : Outcome → Type 0
   StatementTyped r = (t : StatementCase) → Answers (t .places) (t .next) (typeStatement (t .context) (t .entry) (t .it)) r

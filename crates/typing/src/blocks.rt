@@ -1,4 +1,5 @@
-// Blocks and statements: a loop goes over a block's statements, and only nesting recurses.
+// Blocks and statements: a loop goes over a block's statements, and only nesting recurses. Main's own block is not closed: 17 is not asked of it,
+// and the rest of a closing changes no qubit.
 use super::bytes::operand;
 use super::calls::type_call;
 use super::endings::Endings;
@@ -12,11 +13,34 @@ use rules::bytes::word_at;
 use sets::LocationSet;
 ghost use mathlib.Core.Path.{_≡_};
 ghost use Rattle.rules.specs.Basics.{byte};
-ghost use Rattle.typing.specs.Cases.{BlockCase, BlockTyped, StatementCase, StatementTyped};
+ghost use Rattle.typing.specs.Cases.{BlockCase, BlockTyped, StatementsTyped, StatementCase, StatementTyped};
 
+// A block: its statements, then its closing.
 pub fn type_block(s: &[u8], endings: Endings, inside: LocationSet, env: Env, at: usize) -> Outcome
     requires { ⌜ BlockCase (now s) endings inside env at ⌝ }
     ensures { λ r. ⌜ BlockTyped (now (s .entry)) endings inside env at r ⌝ }
+{
+    let t = type_statements(s, endings, inside, env, at);
+    let answer = t.answer;
+    match answer {
+        Past::At(next) => {
+            let e = t.env;
+            e.close(env, at, next)
+        }
+        Past::Refused(_) => t,
+    }
+}
+
+// The statements of the block at `at`, one after the other. The block is not closed.
+pub fn type_statements(
+    s: &[u8],
+    endings: Endings,
+    inside: LocationSet,
+    env: Env,
+    at: usize,
+) -> Outcome
+    requires { ⌜ BlockCase (now s) endings inside env at ⌝ }
+    ensures { λ r. ⌜ StatementsTyped (now (s .entry)) endings inside env at r ⌝ }
 {
     let stop = at + 2 + word_at(s, at);
     let mut p = at + 2;
@@ -34,7 +58,7 @@ pub fn type_block(s: &[u8], endings: Endings, inside: LocationSet, env: Env, at:
             }
         }
     }
-    e.close(env, at, stop)
+    e.goes(stop)
 }
 
 fn type_statement(s: &[u8], endings: Endings, inside: LocationSet, env: Env, at: usize) -> Outcome

@@ -2,6 +2,7 @@ pub mod Envs
 pub mod Lists
 pub mod EqualEnvs
 pub mod BlockEnds
+pub mod LiveSlots
 pub mod Views
 pub mod OneStatement
 pub mod Repeats

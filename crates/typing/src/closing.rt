@@ -1,14 +1,16 @@
-// The end of a block: a live qubit sits where it sat on entry (17), and a bool or a reference that the block made is forgotten.
+// The end of a block: a live qubit sits where it sat on entry (17), and a bool or a reference that the block made is forgotten. The end of main's
+// own block: its live qubits are counted.
 use super::env::Env;
 use super::env::Outcome;
 use super::slots::QUBIT;
 use super::slots::Slot;
 ghost use mathlib.Core.Bool.{not, _&&_};
 ghost use mathlib.Core.Path.{_≡_};
-ghost use Prim.Native.Nat.{ℕ};
+ghost use Prim.Native.Nat.{ℕ, _≤_};
 ghost use lib.Dec.{eqb, leb};
+ghost use Rattle.rules.specs.Basics.{count};
 ghost use Rattle.rules.specs.Syntax.{Side};
-ghost use Rattle.rules.specs.Slots.{isClassical};
+ghost use Rattle.rules.specs.Slots.{holdsNoQubit, isClassical};
 ghost use Rattle.rules.specs.Typing.{Env as Environment, Typed, allStay, narrowed, close};
 ghost use Rattle.typing.specs.Stands.{kindOf, EnvIs, Answers, leftOf};
 
@@ -83,5 +85,21 @@ impl Env {
             return self.stops(17, at);
         }
         self.narrowed(entry).goes(next)
+    }
+
+    // How many slots hold a qubit.
+    pub fn live(self) -> usize
+        ensures { λ r. ⌜ ((d : Side) (n : ℕ) (Γ : Environment d) → EnvIs n self Γ → r ≡ count (λ v. not (holdsNoQubit v)) (Γ .slots)) ⌝ }
+        ensures { λ r. ⌜ r ≤ 32 ⌝ }
+    {
+        let mut n: usize = 0;
+        let mut slot: usize = 0;
+        while slot < 32 {
+            if QUBIT <= self.kind_at(slot) {
+                n += 1;
+            }
+            slot += 1;
+        }
+        n
     }
 }

@@ -1,37 +1,37 @@
--- Main, with the functions learnt: its places are the region's, all of them free.
-use mathlib.Core.Bool.{Bool, true, false, true≢false}
+-- Main, with the functions learnt: its places are the region's, all of them free. Its statements alone say how it is typed, since its closing
+-- refuses nothing and forgets no qubit.
+use mathlib.Core.Bool.{true, false, true≢false}
 use mathlib.Core.List.{List, []}
 use mathlib.Core.Path.{_≡_, refl, sym, ap, subst, _∙_}
 use native.Mathlib.Decide.{decLt}
 use native.Mathlib.Omega.{arith}
-use Prim.Native.Nat.{ℕ, _≤_, _<_}
+use Prim.Native.Nat.{ℕ, _<_}
 use lib.ListN.{getD, length, replicate, getD-replicate, List·getD-eq-default}
 use Rattle.answers.specs.declared.Refusal.{Refusal}
 use Rattle.answers.specs.declared.ReadAnswer.{ReadAnswer}
 use Rattle.answers.specs.declared.ReadAnswer.the-variants.{Readable, Refused as NotReadable}
-use Rattle.answers.specs.Check.{Check, ok, refused, _>>=_, _>>_}
+use Rattle.answers.specs.Check.{Check, ok, refused, _>>=_}
 use Rattle.device.specs.Reader.{Owned}
 use Rattle.program.specs.declared.blocks.Past.the-variants.{At, Refused}
 use Rattle.program.specs.In.{BlockIn, ProgramIn, offsetOf, mainScope}
 use Rattle.rules.specs.Basics.{upTo}
 use Rattle.rules.specs.Region.{Region}
-use Rattle.rules.specs.Syntax.{device, Function, Program}
+use Rattle.rules.specs.Syntax.{Side, device, Block, block, Function, Program}
 use Rattle.rules.specs.Slots.{unbound, slot}
-use Rattle.rules.specs.Typing.{Kind, Signature, mainContext, start, typeFunctions}
+use Rattle.rules.specs.Typing.{Kind, Env as Environment, Signature, Context, mainContext, start, closed, typeStatements, typeFunctions, typeMain}
 use Rattle.sets.specs.declared.LocationSet.{LocationSet}
 use Rattle.sets.specs.Sets.{has}
 use Rattle.sets.proofs.SetLaws.{high-off}
-use Rattle.typing.specs.declared.slots.Slot.the-variants.{Unbound, Qubit}
-use Rattle.typing.specs.declared.slots.Slot.{Slot}
+use Rattle.typing.specs.declared.slots.Slot.the-variants.{Unbound}
 use Rattle.typing.specs.declared.slots.Cell.{Cell}
 use Rattle.typing.specs.declared.env.Env.{Env}
 use Rattle.typing.specs.declared.env.Outcome.{Outcome}
-use Rattle.typing.specs.declared.endings.Endings.{Endings}
 use Rattle.typing.specs.declared.functions.Learnt.{Learnt}
 use Rattle.typing.specs.Stands.{kindOf, slotOf, EnvIs, Knows}
-use Rattle.typing.specs.Cases.{BlockCase, BlockTyped}
+use Rattle.typing.specs.Cases.{inBlock, BlockCase, StatementsTyped}
 use Rattle.typing.specs.Functions.{Learns, learns, refuses, typing}
 use Rattle.typing.proofs.Lists.{length-upTo, getD-upTo-zero}
+use Rattle.typing.proofs.LiveSlots.{liveOf, live-narrowed}
 use Rattle.typing.proofs.Outcomes.{passed, refused-is}
 
 -- what was learnt
@@ -67,6 +67,10 @@ some-owned s = record { owned = λ x. go x (decLt x 256) }
     go x (yes l) = sym (getD-upTo-zero 256 x (has s) false l)
     go x (no l) = high-off s x (omega arith) ∙ sym (List·getD-eq-default (upTo 0 256 (has s)) false {n = x} (omega (arith, length-upTo 0 256 (has s))))
 
+-- main's block by its statements
+main-closed : (C : Context device) (Γ : Environment device) (x : Block device) → typeMain C Γ x ≡ (typeStatements C Γ (inBlock x) >>= λ d. ok (closed Γ d))
+main-closed C Γ (block o ts) = refl
+
 module _ {owned : LocationSet} {R : Region} (own : Owned R owned) where
   -- an owned location is in the region's list
   pub owned-low : (l : ℕ) → has owned l ≡ true → l < length (R .owned)
@@ -87,10 +91,13 @@ module _ {owned : LocationSet} {R : Region} (own : Owned R owned) where
   }
     where
       none : (x : ℕ) → x < 32 → slotOf env x ≡ Unbound
-      none x l = ap (λ (cs : List Cell). getD cs x (record { slot = Unbound }) .slot) c ∙ ap (λ (d : Cell). d .slot) (getD-replicate 32 x (record { slot = Unbound }) (record { slot = Unbound }) l)
+      none x l =
+          let empty : Cell = record { slot = Unbound } in
+          ap (λ (cs : List Cell). getD cs x empty .slot) c ∙ ap (λ (d : Cell). d .slot) (getD-replicate 32 x empty empty l)
 
-  module _ {s : List ℕ} {p : Program} (P : ProgramIn s p) {r : Learnt} (k : Knew (p .functions) (typeFunctions [] (p .functions)) r) {env : Env} {main : ℕ} (c : env .cells ≡ replicate 32 (record { slot = Unbound }))
-      (f : env .free ≡ owned) (o : main ≡ offsetOf (p .main)) where
+  module _ {s : List ℕ} {p : Program} (P : ProgramIn s p) {r : Learnt} (k : Knew (p .functions) (typeFunctions [] (p .functions)) r)
+      {env : Env} {main : ℕ} (c : env .cells ≡ replicate 32 (record { slot = Unbound })) (f : env .free ≡ owned)
+      (o : main ≡ offsetOf (p .main)) where
     abbrev pub main-case : BlockCase s (r .endings) owned env main
     main-case = record {
       side = device;
@@ -107,15 +114,21 @@ module _ {owned : LocationSet} {R : Region} (own : Owned R owned) where
       is = start-is c f;
     }
 
-    module _ {t : Outcome} (a : BlockTyped s (r .endings) owned env main t) where
-      pub main-typed : {q : ℕ} → t .answer ≡ At q → ok tt ≡ typing (R .owned) p
-      unfolding _>>=_ _>>_
-      main-typed h = rw (k .gives, passed (a main-case) h .gives)
+    module _ {t : Outcome} (a : StatementsTyped s (r .endings) owned env main t) where
+      -- what the code counts before the closing is what main's closed environment has
+      pub main-typed : {q n : ℕ} → t .answer ≡ At q
+          → ((d : Side) (i : ℕ) (Γ : Environment d) → EnvIs i (t .env) Γ → n ≡ liveOf (Γ .slots)) → ok n ≡ typing (R .owned) p
+      unfolding _>>=_
+      main-typed h c =
+          let u = passed (a main-case) h in
+          let same = live-narrowed (start (R .owned) .slots) (u .typed .env .slots) (u .is .long) in
+          rw (k .gives, main-closed _ _ (p .main), u .gives) (ap ok (c device _ (u .typed .env) (u .is) ∙ sym same))
 
       pub main-refused : {z : Refusal} → t .answer ≡ Refused z → refused z ≡ typing (R .owned) p
-      unfolding _>>=_ _>>_
-      main-refused h = rw (k .gives, refused-is (a main-case) h)
+      unfolding _>>=_
+      main-refused h = rw (k .gives, main-closed _ _ (p .main), refused-is (a main-case) h)
 
-pub functions-refused : (R : Region) (p : Program) {r : Learnt} {z : Refusal} → Learns (p .functions) (typeFunctions [] (p .functions)) r → r .answer ≡ NotReadable z → refused z ≡ typing (R .owned) p
-unfolding _>>=_ _>>_
+pub functions-refused : (R : Region) (p : Program) {r : Learnt} {z : Refusal} → Learns (p .functions) (typeFunctions [] (p .functions)) r
+    → r .answer ≡ NotReadable z → refused z ≡ typing (R .owned) p
+unfolding _>>=_
 functions-refused R p h e = rw (not-learnt h e)

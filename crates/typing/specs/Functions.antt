@@ -5,12 +5,14 @@ use mathlib.Core.Path.{_≡_}
 use Prim.Native.Nat.{ℕ, _+_, _*_, _≤_, _<_}
 use Rattle.answers.specs.declared.Refusal.{Refusal}
 use Rattle.answers.specs.declared.ReadAnswer.the-variants.{Readable, Refused}
-use Rattle.answers.specs.Check.{Check, ok, refused, _>>_}
+use Rattle.answers.specs.Check.{Check, ok, refused, _>>=_}
 use Rattle.program.specs.In.{mainScope}
 use Rattle.rules.specs.Syntax.{parameter, param, Function, Program}
 use Rattle.rules.specs.Slots.{slot, isQubitAt}
-use Rattle.rules.specs.Typing.{Env as Environment, Signature, typeProgram}
+use Rattle.rules.specs.Typing.{Env as Environment, Signature, typeProgram, liveIn}
 use Rattle.sets.specs.Sets.{has}
+use Rattle.typing.specs.declared.LiveAnswer.{LiveAnswer}
+use Rattle.typing.specs.declared.LiveAnswer.the-variants.{Live, Refused as NotTyped}
 use Rattle.typing.specs.declared.env.Env.{Env}
 use Rattle.typing.specs.declared.endings.Endings.{Endings}
 use Rattle.typing.specs.declared.functions.Learnt.{Learnt}
@@ -28,6 +30,12 @@ pub data Learns (fs : List Function) : Check (List Signature) → Learnt → Typ
   learns : {gs : List Signature} {e : Endings} → Knows e (mainScope fs) gs → Learns fs (ok gs) (record { answer = Readable; endings = e })
   refuses : {z : Refusal} {e : Endings} → Learns fs (refused z) (record { answer = Refused z; endings = e })
 
--- whether a program is typed: its refusal, or nothing more
-abbrev pub typing : List Bool → Program → Check (Unit {0})
-typing owned p = typeProgram owned p >> ok tt
+-- the typing of a program: the number left live, or its refusal
+abbrev pub typing : List Bool → Program → Check ℕ
+typing owned p = do
+  t ← typeProgram owned p
+  ok (liveIn (t .env))
+
+abbrev pub liveSaid : LiveAnswer → Check ℕ
+liveSaid (Live n) = ok n
+liveSaid (NotTyped r) = refused r

@@ -1,19 +1,19 @@
-// Typing of a read program: the first refusal of its bodies, functions in file order and then main.
+// Typing of a read program: the first refusal of its bodies, functions in file order and then main; else how many qubits main leaves live.
 use answers::ReadAnswer;
-use blocks::type_block;
+use answers::Refusal;
+use blocks::type_statements;
 use env::Env;
 use functions::type_functions;
 use program::blocks::Past;
 use program::functions::FunctionTable;
 use sets::LocationSet;
 ghost use mathlib.Core.Path.{_≡_};
-ghost use Rattle.answers.specs.Said.{readSaid};
 ghost use Rattle.device.specs.Reader.{Owned};
 ghost use Rattle.program.specs.In.{ProgramIn};
 ghost use Rattle.program.specs.Reader.{Tabled};
 ghost use Rattle.rules.specs.Region.{Region};
 ghost use Rattle.rules.specs.Syntax.{Program};
-ghost use Rattle.typing.specs.Functions.{typing};
+ghost use Rattle.typing.specs.Functions.{typing, liveSaid};
 
 mod blocks;
 mod bytes;
@@ -28,24 +28,33 @@ mod rows;
 mod slots;
 mod statements;
 
-// The functions, each by those before it, then main with all of the job's own locations free.
-pub fn type_program(s: &[u8], t: FunctionTable, main: usize, owned: LocationSet) -> ReadAnswer
+// The answer of typing: the number left live.
+pub enum LiveAnswer {
+    Live(usize),
+    Refused(Refusal),
+}
+
+// The functions, each by those before it, then main with all of the job's own locations free. Main's own block may end with live qubits.
+pub fn type_program(s: &[u8], t: FunctionTable, main: usize, owned: LocationSet) -> LiveAnswer
     requires { ⌜ ((p : Program) × ProgramIn (now s) p × Tabled p t main) ⌝ }
     ensures { λ r. ⌜ ((p : Program) → ProgramIn (now (s .entry)) p → Tabled p t main → (R : Region) → Owned R owned
-        → readSaid r ≡ typing (R .owned) p) ⌝ }
+        → liveSaid r ≡ typing (R .owned) p) ⌝ }
 {
     let learnt = type_functions(s, t);
     let answer = learnt.answer;
     match answer {
         ReadAnswer::Readable => {
             let endings = learnt.endings;
-            let r = type_block(s, endings, owned, Env::new(owned), main);
+            let r = type_statements(s, endings, owned, Env::new(owned), main);
             let past = r.answer;
             match past {
-                Past::At(_) => ReadAnswer::Readable,
-                Past::Refused(z) => ReadAnswer::Refused(z),
+                Past::At(_) => {
+                    let e = r.env;
+                    LiveAnswer::Live(e.live())
+                }
+                Past::Refused(z) => LiveAnswer::Refused(z),
             }
         }
-        ReadAnswer::Refused(z) => ReadAnswer::Refused(z),
+        ReadAnswer::Refused(z) => LiveAnswer::Refused(z),
     }
 }

@@ -9,7 +9,7 @@ use native.Mathlib.Omega.{arith}
 use Prim.Native.Nat.{ℕ, zero, suc, _+_, _≤_, _<_}
 use lib.ListN.{length, drop, drop-of-length-le}
 use lib.Seq.{drop-cons}
-use Rattle.rules.specs.Basics.{chosen, count, upTo}
+use Rattle.rules.specs.Basics.{chosen, howMany, upTo}
 use Rattle.rules.specs.Syntax.{Side}
 use Rattle.rules.specs.Slots.{unbound, qubit, bool, ref, slot, holdsNoQubit, isClassical}
 use Rattle.rules.specs.Typing.{Kind, Env as Environment, kindNumber, narrowed}
@@ -21,7 +21,7 @@ module _ {d : Side} where
   live v = not (holdsNoQubit v)
 
   abbrev pub liveOf : List (Kind d) → ℕ
-  liveOf vs = count live vs
+  liveOf vs = howMany live vs
 
   -- one slot, by the number of its kind
   live-yes : (v : Kind d) → 3 ≤ kindNumber v → live v ≡ true

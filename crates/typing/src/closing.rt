@@ -8,7 +8,7 @@ ghost use mathlib.Core.Bool.{not, _&&_};
 ghost use mathlib.Core.Path.{_≡_};
 ghost use Prim.Native.Nat.{ℕ, _≤_};
 ghost use lib.Dec.{eqb, leb};
-ghost use Rattle.rules.specs.Basics.{count};
+ghost use Rattle.rules.specs.Basics.{howMany};
 ghost use Rattle.rules.specs.Syntax.{Side};
 ghost use Rattle.rules.specs.Slots.{holdsNoQubit, isClassical};
 ghost use Rattle.rules.specs.Typing.{Env as Environment, Typed, allStay, narrowed, close};
@@ -89,7 +89,7 @@ impl Env {
 
     // How many slots hold a qubit.
     pub fn live(self) -> usize
-        ensures { λ r. ⌜ ((d : Side) (n : ℕ) (Γ : Environment d) → EnvIs n self Γ → r ≡ count (λ v. not (holdsNoQubit v)) (Γ .slots)) ⌝ }
+        ensures { λ r. ⌜ ((d : Side) (n : ℕ) (Γ : Environment d) → EnvIs n self Γ → r ≡ howMany (λ v. not (holdsNoQubit v)) (Γ .slots)) ⌝ }
         ensures { λ r. ⌜ r ≤ 32 ⌝ }
     {
         let mut n: usize = 0;

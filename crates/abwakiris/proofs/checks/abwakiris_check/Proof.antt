@@ -11,6 +11,12 @@ check-requires c κs = search needs
 enum-known-n : tie.Need-enum-known-n
 enum-known-n c = search needs
 
+mul-result : tie.Need-mul-result
+mul-result c = search needs
+
+add-result : tie.Need-add-result
+add-result c = search needs
+
 enum-known-x : tie.Need-enum-known-x
 enum-known-x c = search needs
 
@@ -26,4 +32,4 @@ returns-2 c = c .packed-refusal .ensures ∙ ap packedCounted (rw (c .before .be
 pub abwakiris-check-spec : {M : Type 1} → statement M
 abwakiris-check-spec =
     tie.close
-    (tie.spec check-requires enum-known-n enum-known-x packed-refusal-requires returns returns-2)
+    (tie.spec check-requires enum-known-n mul-result add-result enum-known-x packed-refusal-requires returns returns-2)

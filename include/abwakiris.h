@@ -9,9 +9,9 @@
  *   bits 48 to 63   0
  *
  * Packing cuts nothing off: a refusal's number is 1 to 27 and its place at most 4,096, in a listing at most 65,536; n, a device's number of
- * locations, is 1 to 256, a command count is at most 65,535, a route has at most 256 locations, a job moves at most 4,096 steps in a run, a listing has
- * at most 65,536 bytes and a program at most 4,096. So taking an answer apart, as the macros below do, gives back exactly what the call promises; that
- * is proved of every call.
+ * locations, is 1 to 256, a command count is at most 65,535 and the number left live at most 32, a route has at most 256 locations, a job moves at most
+ * 4,096 steps in a run, a listing has at most 65,536 bytes and a program at most 4,096. So taking an answer apart, as the macros below do, gives back
+ * exactly what the call promises; that is proved of every call.
  *
  * After a refusal every buffer that was lent holds the bytes it held before. Bytes past what a call writes stay as they are. A buffer that a
  * call writes (buffer, records, map, the text of write_listing, the program of read_listing) must overlap nothing else that is given to it; what it
@@ -36,15 +36,17 @@ extern "C" {
 #endif
 
 /* The version of this interface. */
-#define ABWAKIRIS_VERSION "0.11.0"
+#define ABWAKIRIS_VERSION "0.12.0"
 #define ABWAKIRIS_VERSION_MAJOR 0
-#define ABWAKIRIS_VERSION_MINOR 11
+#define ABWAKIRIS_VERSION_MINOR 12
 #define ABWAKIRIS_VERSION_PATCH 0
 
 /* Taking an answer apart. */
 #define ABWAKIRIS_VALUE(answer) ((uint32_t)((answer) & 0xFFFFFFFFu))
 #define ABWAKIRIS_NUMBER(answer) ((unsigned)(((answer) >> 32) & 0xFFu))
 #define ABWAKIRIS_FILE(answer) ((unsigned)(((answer) >> 40) & 0xFFu))
+#define ABWAKIRIS_COUNT(answer) (ABWAKIRIS_VALUE(answer) & 0xFFFFu)
+#define ABWAKIRIS_LIVE(answer) (ABWAKIRIS_VALUE(answer) >> 16)
 #define ABWAKIRIS_MOVED_1(answer) (ABWAKIRIS_VALUE(answer) & 0xFFFFu)
 #define ABWAKIRIS_MOVED_2(answer) (ABWAKIRIS_VALUE(answer) >> 16)
 
@@ -114,6 +116,7 @@ enum {
     ABWAKIRIS_MOST_PROGRAM_BYTES = 4096,
     ABWAKIRIS_MOST_LISTING_BYTES = 65536,
     ABWAKIRIS_MOST_COUNT = 65535,
+    ABWAKIRIS_MOST_LIVE = 32,
     ABWAKIRIS_MOST_STEPS = 4096,
     ABWAKIRIS_RECORD_BYTES = 4
 };
@@ -158,7 +161,8 @@ uint64_t abwakiris_read_device(const uint8_t *device, size_t device_len);
 /* Whether a program file reads, for no job. Value 0. */
 uint64_t abwakiris_read_program(const uint8_t *program, size_t program_len);
 
-/* Whether a program can be loaded for a job (1 or 2) and never halts its machine. Value: the command count. */
+/* Whether a program can be loaded for a job (1 or 2) and never halts its machine. Value: the command count + 65536 * the number left live, which is how
+ * many of main's slots hold a qubit at its end; ABWAKIRIS_COUNT and ABWAKIRIS_LIVE take it apart. */
 uint64_t abwakiris_check(const uint8_t *device, size_t device_len, const uint8_t *program, size_t program_len, uint64_t job);
 
 /* The route between two locations of a job's region. The occupancy has one byte a location, n in all, 0 free; the ends' own bytes don't matter. The

@@ -18,6 +18,8 @@ static const uint8_t program[] = {'Q', 'L', 'S', 0, 1, 0, 0, 16,                
                                   6, 2, 0, 0, 0, 1,                                  /* slot 2 gets the measurement of slots 0 and 1 */
                                   3, 0, 3, 1};                                       /* free both */
 
+static const uint8_t live[] = {'Q', 'L', 'S', 0, 1, 0, 0, 14, 1, 0, 0, 1, 1, 2, 6, 2, 0, 0, 0, 1, 3, 0}; /* A without its last free */
+
 static const uint8_t empty[] = {'Q', 'L', 'S', 0, 1, 0, 0, 0};
 
 static const uint8_t schedule[] = {ABWAKIRIS_STEP(1, 0), ABWAKIRIS_STEP(1, 0), ABWAKIRIS_STEP(2, 0), ABWAKIRIS_STEP(1, 0)};
@@ -71,10 +73,10 @@ static size_t read_files(void) {
     return ABWAKIRIS_VALUE(read);
 }
 
-static void check(uint64_t job) {
-    uint64_t answer = abwakiris_check(device, sizeof device, program, sizeof program, job);
+static void check(const uint8_t *file, size_t length, uint64_t job) {
+    uint64_t answer = abwakiris_check(device, sizeof device, file, length, job);
     if (accepted("check", answer))
-        printf("check: %lu commands\n", (unsigned long)ABWAKIRIS_VALUE(answer));
+        printf("check: %lu commands, %lu left live\n", (unsigned long)ABWAKIRIS_COUNT(answer), (unsigned long)ABWAKIRIS_LIVE(answer));
 }
 
 /* From 0 to 2. */
@@ -138,12 +140,13 @@ int main(void) {
     size_t n = read_files();
     if (n == 0)
         return 1;
-    check(1);
+    check(program, sizeof program, 1);
+    check(live, sizeof live, 1);
     occupancy[1] = 1; /* the short way */
     route(occupancy, n);
     run(n);
-    check(2);         /* job 2 owns nothing */
-    occupancy[4] = 1; /* the long way too */
+    check(program, sizeof program, 2); /* job 2 owns nothing */
+    occupancy[4] = 1;                  /* the long way too */
     route(occupancy, n);
     listings();
     return 0;

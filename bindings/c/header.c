@@ -77,6 +77,7 @@ static void steps(void) {
 
 static void answers(void) {
     const uint64_t refused = (UINT64_C(18) << 40) | (UINT64_C(13) << 32) | 4096u, moved = UINT64_C(4096) << 16 | 3u;
+    const uint64_t counted = UINT64_C(32) << 16 | 65535u, few = UINT64_C(1) << 16 | 4u;
     const uint64_t unlisted = (UINT64_C(3) << 40) | (UINT64_C(27) << 32) | 65536u;
     expect(ABWAKIRIS_NUMBER(refused) == ABWAKIRIS_NO_REGION, "not the number", 13);
     expect(ABWAKIRIS_FILE(refused) == ABWAKIRIS_IN_PROGRAM_2, "not the file", 18);
@@ -84,6 +85,8 @@ static void answers(void) {
     expect(ABWAKIRIS_NUMBER(unlisted) == ABWAKIRIS_NO_LISTING, "not the number", 27);
     expect(ABWAKIRIS_FILE(unlisted) == ABWAKIRIS_IN_LISTING, "not the file", 3);
     expect(ABWAKIRIS_VALUE(unlisted) == ABWAKIRIS_MOST_LISTING_BYTES, "not the place", 65536);
+    expect(ABWAKIRIS_COUNT(counted) == ABWAKIRIS_MOST_COUNT && ABWAKIRIS_LIVE(counted) == ABWAKIRIS_MOST_LIVE, "not what is counted", 32);
+    expect(ABWAKIRIS_COUNT(few) == 4u && ABWAKIRIS_LIVE(few) == 1u, "not what is counted", 1);
     expect(ABWAKIRIS_MOVED_1(moved) == 3u && ABWAKIRIS_MOVED_2(moved) == 4096u, "not what moved", 3);
 }
 

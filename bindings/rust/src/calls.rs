@@ -54,24 +54,43 @@ pub fn read_program(program: &[u8]) -> Result<(), Refusal> {
     unpack(answer).map(|_| ())
 }
 
-/// Whether a program can be loaded for a job and never halts the machine it is loaded on. Answers its command count.
+/// What a check of an accepted program answers.
+#[derive(Clone, Copy, Debug, PartialEq, Eq, Hash)]
+pub struct Counted {
+    /// The command count, at most [`MOST_COUNT`](crate::MOST_COUNT).
+    pub count: u16,
+    /// The number left live: how many of main's slots hold a qubit at its end, at most [`MOST_LIVE`](crate::MOST_LIVE).
+    pub live: u16,
+}
+
+/// Whether a program can be loaded for a job and never halts the machine it is loaded on. Answers its command count and the number of qubits that it leaves
+/// live: where the job is finished in a [`run`], it occupies so many locations.
 ///
 /// # Errors
 ///
 /// In this order: the device's refusals, the program's, those of typing (11 to 19), 20 for the count, 21 for a merge without a path.
 ///
 /// ```
-/// use abwakiris::{check, Job, Number};
+/// use abwakiris::{check, Counted, Job, Number};
 ///
 /// let device = b"QLG\x00\x01\x00\x01\x00\x00\x01"; // one location, job 1's
 /// let program = b"QLS\x00\x01\x00\x00\x05\x01\x00\x00\x03\x00"; // an init there and its free
-/// assert_eq!(check(device, program, Job::ONE), Ok(2));
+/// assert_eq!(check(device, program, Job::ONE), Ok(Counted { count: 2, live: 0 }));
 /// assert_eq!(check(device, program, Job::TWO).unwrap_err().number, Number::OutsideRegion);
+///
+/// let hands_on = b"QLS\x00\x01\x00\x00\x03\x01\x00\x00"; // the init alone
+/// assert_eq!(check(device, hands_on, Job::ONE)?.live, 1);
+/// # Ok::<(), abwakiris::Refusal>(())
 /// ```
-pub fn check(device: &[u8], program: &[u8], job: Job) -> Result<u32, Refusal> {
+pub fn check(device: &[u8], program: &[u8], job: Job) -> Result<Counted, Refusal> {
     let job = u64::from(job.number());
     let answer = unsafe { exports::abwakiris_check(device.as_ptr(), device.len(), program.as_ptr(), program.len(), job) };
-    unpack(answer)
+    unpack(answer).map(halves).map(|(count, live)| Counted { count, live })
+}
+
+/// The low and the high half of a value that holds two numbers.
+fn halves(value: u32) -> (u16, u16) {
+    (value as u16, (value >> 16) as u16)
 }
 
 /// The route between two locations of a job's region: the shortest path over free locations, and among those the smallest from the first end
@@ -170,5 +189,5 @@ pub fn run(
             map.len(),
         )
     };
-    unpack(answer).map(|moved| Moved { first: moved as u16, second: (moved >> 16) as u16 })
+    unpack(answer).map(halves).map(|(first, second)| Moved { first, second })
 }

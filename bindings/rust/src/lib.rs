@@ -9,12 +9,12 @@
 //! Device G has 2 rows of 3 locations, all owned by job 1; program A makes two qubits in corners, measures them together and frees them.
 //!
 //! ```
-//! use abwakiris::{check, route, File, Job, Number, Refusal};
+//! use abwakiris::{check, route, Counted, File, Job, Number, Refusal};
 //!
 //! let g = b"QLG\x00\x01\x00\x06\x00\x07\x01\x01\x01\x01\x01\x01\x00\x01\x00\x03\x01\x02\x01\x04\x02\x05\x03\x04\x04\x05";
 //! let mut a = *b"QLS\x00\x01\x00\x00\x10\x01\x00\x00\x01\x01\x02\x06\x02\x00\x00\x00\x01\x03\x00\x03\x01";
 //!
-//! assert_eq!(check(g, &a, Job::ONE), Ok(5));
+//! assert_eq!(check(g, &a, Job::ONE), Ok(Counted { count: 5, live: 0 }));
 //!
 //! a[19] = 0; // the merge measures slot 0 twice
 //! assert_eq!(check(g, &a, Job::ONE), Err(Refusal { number: Number::Twice, place: 14, file: File::Program(Some(Job::ONE)) }));
@@ -37,11 +37,11 @@ mod refusal;
 mod schedule;
 mod sizes;
 
-pub use calls::{check, locations, read_device, read_program, route, run, Moved};
+pub use calls::{check, locations, read_device, read_program, route, run, Counted, Moved};
 pub use job::Job;
 pub use listing::{read_listing, write_listing};
 pub use numbers::{Number, UnknownNumber};
 pub use record::{Record, Records, Told};
 pub use refusal::{File, Refusal};
 pub use schedule::Schedule;
-pub use sizes::{MOST_COUNT, MOST_EDGES, MOST_LISTING_BYTES, MOST_LOCATIONS, MOST_PROGRAM_BYTES, MOST_STEPS, RECORD_BYTES};
+pub use sizes::{MOST_COUNT, MOST_EDGES, MOST_LISTING_BYTES, MOST_LIVE, MOST_LOCATIONS, MOST_PROGRAM_BYTES, MOST_STEPS, RECORD_BYTES};

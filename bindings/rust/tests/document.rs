@@ -4,7 +4,7 @@
 mod exports;
 
 use abwakiris::{check, locations, read_device, read_program, route, run};
-use abwakiris::{File, Job, Moved, Number, Record, Records, Refusal, Schedule, Told, RECORD_BYTES};
+use abwakiris::{Counted, File, Job, Moved, Number, Record, Records, Refusal, Schedule, Told, MOST_LIVE, RECORD_BYTES};
 
 /// Device G: 2 rows of 3 locations, all owned by job 1.
 const G: &[u8] = b"QLG\x00\x01\x00\x06\x00\x07\x01\x01\x01\x01\x01\x01\x00\x01\x00\x03\x01\x02\x01\x04\x02\x05\x03\x04\x04\x05";
@@ -48,17 +48,37 @@ fn numbers_of_locations() {
     assert_eq!(locations(b"QLG\x00\x01\x00\x00\x00\x00"), Err(no(Number::Limit, 5, File::Device)));
 }
 
+fn counted(count: u16, live: u16) -> Result<Counted, Refusal> {
+    Ok(Counted { count, live })
+}
+
 #[test]
 fn checks() {
-    assert_eq!(check(G, EMPTY, Job::ONE), Ok(0));
-    assert_eq!(check(G, EMPTY, Job::TWO), Ok(0));
-    assert_eq!(check(G, A, Job::ONE), Ok(5));
+    assert_eq!(check(G, EMPTY, Job::ONE), counted(0, 0));
+    assert_eq!(check(G, EMPTY, Job::TWO), counted(0, 0));
+    assert_eq!(check(G, A, Job::ONE), counted(5, 0));
+    assert_eq!(check(G, &program(&A[8..22]), Job::ONE), counted(4, 1));
     assert_eq!(check(G, A, Job::TWO), Err(no(Number::OutsideRegion, 8, OF_TWO)));
     assert_eq!(check(G, &[EMPTY, &[0]].concat(), Job::ONE), Err(no(Number::Fit, 8, OF_ONE)));
-    assert_eq!(check(G, &program(&A[8..22]), Job::ONE), Err(no(Number::QubitOutlives, 6, OF_ONE)));
+    let outlives = program(&[13, 0, 1, 7, 1, 0, 11, 1, 0, 3, 1, 2, 0]); // a loop that does not free what it makes
+    assert_eq!(check(G, &outlives, Job::ONE), Err(no(Number::QubitOutlives, 16, OF_ONE)));
     let walled = [1, 0, 0, 1, 1, 2, 1, 2, 1, 1, 3, 4, 6, 4, 0, 0, 0, 1, 3, 0, 3, 1, 3, 2, 3, 3];
     assert_eq!(check(G, &program(&walled), Job::ONE), Err(no(Number::NoPath, 20, OF_ONE)));
     assert_eq!(check(G, A, Job::TWO).unwrap_err().to_string(), "13: location outside the region (at 8 in the program of job 2)");
+}
+
+/// A qubit in every slot, on a device of as many locations; in a run they stay where they are.
+#[test]
+fn left_live() {
+    let most = MOST_LIVE as u8;
+    let device = [b"QLG\x00\x01\x00", &[most, 0, 0][..], &vec![1; MOST_LIVE as usize]].concat();
+    let every = program(&(0..most).flat_map(|i| [1, i, i]).collect::<Vec<u8>>());
+    assert_eq!(check(&device, &every, Job::ONE), counted(32, 32));
+    let schedule = Schedule::new().step(Job::ONE, false).repeat(33);
+    let (mut records, mut map) = (vec![0; RECORD_BYTES * schedule.len()], vec![0; locations(&device).unwrap()]);
+    assert_eq!(run(&device, &every, EMPTY, &schedule, &mut records, &mut map), Ok(Moved { first: 32, second: 0 }));
+    assert_eq!(Records::new(&records).next_back().unwrap().told, Told::Finished);
+    assert_eq!(map, [1; 32]);
 }
 
 /// A number that is no job is refused before a call just as the call refuses it; the whole number counts.

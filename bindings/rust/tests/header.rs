@@ -4,7 +4,7 @@
 #[path = "../build/list.rs"]
 mod list;
 
-use abwakiris::{Number, MOST_COUNT, MOST_EDGES, MOST_LISTING_BYTES, MOST_LOCATIONS, MOST_PROGRAM_BYTES, MOST_STEPS, RECORD_BYTES};
+use abwakiris::{Number, MOST_COUNT, MOST_EDGES, MOST_LISTING_BYTES, MOST_LIVE, MOST_LOCATIONS, MOST_PROGRAM_BYTES, MOST_STEPS, RECORD_BYTES};
 
 const HEADER: &str = include_str!("../../../include/abwakiris.h");
 const CHANGELOG: &str = include_str!("../../../CHANGELOG.md");
@@ -71,6 +71,7 @@ fn sizes() {
         ("ABWAKIRIS_MOST_PROGRAM_BYTES", MOST_PROGRAM_BYTES),
         ("ABWAKIRIS_MOST_LISTING_BYTES", MOST_LISTING_BYTES),
         ("ABWAKIRIS_MOST_COUNT", MOST_COUNT as usize),
+        ("ABWAKIRIS_MOST_LIVE", MOST_LIVE as usize),
         ("ABWAKIRIS_MOST_STEPS", MOST_STEPS),
         ("ABWAKIRIS_RECORD_BYTES", RECORD_BYTES),
     ];

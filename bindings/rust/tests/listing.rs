@@ -5,7 +5,7 @@
 mod exports;
 
 use abwakiris::{check, read_listing, read_program, write_listing};
-use abwakiris::{File, Job, Number, Refusal, MOST_LISTING_BYTES, MOST_PROGRAM_BYTES};
+use abwakiris::{Counted, File, Job, Number, Refusal, MOST_LISTING_BYTES, MOST_PROGRAM_BYTES};
 use std::collections::BTreeMap;
 use std::fs;
 use std::path::PathBuf;
@@ -122,7 +122,7 @@ fn programs_of_the_page() {
     }
     assert_eq!(beside["program-a"].0, dumps["program-a"]);
     let d = &beside["program-d"];
-    assert_eq!(check(&dumps["device-g"], &d.0, Job::ONE), Ok(8));
+    assert_eq!(check(&dumps["device-g"], &d.0, Job::ONE), Ok(Counted { count: 8, live: 0 }));
     let names = table("| byte |").into_iter().map(|row| code(row[1]).split(' ').next().unwrap());
     for name in names.chain(["program", "function", "main", "else"]) {
         assert!(d.1.lines().any(|line| line.split_whitespace().next() == Some(name)), "program D has {name}");

@@ -1,7 +1,7 @@
 //! What a call must come to by the reference: its packed answer and all bytes of its buffers.
 
 use crate::library::{Call, Export, Outcome};
-use crate::reference::{self, listing, pack};
+use crate::reference::{self, listing, pack, Counted};
 
 pub fn by_reference(call: &Call) -> Outcome {
     let inputs = &call.inputs;
@@ -9,7 +9,7 @@ pub fn by_reference(call: &Call) -> Outcome {
     let packed = match call.export {
         Export::ReadDevice => pack(reference::read_device(inputs[0]).map(|device| device.owner.len() as u64)),
         Export::ReadProgram => pack(reference::read_program(inputs[0]).map(|_| 0)),
-        Export::Check => pack(reference::check(inputs[0], inputs[1], call.numbers[0])),
+        Export::Check => pack(reference::check(inputs[0], inputs[1], call.numbers[0]).map(Counted::value)),
         Export::Route => {
             let [job, first, second] = call.numbers[..] else { unreachable!() };
             let buffer = &mut buffers[0];

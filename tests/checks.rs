@@ -1,5 +1,6 @@
 //! The check: the document's examples, every typing refusal with its place and with the fault it comes before, the wrong shortcuts that the
-//! document names, calls that lose an argument, and the command count at its limit. The expected answers are written from the document.
+//! document names, calls that lose an argument, qubits that main leaves live, and the command count at its limit. The expected answers are written from the
+//! document, those about live qubits from document 02.
 //!
 //! A case of job 1 is tried for job 2 as well, on the device with the jobs changed for each other.
 
@@ -14,10 +15,16 @@ use files::*;
 use library::{no, Call, DEVICE, NONE, PROGRAM};
 
 impl Tried {
-    /// Accepted with this command count.
+    /// Accepted with this command count and this number left live.
+    fn leaves(&mut self, what: &str, device: &[u8], program: &[u8], count: u64, live: u64) {
+        let value = count + 65_536 * live;
+        self.untouched(what, &Call::check(device, program, 1), value);
+        self.untouched(&format!("{what} (job 2)"), &Call::check(&swapped(device), program, 2), value);
+    }
+
+    /// Accepted with this command count, and no qubit left live.
     fn counts(&mut self, what: &str, device: &[u8], program: &[u8], count: u64) {
-        self.untouched(what, &Call::check(device, program, 1), count);
-        self.untouched(&format!("{what} (job 2)"), &Call::check(&swapped(device), program, 2), count);
+        self.leaves(what, device, program, count, 0);
     }
 
     /// Refused at this place of the program.
@@ -34,6 +41,11 @@ impl Tried {
     /// Accepted, on the document's grid.
     fn right(&mut self, what: &str, program: &[u8], count: u64) {
         self.counts(what, &grid(), program, count);
+    }
+
+    /// Accepted with qubits left live, on the document's grid.
+    fn live(&mut self, what: &str, program: &[u8], count: u64, live: u64) {
+        self.leaves(what, &grid(), program, count, live);
     }
 }
 
@@ -56,7 +68,7 @@ fn document(t: &mut Tried) {
     t.wrong("one more byte", &[only(&[]), vec![0]].concat(), 8, 8);
     let a = program_a();
     t.right("A", &a, 5);
-    t.wrong("A without the last two bytes", &only(&[init(0, 0), init(1, 2), merge(2, 0, 1), free(0)]), 17, 6);
+    t.live("A without its last free", &only(&[init(0, 0), init(1, 2), merge(2, 0, 1), free(0)]), 4, 1);
     t.wrong("A, second measured slot 0", &with(&a, &[(19, 0)]), 15, 14);
     let taken = [init(0, 0), init(1, 2), init(2, 1), init(3, 4), merge(4, 0, 1), free(0), free(1), free(2), free(3)];
     t.wrong("A with inits put before the merge", &only(&taken), 21, 20);
@@ -96,9 +108,9 @@ fn order(t: &mut Tried) {
     t.wrong("reading before typing", &only(&[free(0), vec![14]]), 9, 10);
     t.wrong("bytes after main before typing", &[only(&[free(0)]), vec![0]].concat(), 8, 10);
     let many = vec![call(14, &[5], &[]); 2];
-    let typed = [many.clone(), vec![init(0, 0)]].concat();
+    let typed = [many.clone(), vec![free(0)]].concat();
     let main = calling(&doubling(), &[]).len() as u64 - 2;
-    t.wrong("typing before the count", &calling(&doubling(), &typed), 17, main);
+    t.wrong("typing before the count", &calling(&doubling(), &typed), 11, main + 2 + 10);
     let apart = [init(0, 0), init(1, 2), init(2, 1), init(3, 4), merge(4, 0, 1), free(0), free(1), free(2), free(3)];
     t.wrong("no path", &calling(&doubling(), &apart), 21, main + 2 + 12);
     t.wrong("the count before the path", &calling(&doubling(), &[&apart[..], &many].concat()), 20, 0);
@@ -174,9 +186,8 @@ fn ending(functions: &[Function], statement: Statement) -> Vec<u8> {
     calling(functions, &[init(0, 0), boolean(1, 0), refer(2, 1), statement])
 }
 
-/// A qubit must not outlive its block: 17 at the block's length word, before 18 or 19.
+/// A qubit must not outlive its block, but main's own: 17 at the block's length word, before 18 or 19.
 fn outlives(t: &mut Tried) {
-    t.wrong("17: main", &only(&[init(0, 0)]), 17, 6);
     t.wrong("17: a function", &calling(&[function(1, 0, &[init(0, 0)])], &[]), 17, 8);
     t.wrong("17: a function moves its argument", &calling(&[function(2, 1, &[free(0), init(0, 1)])], &[]), 17, 8);
     t.wrong("17: a function changes the argument's slot", &calling(&[function(1, 1, &[free(0), init(5, 0)])], &[]), 17, 8);
@@ -198,6 +209,66 @@ fn outlives(t: &mut Tried) {
     t.right("17: freed and made again in then", &around(&[], when(1, &again, &[])), 5);
     t.right("17: freed and made again in a loop", &around(&[], repeat(2, &again)), 5);
     t.right("17: freed and made again by a function", &calling(&[function(1, 1, &again)], &[init(0, 0), call(0, &[0], &[0]), free(0)]), 4);
+}
+
+/// Main's own block may end with qubits; those in its slots then are left live.
+fn left_live(t: &mut Tried) {
+    t.live("one qubit", &only(&[init(0, 0)]), 1, 1);
+    t.live("a magic one", &only(&[magic(31, 5)]), 1, 1);
+    t.live("all locations", &only(&(0..6).map(|l| init(5 - l, l)).collect::<Vec<_>>()), 6, 6);
+    t.live("bools and references are no qubits", &only(&[init(0, 0), boolean(1, 0), refer(2, 1), measure(3, 0), get(4, 2)]), 1, 1);
+    t.live("in another slot than before", &only(&[init(0, 0), free(0), init(7, 0)]), 3, 1);
+    t.live("at another location than before", &only(&[init(0, 0), free(0), init(0, 3)]), 3, 1);
+    t.live("one of two freed", &only(&[init(0, 0), init(1, 1), free(0)]), 3, 1);
+    t.leaves("one location", &device(1, &[]), &only(&[init(0, 0)]), 1, 1);
+    let (row, every): (_, Vec<Statement>) = (line(32), (0..32).map(|l| init(l, l)).collect());
+    t.leaves("a qubit in every slot", &row, &only(&every), 32, 32);
+    t.leaves("in every slot but one", &row, &only(&[&every[..], &[free(17)]].concat()), 33, 31);
+    t.leaves("in every slot but one, which has a bool", &row, &only(&[&every[..31], &[boolean(31, 1)]].concat()), 31, 31);
+    t.leaves("in every slot, all freed", &row, &only(&[&every[..], &(0..32).map(free).collect::<Vec<_>>()].concat()), 64, 0);
+}
+
+/// What blocks and calls do to a qubit that is left live: it is main's, whatever was done inside.
+fn left_live_through(t: &mut Tried) {
+    let again = [free(0), init(0, 0)];
+    t.live("touched in then", &ending(&[], when(1, &[gate(0)], &[])), 2, 1);
+    t.live("freed and made again in then", &ending(&[], when(1, &again, &[])), 4, 1);
+    t.live("freed and made again in a loop", &ending(&[], repeat(2, &again)), 4, 1);
+    let called = |body: &[Statement]| calling(&[function(1, 1, body)], &[init(0, 0), call(0, &[0], &[0])]);
+    t.live("given to a call", &called(&[gate(0)]), 1, 1);
+    t.live("brought back by a call", &called(&again), 3, 1);
+    t.right("freed by a call", &called(&[free(0)]), 2);
+    t.right("freed by a call, its slot a bool there", &called(&[free(0), boolean(0, 1)]), 2);
+    let second = calling(&[function(2, 2, &[free(1)])], &[init(4, 2), init(9, 5), call(0, &[2, 5], &[4, 9])]);
+    t.live("the second of two freed by a call", &second, 3, 1);
+    let made = calling(&[function(1, 0, &[init(0, 0), free(0)])], &[init(0, 0), call(0, &[3], &[])]);
+    t.live("beside what a call makes and frees", &made, 3, 1);
+}
+
+/// 17 stays for every other block, whatever main leaves; and main's qubits hide no other refusal.
+fn left_live_and_refused(t: &mut Tried) {
+    let made = [init(3, 1)];
+    t.wrong("17: then, and main leaves one", &ending(&[], when(1, &made, &[])), 17, 19);
+    t.wrong("17: else, and main leaves one", &ending(&[], when(1, &[], &made)), 17, 21);
+    t.wrong("17: both blocks make it alike", &ending(&[], when(1, &made, &made)), 17, 19);
+    t.wrong("17: while, and main leaves one", &ending(&[], repeat(2, &made)), 17, 19);
+    t.wrong("17: a loop that is all of main", &only(&[boolean(1, 0), refer(2, 1), repeat(2, &made)]), 17, 16);
+    t.wrong("17: a function, and main leaves one", &calling(&[function(1, 0, &[init(0, 0)])], &[init(0, 0), call(0, &[1], &[])]), 17, 8);
+    t.wrong("18: then frees what main leaves", &ending(&[], when(1, &[free(0)], &[])), 18, 17);
+    t.wrong("19: a loop frees what main leaves", &ending(&[], repeat(2, &[free(0)])), 19, 17);
+    let many = [vec![init(0, 0)], vec![call(14, &[5], &[]); 2]].concat();
+    t.wrong("20: and main leaves one", &calling(&doubling(), &many), 20, 0);
+    t.wrong("21: and main leaves all", &only(&[init(0, 0), init(1, 2), init(2, 1), init(3, 4), merge(4, 0, 1)]), 21, 20);
+    t.refuses("21: a qubit that is left is in the way", &line(3), &only(&[init(0, 0), init(1, 2), init(2, 1), merge(4, 0, 1), free(0), free(1)]), 21, 17);
+}
+
+/// 65,535 commands and a qubit in every slot. Function i counts 2^i: an if, and each calls the one before twice.
+fn most_of_both(t: &mut Tried) {
+    let functions = chain(0, 0, &[boolean(0, 0), when(0, &[], &[])], 15, 2);
+    let once = (0..14).filter(|&f| f != 5).chain([14, 14, 14]).map(|f| call(f, &[], &[]));
+    let main: Vec<Statement> = (0..32).map(|l| init(l, l)).chain(once).collect();
+    t.leaves("the most of both", &line(32), &calling(&functions, &main), 65_535, 32);
+    t.refuses("one command more", &line(32), &calling(&functions, &[main, vec![call(0, &[], &[])]].concat()), 20, 0);
 }
 
 /// Both branches end alike: 18 at the if. A loop keeps its qubits: 19 at the while.
@@ -261,7 +332,7 @@ fn lost_arguments(t: &mut Tried) {
     let two = |last: &[Statement]| calling(&[second.clone()], &[&[init(3, 3), init(9, 1), call(0, &[3, 1, 5], &[3, 9])][..], last].concat());
     t.right("the second of two", &two(&[gate(3), init(9, 5), free(9), free(3)]), 10);
     t.wrong("the second of two is unbound", &two(&[gate(9)]), 11, 39);
-    t.wrong("the first of two is still there", &two(&[]), 17, 22);
+    t.live("the first of two is still there", &two(&[]), 7, 1);
     let through = [losing.clone(), function(2, 2, &[call(0, &[1], &[1])])];
     t.right("lost two calls down", &calling(&through, &[init(0, 0), init(1, 3), call(1, &[0, 3], &[0, 1]), init(1, 3), free(1), free(0)]), 6);
     t.wrong("and used there", &calling(&[losing, function(1, 1, &[call(0, &[0], &[0]), gate(0)])], &[]), 11, 22);
@@ -364,6 +435,10 @@ fn main() {
     inits(&mut t);
     calls(&mut t);
     outlives(&mut t);
+    left_live(&mut t);
+    left_live_through(&mut t);
+    left_live_and_refused(&mut t);
+    most_of_both(&mut t);
     branches_and_loops(&mut t);
     closing(&mut t);
     lost_arguments(&mut t);

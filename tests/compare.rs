@@ -1,8 +1,8 @@
 //! Compares the library, over its exports, with the reference on generated cases.
 //!
 //! Usage: compare [random] [cases] [seed] [first case]. Stops with 1 at the first difference, or
-//! at the end if some number never came up in a call that can answer it. With `random` all cases
-//! are of random bytes, which need not bring up every number.
+//! at the end if some number never came up in a call that can answer it, or never a program that
+//! leaves qubits live. With `random` all cases are of random bytes, which need not bring up all.
 
 mod by_reference;
 mod files;
@@ -16,6 +16,7 @@ use files::hex;
 use generator::{Case, Random};
 use library::{number_of, Call, Export, Outcome, EMPTY};
 use lines::{answer_words, line, name, CALLS};
+use reference::SLOTS;
 use std::time::Duration;
 
 const EXPORTS: [Export; 7] = [
@@ -60,19 +61,57 @@ struct Tally {
     merges_moved: u64,
     longest_route: u8,
     interleavings: u64,
+    left: Left,
     built_answers: u64,
     slowest: [(Duration, u64); EXPORTS.len()],
+}
+
+/// How often qubits were left live: by accepted checks that left none, some, and one in every slot; and by jobs that finished in a run and whose program is
+/// accepted, all of them and those with qubits left.
+#[derive(Default)]
+struct Left {
+    none: u64,
+    some: u64,
+    every_slot: u64,
+    jobs: u64,
+    jobs_with_qubits: u64,
+}
+
+impl Left {
+    fn check(&mut self, live: usize) {
+        self.none += u64::from(live == 0);
+        self.some += u64::from(live > 0);
+        self.every_slot += u64::from(live == SLOTS);
+    }
+
+    /// Prints what came up; gives what should have but didn't.
+    fn print(&self) -> Vec<String> {
+        let Left { none, some, every_slot, jobs, jobs_with_qubits } = self;
+        println!("{none} accepted checks left no qubit live, {some} left some, {every_slot} of them one in every slot");
+        println!("{jobs} accepted jobs that finished occupy as many locations as their check left live, {jobs_with_qubits} of them some");
+        let wanted = [
+            (none, "every accepted check left a qubit live"),
+            (some, "no check left a qubit live"),
+            (every_slot, "no check left a qubit in every slot"),
+            (jobs_with_qubits, "no accepted job finished with a qubit left live"),
+        ];
+        wanted.iter().filter(|(count, _)| **count == 0).map(|(_, what)| what.to_string()).collect()
+    }
+}
+
+/// What the last record of a job tells; none where it has no step.
+fn last_told(job: u8, schedule: &[u8], records: &[u8]) -> Option<u8> {
+    let own = |i: &usize| schedule[*i] / 16 == job;
+    (0..schedule.len()).filter(own).last().map(|last| records[4 * last])
 }
 
 impl Tally {
     fn records(&mut self, schedule: &[u8], records: &[u8]) {
         for job in [1, 2] {
-            let own = |i: &usize| schedule[*i] / 16 == job;
-            let Some(last) = (0..schedule.len()).filter(own).last() else { continue };
-            match records[4 * last] {
-                0 => {}
-                1 => self.finished += 1,
-                reason => self.stuck[usize::from(reason)] += 1,
+            match last_told(job, schedule, records) {
+                None | Some(0) => {}
+                Some(1) => self.finished += 1,
+                Some(reason) => self.stuck[usize::from(reason)] += 1,
             }
         }
         for record in records[..4 * schedule.len()].chunks(4) {
@@ -112,6 +151,7 @@ impl Tally {
         );
         println!("{} checks answered as their programs were built", self.built_answers);
         println!("{} interleavings equal to job 1 first, then job 2", self.interleavings);
+        missing.extend(self.left.print());
         for export in EXPORTS {
             let (time, index) = self.slowest[export as usize];
             let milliseconds = time.as_secs_f64() * 1e3;
@@ -171,6 +211,37 @@ fn compare_interleaving(call: &Call, outcome: &Outcome, index: u64) {
     }
 }
 
+/// A job that has finished, and whose program the check accepts, occupies as many locations at the end of the run as the check says are left live.
+fn compare_left(call: &Call, outcome: &Outcome, index: u64, left: &mut Left) {
+    let [device, one, two, schedule] = call.inputs[..] else { unreachable!() };
+    let n = 256 * usize::from(device[5]) + usize::from(device[6]);
+    for (job, program) in [(1, one), (2, two)] {
+        if last_told(job, schedule, &outcome.buffers[0]) != Some(1) {
+            continue;
+        }
+        let check = Call::check(device, program, u64::from(job));
+        let checked = match check.perform(EMPTY[0]) {
+            Ok((checked, _)) => checked,
+            Err(what) => stop(index, &[line(call, outcome), what]),
+        };
+        if number_of(checked.packed) != 0 {
+            continue;
+        }
+        let occupied = outcome.buffers[1][..n].iter().filter(|&&byte| byte == job).count();
+        if occupied != live(&checked) {
+            let finished = format!("job {job} has finished and occupies {occupied} locations, and its check is");
+            stop(index, &[line(call, outcome), finished, line(&check, &checked)]);
+        }
+        left.jobs += 1;
+        left.jobs_with_qubits += u64::from(occupied > 0);
+    }
+}
+
+/// The number left live, of an accepted check.
+fn live(checked: &Outcome) -> usize {
+    (checked.packed >> 16) as usize
+}
+
 fn compare(case: &Case, index: u64, tally: &mut Tally) {
     let call = case.call();
     let expected = by_reference(&call);
@@ -200,9 +271,13 @@ fn compare(case: &Case, index: u64, tally: &mut Tally) {
     tally.answers[call.export as usize][number] += 1;
     let slowest = &mut tally.slowest[call.export as usize];
     *slowest = (*slowest).max((time, index));
+    if call.export == Export::Check && number == 0 {
+        tally.left.check(live(&found));
+    }
     if call.export == Export::Run && number == 0 {
         tally.records(call.inputs[3], &found.buffers[0]);
         compare_interleaving(&call, &found, index);
+        compare_left(&call, &found, index, &mut tally.left);
         tally.interleavings += 1;
     }
 }

@@ -25,10 +25,11 @@ const PRINT_CHECK: &str = "target/bin/print_check";
 /// Without the library there is no printing program either.
 const HAS_PROGRAM: bool = cfg!(not(selftest));
 
-/// The packed answer that `OK value` or `NO number place` stands for.
+/// The packed answer that `OK value`, of a check `OK count live`, or `NO number place` stands for.
 fn answer(cell: &str, file: u64) -> u64 {
     match cell.split_whitespace().collect::<Vec<_>>()[..] {
         ["OK", value] => number(value),
+        ["OK", count, live] => number(count) + 65_536 * number(live),
         ["NO", no_number, place] => no(number(no_number), number(place), file),
         _ => panic!("{cell} is no answer"),
     }
@@ -37,8 +38,8 @@ fn answer(cell: &str, file: u64) -> u64 {
 // Dumps and worked answers
 
 fn samples(page: &Page) {
-    for (dump, sample) in [("device-g", "samples/device-g"), ("program-a", "samples/program-a"), ("bundle", "samples/bundle")] {
-        assert_eq!(page.dump(dump), fs::read(sample).expect("a sample"), "{dump} is {sample}");
+    for dump in ["device-g", "program-a", "program-live", "bundle"] {
+        assert_eq!(page.dump(dump), fs::read(format!("samples/{dump}")).expect("a sample"), "{dump} is a sample");
     }
     for name in page.dumps.keys() {
         let (fence, line, cell) = (format!("```hex {name}"), format!("`{name}`: "), format!("| `{name}` |"));
@@ -89,12 +90,13 @@ fn checks(page: &Page, t: &mut Tried) {
     }
 }
 
-/// The one refusal that the page has as a number is what the library answers.
+/// The two answers that the page has as a number are what the library answers.
 fn packed(page: &Page, t: &mut Tried) {
-    let refusal = no(17, 6, PROGRAM + 1);
-    let line = format!("So 17 at 6 in the program of job 1 is 0x{refusal:X}.");
+    let (refusal, counted) = (no(17, 16, PROGRAM + 1), 4 + 65_536);
+    let line = format!("So 17 at 16 in the program of job 1 is 0x{refusal:X}. A command count of 4 with 1 left live is 0x{counted:X}.");
     assert!(page.lines.contains(&line), "{line}");
-    t.untouched("17 at 6", &Call::check(page.dump("device-g"), page.dump("program-live"), 1), refusal);
+    t.untouched("17 at 16", &Call::check(page.dump("device-g"), page.dump("program-outlives"), 1), refusal);
+    t.untouched("4 and 1", &Call::check(page.dump("device-g"), page.dump("program-live"), 1), counted);
 }
 
 /// What the page says of reads: the value is n for a device, 0 for a program.
@@ -103,7 +105,7 @@ fn reads(page: &Page, t: &mut Tried) {
         let device = page.dump(name);
         t.untouched(&format!("the value of {name}"), &Call::read_device(device), u64::from(device[5]) * 256 + u64::from(device[6]));
     }
-    for name in ["program-empty", "program-a", "program-b", "program-c"] {
+    for name in ["program-empty", "program-a", "program-live", "program-b", "program-c"] {
         t.untouched(&format!("the value of {name}"), &Call::read_program(page.dump(name)), 0);
     }
 }

@@ -34,7 +34,7 @@ pub fn line(call: &Call, outcome: &Outcome) -> String {
     words.join(" ")
 }
 
-/// What stands behind the arrow.
+/// What stands behind the arrow; of a check the count and the number left live.
 pub fn answer_words(export: Export, outcome: &Outcome) -> Vec<String> {
     let mut words = Vec::new();
     let value = outcome.packed & 0xFFFF_FFFF;
@@ -43,10 +43,10 @@ pub fn answer_words(export: Export, outcome: &Outcome) -> Vec<String> {
         words.push("ok".to_string());
         match export {
             Export::ReadDevice | Export::ReadProgram => {}
-            Export::Run => {
+            Export::Check | Export::Run => {
                 words.extend([(value % 65_536).to_string(), (value / 65_536).to_string()]);
             }
-            Export::Check | Export::Route | Export::WriteListing | Export::ReadListing => words.push(value.to_string()),
+            Export::Route | Export::WriteListing | Export::ReadListing => words.push(value.to_string()),
         }
     } else {
         let file = match (outcome.packed >> 40 & 0xFF) as u8 {

@@ -2,8 +2,9 @@
 //!
 //! Everything here follows the document's wording and its order of tests. Nothing is made fast
 //! beyond what the document's own limits need: a function is judged once, its command count is
-//! remembered and saturates, and calls without any command are not walked into. Document 02's
-//! listings are in `reference/listing.rs`.
+//! remembered and saturates, and calls without any command are not walked into. By document 02
+//! main's own block may end with live qubits, which the check counts. Its listings are in
+//! `reference/listing.rs`.
 
 #![allow(dead_code)]
 
@@ -437,8 +438,9 @@ struct Typing<'a> {
     keeps: Vec<Vec<bool>>,
 }
 
-/// Judges every function, then main.
-fn judge(device: &Device, program: &Program, job: u8, file: u8) -> Answer<()> {
+/// Judges every function, then main. Gives the number of slots that hold a qubit at main's end,
+/// where no qubit is asked to be gone.
+fn judge(device: &Device, program: &Program, job: u8, file: u8) -> Answer<u64> {
     let mut typing = Typing { program, file, keeps: Vec::new() };
     for function in &program.functions {
         let mut environment =
@@ -463,11 +465,25 @@ fn judge(device: &Device, program: &Program, job: u8, file: u8) -> Answer<()> {
         region[location] = device.in_region(location, job);
     }
     let mut environment = Environment { slots: [Kind::Unbound; SLOTS], free: region };
-    typing.block(&program.main, &mut environment, &region)
+    typing.statements(&program.main, &mut environment, &region)?;
+    let live = |kind: &&Kind| matches!(kind, Kind::Qubit(_));
+    Ok(environment.slots.iter().filter(live).count() as u64)
 }
 
 impl Typing<'_> {
-    /// Judges a block's statements and closes it.
+    fn statements(
+        &self,
+        block: &Block,
+        environment: &mut Environment,
+        inside: &[bool; MOST_LOCATIONS],
+    ) -> Answer<()> {
+        for statement in &block.statements {
+            self.statement(statement, environment, inside)?;
+        }
+        Ok(())
+    }
+
+    /// Judges the statements of a block other than main's own and closes it.
     fn block(
         &self,
         block: &Block,
@@ -475,9 +491,7 @@ impl Typing<'_> {
         inside: &[bool; MOST_LOCATIONS],
     ) -> Answer<()> {
         let entry = environment.slots;
-        for statement in &block.statements {
-            self.statement(statement, environment, inside)?;
-        }
+        self.statements(block, environment, inside)?;
         for slot in 0..SLOTS {
             match environment.slots[slot] {
                 Kind::Unbound => {}
@@ -688,8 +702,21 @@ impl Walk<'_> {
     }
 }
 
-/// Answers the command count of main.
-pub fn check(device: &[u8], program: &[u8], job: u64) -> Answer<u64> {
+/// What a check answers: the command count of main, and how many qubits it leaves live.
+#[derive(Clone, Copy, PartialEq, Eq, Debug)]
+pub struct Counted {
+    pub count: u64,
+    pub live: u64,
+}
+
+impl Counted {
+    /// As the export packs both.
+    pub fn value(self) -> u64 {
+        self.count + 65_536 * self.live
+    }
+}
+
+pub fn check(device: &[u8], program: &[u8], job: u64) -> Answer<Counted> {
     if job != 1 && job != 2 {
         return refuse(25, 0, FILE_NONE);
     }
@@ -697,7 +724,7 @@ pub fn check(device: &[u8], program: &[u8], job: u64) -> Answer<u64> {
     let file = FILE_PROGRAM + job;
     let device = read_device(device)?;
     let program = read_program_in(program, file)?;
-    judge(&device, &program, job, file)?;
+    let live = judge(&device, &program, job, file)?;
     let mut counts = Vec::new();
     for function in &program.functions {
         counts.push(count_block(&function.block, &counts));
@@ -715,7 +742,7 @@ pub fn check(device: &[u8], program: &[u8], job: u64) -> Answer<u64> {
         occupied: [false; MOST_LOCATIONS],
     };
     walk.block(&program.main, &mut [None; SLOTS], None)?;
-    Ok(count)
+    Ok(Counted { count, live })
 }
 
 // ---------------------------------------------------------------------------------------------
@@ -1069,7 +1096,7 @@ pub fn print_check(input: &[u8]) -> Vec<u8> {
     let line = match unbundle(input) {
         None => "BAD\n".to_string(),
         Some((device, program)) => match check(device, program, 1) {
-            Ok(count) => format!("OK {count}\n"),
+            Ok(Counted { count, live }) => format!("OK {count} {live}\n"),
             Err(refusal) => format!("NO {} {}\n", refusal.number, refusal.place),
         },
     };

@@ -7,7 +7,7 @@ mod exports;
 #[path = "reference.rs"]
 mod reference;
 
-use reference::pack;
+use reference::{pack, Counted};
 
 /// Each definition below has the type of its declaration: functions of different types make no array.
 const _: () = {
@@ -47,7 +47,7 @@ unsafe extern "C" fn abwakiris_check(
     program_len: usize,
     job: u64,
 ) -> u64 {
-    pack(reference::check(slice(device, device_len), slice(program, program_len), job))
+    pack(reference::check(slice(device, device_len), slice(program, program_len), job).map(Counted::value))
 }
 
 #[no_mangle]

@@ -52,10 +52,12 @@ pub(super) fn corridor_program(random: &mut Random, plan: &Device, job: u8) -> O
         // In main itself the outcomes stay, so they must not be bound again.
         corridor.outcome += 4;
     }
-    if taken {
-        main.push(simple(&[3, 2]));
+    // Each of them may stay.
+    for slot in [2, 1, 0] {
+        if (slot != 2 || taken) && !corridor.random.one_in(4) {
+            main.push(simple(&[3, slot]));
+        }
     }
-    main.extend([simple(&[3, 1]), simple(&[3, 0])]);
     Some(Program { functions: functions(), main })
 }
 

@@ -1,4 +1,4 @@
-//! Programs at the limits: the length of the file, the depth of blocks, the command count.
+//! Programs at the limits: the length of the file, the depth of blocks, the command count, the qubits that main leaves live.
 
 use super::made::Made;
 use super::random::Random;
@@ -126,4 +126,28 @@ pub(super) fn silent_program(random: &mut Random) -> Made {
     let mut program = chain(0, 0, block, &[65; 14]);
     program.main = vec![call_through(14, 0, 0); random.pick(&[1, 65])];
     Made { program, claim: Some(0) }
+}
+
+/// Main with a register: a qubit in each slot, as far as there are locations for them, or in some. Then some are freed, in main or in a call, and some are
+/// freed and made again in a call. All that main still has is left live.
+pub(super) fn register_program(random: &mut Random, region: &[usize]) -> Made {
+    let (mut slots, mut locations): (Vec<u8>, Vec<u8>) = ((0..SLOTS as u8).collect(), region.iter().map(|&l| l as u8).collect());
+    random.shuffle(&mut slots);
+    random.shuffle(&mut locations);
+    if random.one_in(4) {
+        slots.truncate(random.below(SLOTS));
+    }
+    let register: Vec<(u8, u8)> = slots.into_iter().zip(locations).collect();
+    let mut main: Block = register.iter().map(|&(x, l)| simple(&[random.between(1, 2) as u8, x, l])).collect();
+    let freed_one_in = random.pick(&[3, 8, 1000, 1000]);
+    for &(x, l) in &register {
+        if random.one_in(freed_one_in) {
+            main.push(if random.one_in(2) { simple(&[3, x]) } else { simple(&[12, 0, 1, 1, l, x]) });
+        } else if random.one_in(4) {
+            main.push(simple(&[12, 1, 1, 1, l, x]));
+        }
+    }
+    let function = |bytes: &[&[u8]]| Function { parameters: 1, arguments: 1, block: bytes.iter().map(|bytes| simple(bytes)).collect() };
+    let functions = vec![function(&[&[3, 0]]), function(&[&[3, 0], &[1, 0, 0]])];
+    Made { program: Program { functions, main }, claim: Some(0) }
 }

@@ -3,14 +3,14 @@
 use super::byte_damage::damage_bytes;
 use super::corridors::{corridor_program, looping_program, merging_program};
 use super::devices::Device;
-use super::limits::{counted_program, nest, overflowing_program, pad, silent_program};
+use super::limits::{counted_program, nest, overflowing_program, pad, register_program, silent_program};
 use super::made::{thin_out, Made};
 use super::random::Random;
 use super::sizes::Size;
 use super::tree_damage::{damage_shape, damage_tree};
 use super::typed::{careless_program, typed_program, LOOSE};
 use super::wild::wild_program;
-use crate::reference::{DEEPEST_BLOCK, LONGEST_PROGRAM};
+use crate::reference::{DEEPEST_BLOCK, LONGEST_PROGRAM, SLOTS};
 
 /// A program file for the job, one in `damaged_one_in` with its bytes damaged; and the number that its check answers, if it is known.
 pub(super) fn program(random: &mut Random, plan: &Device, job: u8, size: Size, damaged_one_in: usize) -> (Vec<u8>, Option<u8>) {
@@ -32,7 +32,11 @@ pub(super) fn program(random: &mut Random, plan: &Device, job: u8, size: Size, d
 
 fn made_program(random: &mut Random, plan: &Device, job: u8, size: Size) -> Made {
     let region = plan.region(job);
-    match random.below(50) {
+    // Only larger devices have a location for every slot.
+    if region.len() >= SLOTS && random.one_in(8) {
+        return register_program(random, &region);
+    }
+    match random.below(52) {
         0..=14 => accepted_program(random, plan, job, size),
         15..=23 => {
             let wanted = random.between(11, 19) as u8;
@@ -82,6 +86,7 @@ fn made_program(random: &mut Random, plan: &Device, job: u8, size: Size) -> Made
             1 => silent_program(random),
             _ => counted_program(random),
         },
+        50 | 51 => register_program(random, &region),
         46 if size == Size::Limit && region.len() >= 2 => merging_program(random, &region),
         _ if size == Size::Limit && region.len() >= 2 => looping_program(&region),
         48 if region.len() >= 2 => looping_program(&region),

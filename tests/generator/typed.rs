@@ -89,11 +89,13 @@ struct Builder<'a> {
 /// Which of the qubits live on entry a block ends without.
 type Lost = [bool; SLOTS];
 
-/// A block that is being built: its depth, the slots on entry to it, and which of their qubits it ends without.
+/// A block that is being built: its depth, the slots on entry to it, which of their qubits it ends without, and whether it is main's own, whose qubits may
+/// stay.
 struct Opened {
     depth: usize,
     entry: [Slot; SLOTS],
     lost: Lost,
+    is_mains: bool,
 }
 
 impl Builder<'_> {

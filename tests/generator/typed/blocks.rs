@@ -6,9 +6,9 @@ use crate::generator::trees::{Block, Statement};
 use crate::reference::{DEEPEST_BLOCK, SLOTS};
 
 impl Builder<'_> {
-    /// A block that ends with the qubits it began with, but for the `lost` ones.
+    /// A block that ends with the qubits it began with, but for the `lost` ones; main's own with any others beside.
     pub(super) fn block(&mut self, body: &mut Body, depth: usize, tries: usize, lost: &Lost) -> Block {
-        let opened = Opened { depth, entry: body.slots, lost: *lost };
+        let opened = Opened { depth, entry: body.slots, lost: *lost, is_mains: depth == 1 && body.is_main };
         let mut out = Vec::new();
         self.left -= 2;
         if depth == 1 && self.left > 60 && self.random.one_in(2) {
@@ -45,6 +45,9 @@ impl Builder<'_> {
     /// Ends a block: frees what may not outlive it, brings back what must be there again, and
     /// unbinds what was bound inside.
     fn settle(&mut self, body: &mut Body, opened: &Opened, out: &mut Block) {
+        if opened.is_mains {
+            return self.hand_on(body, out);
+        }
         let outliving = if self.wanted == 17 && self.random.one_in(3) { self.outlive(body, opened, out) } else { None };
         for s in body.qubits() {
             if body.slots[s] != opened.entry[s] || opened.lost[s] {
@@ -69,6 +72,17 @@ impl Builder<'_> {
             let was_bound = matches!(entry, Slot::Bool | Slot::Reference);
             if matches!(body.slots[s], Slot::Bool | Slot::Reference) && !was_bound {
                 body.slots[s] = Slot::Unbound;
+            }
+        }
+    }
+
+    /// Ends main: it may leave any of its qubits live, all of them or none too.
+    fn hand_on(&mut self, body: &mut Body, out: &mut Block) {
+        let freed_one_in = self.random.pick(&[1, 1, 2, 4, 1000]);
+        for s in body.qubits() {
+            if self.random.one_in(freed_one_in) {
+                self.emit(out, &[3, s]);
+                body.release(s);
             }
         }
     }

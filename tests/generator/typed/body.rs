@@ -19,6 +19,7 @@ pub(super) struct Body {
     pub(super) free: Vec<bool>,
     /// Location bytes that may be written but lie outside the region; none in a function.
     pub(super) outside: Vec<usize>,
+    pub(super) is_main: bool,
 }
 
 impl Body {
@@ -29,6 +30,7 @@ impl Body {
             inside: (0..parameters).collect(),
             free: vec![true; parameters],
             outside: Vec::new(),
+            is_main: false,
         };
         for i in 0..arguments {
             body.take(i, i);
@@ -42,7 +44,7 @@ impl Body {
             free[l] = true;
         }
         let outside = (0..256).filter(|&l| !free[l]).collect();
-        Body { slots: [Slot::Unbound; SLOTS], inside: region.to_vec(), free, outside }
+        Body { slots: [Slot::Unbound; SLOTS], inside: region.to_vec(), free, outside, is_main: true }
     }
 
     pub(super) fn slots_where(&self, wanted: impl Fn(Slot) -> bool) -> Vec<usize> {

@@ -13,7 +13,7 @@ pub const COMMAND: Command = Command {
     help: "Writes a bundle: u16 length and device file, u16 length and program file, nothing more. What is in the files does not matter: the printing \
            program, as samples/verdict runs it, judges the bundle. A bundle is not for a terminal: name a file, or send it on; -o - writes it there all the \
            same.",
-    example: "samples/device-g samples/program-a | samples/verdict -\n\nOK 5",
+    example: "samples/device-g samples/program-a | samples/verdict -\n\nOK 5 0",
     takes: (2, 2),
     options: &[Takes::Output],
     does,

@@ -9,7 +9,8 @@ use crate::layout::Layout;
 use crate::program::Program;
 use crate::replay::index;
 use crate::said::{trouble, Said, Trouble};
-use abwakiris::{Job, Refusal};
+use crate::why::live::{live, Live};
+use abwakiris::{Counted, Job, Refusal};
 use std::ffi::OsStr;
 
 /// What a command says where the library refused.
@@ -44,20 +45,26 @@ impl Check {
         Given { device: Some(&self.device), programs, job: self.job.ok(), job_number: self.number, ..Given::default() }
     }
 
-    /// The library's verdict: for this job so many commands.
+    /// The library's verdict: for this job so many commands, and so many qubits left live.
     ///
     /// # Errors
     ///
     /// The library's refusal.
-    pub fn verdict(&self) -> Result<(Job, u32), Refusal> {
+    pub fn verdict(&self) -> Result<(Job, Counted), Refusal> {
         let job = self.job?;
         Ok((job, abwakiris::check(&self.device.bytes, &self.program.bytes, job)?))
     }
 
     /// What is said of a program that the library accepts; to people these lines more.
-    pub fn accepted(&self, asked: &Asked, (job, count): (Job, u32), more: &str) -> Said {
-        let text = || format!("accepted: {} on {} for {job}\ncommands: {count}\n{more}", self.program.name, self.device.name);
-        Said::of(true, asked.json, text, || Json::head(asked.command.name, true).with("job", job.number()).with("count", count))
+    pub fn accepted(&self, asked: &Asked, (job, counted): (Job, Counted), more: &str) -> Said {
+        let Counted { count, live: number } = counted;
+        let left = live(&self.device.bytes, &self.program.bytes, job, counted);
+        let text = || {
+            let each: String = left.iter().map(Live::text).collect();
+            format!("accepted: {} on {} for {job}\ncommands: {count}\nleft live: {number}\n{each}{more}", self.program.name, self.device.name)
+        };
+        let head = || Json::head(asked.command.name, true).with("job", job.number()).with("count", count);
+        Said::of(true, asked.json, text, || head().with("live", number).with("left", Json::list(left.iter().map(Live::json))))
     }
 }
 

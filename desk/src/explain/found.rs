@@ -29,11 +29,8 @@ pub fn case(found: &Found, program: &Program) -> Of {
         Why::Taken { parameter: Some(_), .. } | Why::Twice { .. } => Of::Call,
         Why::Taken { .. } => Of::Init,
         Why::Itself { .. } => Of::Merge,
-        Why::Outlives { .. } => match found.body {
-            body if program.body(body).at != found.place => Of::Block,
-            Body::Main => Of::Main,
-            Body::Function(_) => Of::Function,
-        },
+        Why::Outlives { .. } if program.body(found.body).at == found.place => Of::Function,
+        Why::Outlives { .. } => Of::Block,
         _ => Of::Only,
     }
 }

@@ -156,7 +156,11 @@ impl<'a> Walk<'a> {
         for statement in &block.statements {
             self.statement(statement, state)?;
         }
-        state.close(block.at, &began)
+        if block.at != self.program.main.at {
+            state.outlived(block.at, &began)?;
+        }
+        state.close(block.at, &began);
+        Ok(())
     }
 
     fn statement(&self, statement: &Statement, state: &mut State) -> Judged {
@@ -281,19 +285,23 @@ impl State {
         }
     }
 
-    /// The end of a block.
-    fn close(&mut self, block: usize, began: &Slots) -> Judged {
+    /// No qubit of a block may outlive it, but for main's own block.
+    fn outlived(&self, block: usize, began: &Slots) -> Judged {
         let slots = self.where_not(|slot, holds| !matches!(holds, Holds::Qubit(_)) || began[slot].holds == holds);
-        if !slots.is_empty() {
-            return self.refused(block, Why::Outlives { slots, began: Box::new(*began) });
+        if slots.is_empty() {
+            return Ok(());
         }
+        self.refused(block, Why::Outlives { slots, began: Box::new(*began) })
+    }
+
+    /// What the block has bound goes at its end.
+    fn close(&mut self, block: usize, began: &Slots) {
         for (slot, before) in self.slots.iter_mut().zip(began) {
             let bound_here = matches!(slot.holds, Holds::Bool | Holds::Reference) && matches!(before.holds, Holds::Unbound | Holds::Qubit(_));
             if let (true, Since::Bound(bound)) = (bound_here, slot.since) {
                 *slot = Slot { holds: Holds::Unbound, since: Since::Ended { bound, block }, lost: slot.lost };
             }
         }
-        Ok(())
     }
 
     fn refused(&self, place: usize, why: Why) -> Judged {

@@ -63,7 +63,6 @@ pub enum Of {
     Merge,
     /// A merge whose ends no corridor of the region joins.
     Apart,
-    Main,
     Function,
     Route,
     Line,
@@ -104,7 +103,6 @@ impl Of {
             Of::Call => "for a call",
             Of::Merge => "for a merge",
             Of::Apart => "for a merge whose ends no corridor of the region joins",
-            Of::Main => "for main",
             Of::Function => "for the body of a function",
             Of::Route => "for a route",
             Of::Line => "for a line",
@@ -412,17 +410,20 @@ pub static ROWS: &[Row] = &[
     },
     Row {
         number: 17,
-        when: "at the end of a block a qubit is left that was not there when the block began",
+        when: "at the end of a block, other than main's own, a qubit is left that was not there when the block began",
         place: "the block's length word",
         adds: "which qubit: its slot, its location and the line that made it",
         cases: &[
-            case(Of::Main, "main ends without a qubit", "free the qubit before main ends"),
             case(
                 Of::Function,
                 "the body of a function ends with no qubit but its arguments, each at its own parameter",
                 "free the qubit in the function, or make it in the caller and pass it as an argument",
             ),
-            case(Of::Block, "a block ends with no qubit that it made", "free the qubit before the block ends, or make it before the block begins"),
+            case(
+                Of::Block,
+                "a block of an if or a while ends with no qubit that it made",
+                "free the qubit before the block ends, or make it before the block begins; only main itself may leave qubits live",
+            ),
         ],
     },
     Row {

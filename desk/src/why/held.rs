@@ -1,4 +1,4 @@
-//! Who holds which location where a trail ends, and which line made the qubit.
+//! Who holds which location where a trail ends, and which line made the qubit; the same of main's slots at its end.
 
 use super::trail::{Leg, Trail};
 use super::visits::{Left, Visits};
@@ -60,7 +60,7 @@ fn valid(trail: &Trail<'_>) -> Vec<[bool; 32]> {
 }
 
 /// For each slot the statements that may have made its qubit.
-type Made = [BTreeSet<usize>; 32];
+pub type Made = [BTreeSet<usize>; 32];
 
 /// Stands for the caller, who gave the qubit.
 const GIVEN: usize = usize::MAX;
@@ -73,6 +73,13 @@ fn makers(visits: &Visits<'_>, leg: &Leg<'_>) -> Made {
         made.iter_mut().take(arguments).for_each(|makers| *makers = BTreeSet::from([GIVEN]));
     }
     over(visits, visits.program.body(leg.visit.body), leg.site.at, &mut made);
+    made
+}
+
+/// The makers at main's end.
+pub fn made_at_end(visits: &Visits<'_>) -> Made {
+    let mut made = Made::default();
+    over(visits, &visits.program.main, NOWHERE, &mut made);
     made
 }
 

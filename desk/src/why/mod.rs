@@ -10,6 +10,7 @@ mod flow;
 mod held;
 mod json;
 pub mod lead;
+pub mod live;
 mod outcomes;
 mod possible;
 pub mod search;

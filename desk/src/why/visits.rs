@@ -109,7 +109,12 @@ impl<'a> Visits<'a> {
 
     /// The visit of main; none where it is clear.
     pub fn main(&mut self) -> Option<Id> {
-        self.id(Visit { body: Body::Main, locations: vec![], occupied: Locations::default() })
+        self.id(Visit::of_main())
+    }
+
+    /// Where the qubits are at main's end.
+    pub fn at_end(&self) -> Standing {
+        self.over(&Visit::of_main(), &mut |_, _| {})
     }
 
     /// The number of a visit; none where every merge of it and of those below it has a path. It goes as deep as functions call each other.
@@ -214,8 +219,8 @@ impl<'a> Visits<'a> {
         there
     }
 
-    /// Goes over the body of a visit.
-    fn over(&self, visit: &Visit, see: &mut dyn FnMut(&'a Statement, &Standing)) {
+    /// Goes over the body of a visit; gives where the qubits are at its end.
+    fn over(&self, visit: &Visit, see: &mut dyn FnMut(&'a Statement, &Standing)) -> Standing {
         let mut standing = Standing { occupied: visit.occupied, ..Standing::default() };
         if let Body::Function(number) = visit.body {
             for (i, &location) in visit.locations.iter().enumerate().take(self.program.functions[number].arguments) {
@@ -223,6 +228,7 @@ impl<'a> Visits<'a> {
             }
         }
         self.go(self.program.body(visit.body), visit.parameters(), &mut standing, see);
+        standing
     }
 
     /// Goes over a block in the check's order and shows each statement with where the qubits are before it.
@@ -253,6 +259,10 @@ impl<'a> Visits<'a> {
 }
 
 impl Visit {
+    fn of_main() -> Visit {
+        Visit { body: Body::Main, locations: vec![], occupied: Locations::default() }
+    }
+
     /// The actual locations of the parameters, where location bytes name such.
     fn parameters(&self) -> Option<&[usize]> {
         match self.body {

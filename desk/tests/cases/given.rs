@@ -32,6 +32,11 @@ pub fn rows(width: usize, owners: &[u8]) -> Vec<u8> {
     owned(owners, &edges)
 }
 
+/// A without its last free: slot 1 is left live.
+pub fn program_live() -> Vec<u8> {
+    only(&[init(0, 0), init(1, 2), merge(2, 0, 1), free(0)])
+}
+
 /// B: the paper's controlled X, again until a measurement gives 0.
 pub fn program_b() -> Vec<u8> {
     let (x, z) = (0, 1);

@@ -95,8 +95,8 @@ fn outlives() -> Vec<Case> {
     let around = |statement: Statement| only(&[init(0, 0), boolean(1, 0), refer(2, 1), statement, free(0)]); // the statement is at 17
     let moves = function(2, 1, &[free(0), init(0, 1)]);
     vec![
-        of("check-17-main", &only(&[init(0, 0), init(1, 2), merge(2, 0, 1), free(0)]), 17, 6).finds(&["slot 1", "location 2"]),
-        of("check-17-two", &only(&[init(0, 0), init(1, 2)]), 17, 6).finds(&["slot 0", "location 0", "slot 1", "location 2"]),
+        of("check-17-two", &around(when(1, &[init(3, 1), init(4, 2)], &[])), 17, 19).finds(&["slot 3", "location 1", "slot 4", "location 2"]),
+        of("check-17-main-leaves-one", &only(&[init(0, 0), boolean(1, 0), when(1, &made, &[])]), 17, 16).finds(&["slot 3", "location 1"]),
         of("check-17-function", &calling(&[function(1, 0, &[init(5, 0)])], &[]), 17, 8).finds(&["slot 5", "parameter 0"]),
         of("check-17-argument-moved", &calling(&[moves], &[]), 17, 8).finds(&["slot 0", "parameter 1"]),
         of("check-17-then", &around(when(1, &made, &[])), 17, 19).finds(&["slot 3", "location 1"]),

@@ -17,7 +17,8 @@ pub fn cases() -> Vec<Case> {
 fn others() -> Vec<Case> {
     let elsewhere = calling(&[function(2, 1, &[])], &[init(2, 4), call(0, &[3, 5], &[2])]);
     vec![
-        case("why-accepted", why(&grid(), &program_a(), 1)).says(&["accepted: program on device for job 1", "commands: 5"]),
+        case("why-accepted", why(&grid(), &program_a(), 1)).says(&["accepted: program on device for job 1", "commands: 5", "left live: 0"]),
+        case("why-live", why(&grid(), &program_live(), 1)).says(&["commands: 4", "left live: 1\n  slot 1 at location 2, made at line 4\nnothing to explain\n"]),
         case("why-16", why(&grid(), &elsewhere, 1)).refused(16, 15).finds(&["slot 2", "location 4", "location 3"]),
         case("why-08", why(&grid(), &[only(&[]), vec![0]].concat(), 1)).refused(8, 8),
         case("why-05", why(&grid()[..28], &program_a(), 1)).refused(5, 0).finds(&["28"]),

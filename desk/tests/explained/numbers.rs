@@ -184,20 +184,24 @@ fn arguments_that_are_elsewhere() {
 
 #[test]
 fn qubits_that_outlive_their_block() {
-    let main = on_g(&only(&[init(0, 4), init(1, 5), free(0)]));
-    main.is(
+    let then = on_g(&only(&[boolean(0, 1), init(2, 3), when(0, &[init(3, 4), init(1, 5), free(3)], &[])]));
+    then.is(
         17,
-        6,
-        &["asked: main ends without a qubit", "found: at the block's end slot 1 holds a qubit at location 5, made at line 4", "2 | main\n  | ^^^^\n"],
+        16,
+        &[
+            "asked: a block of an if or a while ends",
+            "found: at the block's end slot 1 holds a qubit at location 5, made at line 7",
+            "5 |   if 0\n  |   ^^^^\n",
+        ],
     );
-    main.on_line(2, "main");
+    then.on_line(5, "if 0");
     on_g(&calling(&[function(2, 1, &[init(3, 1)])], &[])).is(
         17,
         8,
         &["asked: the body of a function ends", "slot 3 holds a qubit at parameter 1, made at line 3"],
     );
     let otherwise = on_g(&only(&[boolean(0, 1), when(0, &[], &[init(1, 5)])]));
-    otherwise.is(17, 15, &["asked: a block ends", "5 |   else\n  |   ^^^^\n"]).on_line(5, "else");
+    otherwise.is(17, 15, &["asked: a block of an if or a while ends", "only main itself may leave qubits live", "5 |   else\n  |   ^^^^\n"]).on_line(5, "else");
     let moved = on_g(&only(&[init(1, 4), boolean(0, 1), refer(2, 0), repeat(2, &[free(1), init(1, 5)])]));
     moved.is(17, 19, &["slot 1 holds a qubit at location 5, made at line 8; when the block began its qubit was at location 4"]).on_line(6, "while 2");
 }

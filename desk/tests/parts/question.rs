@@ -92,7 +92,7 @@ fn for_job(job: u64) -> Vec<String> {
 
 fn of_check(command: &str, device: &[u8], program: &[u8], job: u64) -> Question {
     let counted = Job::try_from(job).and_then(|job| abwakiris::check(device, program, job));
-    let answer = Answer::of(counted.map(|count| vec![("job", job.into()), ("count", count.into())]));
+    let answer = Answer::of(counted.map(|counted| vec![("job", job.into()), ("count", counted.count.into()), ("live", counted.live.into())]));
     let mut question = Question::new(&[command, "device", "program"], vec![("device", device.to_vec()), ("program", program.to_vec())], answer);
     question.words.extend(for_job(job));
     question

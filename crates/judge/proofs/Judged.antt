@@ -74,7 +74,8 @@ module _ (R : Region) (p : Program) where
   unfolding _>>=_
   judgeable s live r e = go (typeProgram (R .owned) p) refl e
     where
-      go : (m : Check (Typed device)) → typeProgram (R .owned) p ≡ m → _≡_ {A = Check ℕ} (ok live) (m >>= λ t. ok (liveIn (t .env))) → Judgeable live
+      go : (m : Check (Typed device)) → typeProgram (R .owned) p ≡ m
+          → _≡_ {A = Check ℕ} (ok live) (m >>= λ t. ok (liveIn (t .env))) → Judgeable live
       go (ok d) q e = record { typed = d; types = q; derives = exact-typing (R .owned) (length s) p d (well-read s p r) .0 q; leaves = cc }
       go (refused y) q e = ok-not-refused e
 
@@ -94,7 +95,8 @@ module _ (R : Region) (p : Program) where
       main-count : c .main ≡ cap (sizeOf (j .typed .commands))
       main-count = C .main ∙ ap cap (sym commands-size)
 
-      pub no-commands : (f : ℕ) → f < length (p .functions) → getD (c .memory .counts) f 0 ≡ 0 → sizeOf (signature (j .derives .signatures) f .commands) ≡ 0
+      pub no-commands : (f : ℕ) → f < length (p .functions) → getD (c .memory .counts) f 0 ≡ 0
+          → sizeOf (signature (j .derives .signatures) f .commands) ≡ 0
       no-commands f h z = zero-capped _ (sym (C .functions f h) ∙ z)
 
       pub too-many : 65535 < c .main → refused (refusal 20 0) ≡ judged R p
@@ -109,11 +111,13 @@ module _ (R : Region) (p : Program) where
       few : c .main ≤ 65535 → leb (sizeOf (j .typed .commands)) 65535 ≡ true
       few h = le-leb _ _ (rw (count-is h) at h)
 
-      pub no-path : c .main ≤ 65535 → (x : Refusal) → _≡_ {A = Check (Unit {0})} (refused x) (walk R (R .owned) (j .typed .commands) >> ok tt) → refused x ≡ judged R p
+      pub no-path : c .main ≤ 65535 → (x : Refusal) → _≡_ {A = Check (Unit {0})} (refused x) (walk R (R .owned) (j .typed .commands) >> ok tt)
+          → refused x ≡ judged R p
       unfolding _>>_ _>>=_
       no-path h x e = go (walk R (R .owned) (j .typed .commands)) refl e
         where
-          go : (m : Check (List Bool)) → walk R (R .owned) (j .typed .commands) ≡ m → _≡_ {A = Check (Unit {0})} (refused x) (m >> ok tt) → refused x ≡ judged R p
+          go : (m : Check (List Bool)) → walk R (R .owned) (j .typed .commands) ≡ m → _≡_ {A = Check (Unit {0})} (refused x) (m >> ok tt)
+              → refused x ≡ judged R p
           go (ok L) q e = ok-not-refused (sym e)
           go (refused y) q e = rw (j .types, few h, q) (refused-as e)
 
@@ -124,6 +128,7 @@ module _ (R : Region) (p : Program) where
       unfolding _>>_ _>>=_
       accepted h e = go (walk R (R .owned) (j .typed .commands)) refl e
         where
-          go : (m : Check (List Bool)) → walk R (R .owned) (j .typed .commands) ≡ m → _≡_ {A = Check (Unit {0})} (ok tt) (m >> ok tt) → ok answer ≡ judged R p
+          go : (m : Check (List Bool)) → walk R (R .owned) (j .typed .commands) ≡ m → _≡_ {A = Check (Unit {0})} (ok tt) (m >> ok tt)
+              → ok answer ≡ judged R p
           go (ok L) q e = ap ok (λ i. record { count = count-is h i; live = j .leaves i }) ∙ sym (rw (j .types, few h, q) refl)
           go (refused y) q e = ok-not-refused e

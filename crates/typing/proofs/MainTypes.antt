@@ -68,7 +68,8 @@ some-owned s = record { owned = λ x. go x (decLt x 256) }
     go x (no l) = high-off s x (omega arith) ∙ sym (List·getD-eq-default (upTo 0 256 (has s)) false {n = x} (omega (arith, length-upTo 0 256 (has s))))
 
 -- main's block by its statements
-main-closed : (C : Context device) (Γ : Environment device) (x : Block device) → typeMain C Γ x ≡ (typeStatements C Γ (inBlock x) >>= λ d. ok (closed Γ d))
+main-closed : (C : Context device) (Γ : Environment device) (x : Block device)
+    → typeMain C Γ x ≡ (typeStatements C Γ (inBlock x) >>= λ d. ok (closed Γ d))
 main-closed C Γ (block o ts) = refl
 
 module _ {owned : LocationSet} {R : Region} (own : Owned R owned) where
@@ -80,7 +81,8 @@ module _ {owned : LocationSet} {R : Region} (own : Owned R owned) where
       go (yes k) = k
       go (no k) = absurd (true≢false (sym h ∙ own .owned l ∙ List·getD-eq-default (R .owned) false (omega arith)))
 
-  pub start-is : {env : Env} → env .cells ≡ replicate 32 (record { slot = Unbound }) → env .free ≡ owned → EnvIs (length (R .owned)) env (start (R .owned))
+  pub start-is : {env : Env} → env .cells ≡ replicate 32 (record { slot = Unbound }) → env .free ≡ owned
+      → EnvIs (length (R .owned)) env (start (R .owned))
   start-is {env} c f = record {
     cells = ap (λ (cs : List Cell). length cs) c;
     long = refl;

@@ -151,7 +151,8 @@ Block-need need = (t : ℕ) → need (type-block-claims t) (type-block-at t) typ
 abbrev If-need : (type-if-lts.Claims → In 1 type-if-kinds.ps → Out 1 type-if-kinds.ps type-if-kinds.r → Type 0) → Type 0
 If-need need = (t : ℕ) → need (type-if-claims t) (type-if-at t) type-if.Post
 
-abbrev Statement-need : (type-statement-lts.Claims → In 1 type-statement-kinds.ps → Out 1 type-statement-kinds.ps type-statement-kinds.r → Type 0) → Type 0
+abbrev Statement-need : (type-statement-lts.Claims → In 1 type-statement-kinds.ps
+    → Out 1 type-statement-kinds.ps type-statement-kinds.r → Type 0) → Type 0
 Statement-need need = (t : ℕ) → need (type-statement-claims t) (type-statement-at t) type-statement.Post
 
 abbrev Statements-need : (type-statements-lts.Claims → In 1 type-statements-kinds.ps → Out 1 type-statements-kinds.ps type-statements-kinds.r

@@ -1,4 +1,5 @@
 // The public calls with their promises, and their exports.
+#![tactic(auto)]
 pub mod checks;
 mod jobs;
 pub mod listings;

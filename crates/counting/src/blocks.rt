@@ -12,7 +12,7 @@ use rules::bytes::{wide, word_at};
 use rules::statements::fixed_size;
 
 // What a statement or a block counts, the position after it, and what is remembered then.
-#[derive(Drop)]
+#[derive(Clone, Copy)]
 pub struct Sum {
     pub count: usize,
     pub next: usize,

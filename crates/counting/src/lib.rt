@@ -1,4 +1,5 @@
 // The command count of a read program.
+#![tactic(auto)]
 ghost use Rattle.std.specs.Prelude.{◌≡◌, ℕ, ◌≤◌, ◌<◌, get_or};
 ghost use Rattle.rules.specs.Syntax.{Program};
 ghost use Rattle.program.specs.In.{ProgramIn};
@@ -12,13 +13,13 @@ mod blocks;
 mod sums;
 
 // What the count found for each function: at most 65,536, or 65,537 where it has not been looked for.
-#[derive(Drop)]
+#[derive(Clone, Copy)]
 pub struct Memory {
     pub counts: [usize; 16],
 }
 
 // The count of main, at most 65,536, and those of the functions.
-#[derive(Drop)]
+#[derive(Clone, Copy)]
 pub struct Counted {
     pub main: usize,
     pub memory: Memory,

@@ -1,4 +1,5 @@
 // The reader of device files, and the region of a job.
+#![tactic(auto)]
 ghost use Rattle.std.specs.Prelude.{◌≡◌, ◌≤◌};
 ghost use Rattle.answers.specs.declared.File.TheVariants.{Device};
 ghost use Rattle.answers.specs.Check.{within};
@@ -15,7 +16,7 @@ mod owners;
 pub mod region;
 
 // A device's numbers, or the refusal.
-#[derive(Drop)]
+#[derive(Clone, Copy)]
 pub enum DeviceAnswer {
     Read(DeviceHeader),
     Refused(Refusal),

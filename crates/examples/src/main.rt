@@ -1,4 +1,5 @@
 // Runs the examples of the rules that are not proved as a table, and one of each refusal, a line for each.
+#![tactic(auto)]
 mod calls;
 mod files;
 mod grid;

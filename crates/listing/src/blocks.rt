@@ -8,7 +8,7 @@ use rules::bytes::{wide, word_at};
 use rules::statements::fixed_size;
 
 // Where the text ends, and where the block or statement does.
-#[derive(Drop)]
+#[derive(Clone, Copy)]
 pub struct Ends {
     pub text: usize,
     pub next: usize,

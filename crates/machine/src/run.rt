@@ -12,7 +12,7 @@ use rules::device::DeviceHeader;
 use steps::step::start;
 
 // How a run ends: with this map, and so many steps of each job moved.
-#[derive(Drop)]
+#[derive(Clone, Copy)]
 pub struct Ended {
     pub map: [u8; 256],
     pub moved: Moved,

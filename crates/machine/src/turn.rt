@@ -9,14 +9,14 @@ use steps::job::Job;
 use steps::step::step;
 
 // What a job brings besides the bytes of its program and the rows of its region: its functions, and its own locations.
-#[derive(Drop)]
+#[derive(Clone, Copy)]
 pub struct Seat {
     pub functions: FunctionTable,
     pub owned: LocationSet,
 }
 
 // The machine: one occupancy map of the whole device, and each job's own state.
-#[derive(Drop)]
+#[derive(Clone, Copy)]
 pub struct Machine {
     pub map: [u8; 256],
     pub first: Job,
@@ -24,14 +24,14 @@ pub struct Machine {
 }
 
 // A step taken: the job after it, and its record.
-#[derive(Drop)]
+#[derive(Clone, Copy)]
 pub struct Taken {
     pub job: Job,
     pub record: Record,
 }
 
 // A turn taken: the machine after it, and its record.
-#[derive(Drop)]
+#[derive(Clone, Copy)]
 pub struct Turned {
     pub machine: Machine,
     pub record: Record,

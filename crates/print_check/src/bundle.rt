@@ -4,7 +4,7 @@ ghost use Rattle.rules.specs.Basics.{word as Basics·word};
 ghost use Rattle.print_check.specs.Printed.{bundle_of};
 
 // The lengths of a bundle's device and program.
-#[derive(Drop)]
+#[derive(Clone, Copy)]
 pub enum Bundle {
     Files(usize, usize),
     Bad,

@@ -1,5 +1,6 @@
 // Reads a bundle, a device and a program, from standard input, checks the program for job 1, and writes one line:
 // `OK`, the count and the number left live, `NO`, number and place, or `BAD` where the bundle does not fit.
+#![tactic(auto)]
 mod bundle;
 mod text;
 

@@ -13,7 +13,7 @@ use answers::Refusal;
 use rules::bytes;
 
 // Read up to a position, or refused.
-#[derive(Drop)]
+#[derive(Clone, Copy)]
 pub enum Past {
     At(usize),
     Refused(Refusal),

@@ -10,7 +10,7 @@ use rules::bytes;
 use rules::program::{FunctionHeader, FunctionHeaderAnswer, ProgramHeader};
 
 // How many functions there are, and for each its k, its m and the place of its body's length word.
-#[derive(Drop)]
+#[derive(Clone, Copy)]
 pub struct FunctionTable {
     pub count: usize,
     pub ks: [u8; 16],
@@ -45,7 +45,7 @@ impl FunctionTable {
 }
 
 // What reading the functions gives: the position after the last one, or the refusal; and the table.
-#[derive(Drop)]
+#[derive(Clone, Copy)]
 pub struct Functions {
     pub past: Past,
     pub table: FunctionTable,

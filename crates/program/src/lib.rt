@@ -1,4 +1,5 @@
 // The reader of program files: heads, body offsets and main's offset of a file that reads, or the first refusal.
+#![tactic(auto)]
 ghost use Rattle.std.specs.Prelude.{◌≡◌, List, ◌≤◌, length};
 ghost use Rattle.answers.specs.Check.{ok, ◌>>◌ as ◌then◌, within};
 ghost use Rattle.answers.specs.Said.{read_said};
@@ -18,7 +19,7 @@ pub mod functions;
 pub mod operands;
 
 // What a read gives: the answer, and where it is readable the functions and main's length word.
-#[derive(Drop)]
+#[derive(Clone, Copy)]
 pub struct ReadProgram {
     pub answer: ReadAnswer,
     pub functions: FunctionTable,

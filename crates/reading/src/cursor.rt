@@ -7,7 +7,7 @@ ghost use Rattle.reading.specs.Hearing.{NextWord, Expects, Indents, Numbers, Ont
 use crate::words;
 
 // What became of a line: it begins nothing; it is unfinished and begins a line; or it has been read up to a position.
-#[derive(Drop)]
+#[derive(Clone, Copy)]
 pub enum Reading {
     Not,
     Begun,
@@ -15,7 +15,7 @@ pub enum Reading {
 }
 
 // The word at `at`: none is left; it is unfinished; or it ends at a position.
-#[derive(Drop)]
+#[derive(Clone, Copy)]
 pub enum Word {
     Nothing,
     Unfinished,
@@ -97,7 +97,7 @@ pub fn indent(text: &[u8], at: usize, end: usize, stop: usize, depth: usize, liv
 }
 
 // A number that was read, with the position behind its word.
-#[derive(Drop)]
+#[derive(Clone, Copy)]
 pub enum Number {
     Not,
     Begun,

@@ -7,7 +7,7 @@ use super::words::{low, rest};
 use sets::{LocationSet, rows};
 
 // The locations that are left, and the level that comes next.
-#[derive(Drop)]
+#[derive(Clone, Copy)]
 pub struct Front {
     pub left: LocationSet,
     pub next: LocationSet,

@@ -1,4 +1,5 @@
 // The route search over a region's rows of bits: how many edges the route between two ends has, and the route itself.
+#![tactic(auto)]
 ghost use Rattle.std.specs.Prelude.{◌≡◌, ◌<◌};
 ghost use Rattle.rules.specs.Region.{Region};
 ghost use Rattle.rules.specs.Path.{route};
@@ -19,7 +20,7 @@ mod turn;
 mod words;
 
 // What a search for a route answers: how many locations it wrote, that there is no path, or that the buffer is too short.
-#[derive(Drop)]
+#[derive(Clone, Copy)]
 pub enum Found {
     Written(usize),
     NoPath,

@@ -9,7 +9,7 @@ use sets::LocationSet;
 
 // What is left after a turn, what the new level is joined to, some word of the level that is not 0, or 0 where the level has no location, and
 // whether it meets the other end's set. Where it does the turn stops, and only that is said.
-#[derive(Drop)]
+#[derive(Clone, Copy)]
 pub struct Turn {
     pub left: LocationSet,
     pub joined: LocationSet,

@@ -3,7 +3,7 @@ ghost use Rattle.std.specs.Prelude.{◌≡◌, ◌+◌, ◌≤◌, ◌<◌};
 ghost use Rattle.rules.specs.Table.{size_of, operand_at};
 
 // What an operand byte is. A call's k and m are its callee's.
-#[derive(Drop)]
+#[derive(Clone, Copy)]
 pub enum Operand {
     Slot,
     Location,

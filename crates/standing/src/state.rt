@@ -4,7 +4,7 @@ ghost use Rattle.standing.specs.Numbers.{fresh_of, begun_of, added_of, opened_of
 
 // Up to where the file's bytes go, and how many more it will have at least: a due else and main each have a length word.
 // Open blocks by depth, the outermost first: whether an else is due, and where the length word stands.
-#[derive(Drop)]
+#[derive(Clone, Copy)]
 pub struct Standing {
     pub started: bool, // the first line has been read
     pub in_main: bool, // main's line has been read

@@ -19,13 +19,13 @@ use standing::rows;
 use standing::state::Standing;
 
 // What became of a line, and the program behind it where it was read.
-#[derive(Drop)]
+#[derive(Clone, Copy)]
 pub struct Line {
     pub said: Heard,
     pub state: Standing,
 }
 
-#[derive(Drop)]
+#[derive(Clone, Copy)]
 pub enum Heard {
     Not,
     Begun,
@@ -33,7 +33,7 @@ pub enum Heard {
 }
 
 // What became of a statement's operands, and the first of them.
-#[derive(Drop)]
+#[derive(Clone, Copy)]
 pub struct Operands {
     pub said: Reading,
     pub first: usize,

@@ -15,7 +15,7 @@ use rules::place::Location;
 use sets::LocationSet;
 
 // What a call asks is granted, or refused with the reason.
-#[derive(Drop)]
+#[derive(Clone, Copy)]
 pub enum Asked {
     Granted,
     Refused(u8),

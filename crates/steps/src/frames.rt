@@ -7,14 +7,14 @@ use crate::slots::Slots;
 use rules::place::{Location, Parameter};
 
 // Statements to come: from a position to a block's end.
-#[derive(Drop)]
+#[derive(Clone, Copy)]
 pub struct Range {
     pub at: u16,
     pub end: u16,
 }
 
 // The first `n` ranges are in use. In a function the places are the call's locations, and `call` is the call's offset.
-#[derive(Drop)]
+#[derive(Clone, Copy)]
 pub struct Frame {
     pub slots: Slots,
     pub ranges: [Range; 8],

@@ -5,7 +5,7 @@ ghost use Rattle.steps.specs.State.{frame_at, with_top, entering, leaving, locat
 use crate::frames::Frame;
 use rules::place::{Location, Parameter};
 
-#[derive(Drop)]
+#[derive(Clone, Copy)]
 pub struct Job {
     pub top: Frame,
     pub below: [Frame; 15],

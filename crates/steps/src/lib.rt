@@ -1,4 +1,5 @@
 // The steps of a job over the bytes of its read program.
+#![tactic(auto)]
 ghost use Rattle.std.specs.Prelude.{◌≡◌, ◌<◌};
 ghost use Rattle.steps.specs.Stepping.{stuck_at, moved_at};
 
@@ -21,7 +22,7 @@ pub mod slots;
 pub mod step;
 
 // What a step does to the occupancy map.
-#[derive(Drop)]
+#[derive(Clone, Copy)]
 pub enum Act {
     Quiet,
     Takes(Location),
@@ -29,7 +30,7 @@ pub enum Act {
 }
 
 // What a step tells: 0 moved, 1 finished or the reason; the edges of a moved merge; the item's offset.
-#[derive(Drop)]
+#[derive(Clone, Copy)]
 pub struct Record {
     pub code: u8,
     pub edges: u8,
@@ -37,7 +38,7 @@ pub struct Record {
 }
 
 // A step: the job after it, what it tells, and what it does to the map.
-#[derive(Drop)]
+#[derive(Clone, Copy)]
 pub struct Stepped {
     pub job: Job,
     pub record: Record,

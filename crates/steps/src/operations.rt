@@ -10,13 +10,13 @@ use rules::place::Location;
 use sets::LocationSet;
 
 // What an operation tells: that it moved, with the edges of a merge, or the reason why it is stuck.
-#[derive(Drop)]
+#[derive(Clone, Copy)]
 pub enum Told {
     Moved(u8),
     Stuck(u8),
 }
 
-#[derive(Drop)]
+#[derive(Clone, Copy)]
 pub struct Performed {
     pub slots: Slots,
     pub told: Told,

@@ -5,7 +5,7 @@ ghost use Rattle.steps.specs.State.{place_of, slot_of, slots_of, placed_said, va
 
 use rules::place::Location;
 
-#[derive(Drop)]
+#[derive(Clone, Copy)]
 pub enum Slot {
     Unbound,
     Qubit(Location),
@@ -13,25 +13,25 @@ pub enum Slot {
     Reference(bool),
 }
 
-#[derive(Drop)]
+#[derive(Clone, Copy)]
 pub struct Cell {
     pub slot: Slot,
 }
 
-#[derive(Drop)]
+#[derive(Clone, Copy)]
 pub struct Slots {
     pub cells: [Cell; 32],
 }
 
 // Where the qubit of a slot is, if it holds one.
-#[derive(Drop)]
+#[derive(Clone, Copy)]
 pub enum Placed {
     At(Location),
     Nowhere,
 }
 
 // The bool of a slot or of its reference, if it holds one.
-#[derive(Drop)]
+#[derive(Clone, Copy)]
 pub enum Value {
     Of(bool),
     Missing,

@@ -8,7 +8,7 @@ use super::slots::QUBIT;
 use sets::LocationSet;
 
 // The numbers 8 * f + i for which function f ends with its argument i: a set of numbers below 256 serves, since f is below 15 and i below 8.
-#[derive(Drop)]
+#[derive(Clone, Copy)]
 pub struct Endings {
     pub kept: LocationSet,
 }

@@ -12,14 +12,14 @@ use answers::Refusal;
 use program::blocks::Past;
 use sets::LocationSet;
 
-#[derive(Drop)]
+#[derive(Clone, Copy)]
 pub struct Env {
     pub cells: [Cell; 32],
     pub free: LocationSet,
 }
 
 // Typed up to a position with this environment, or refused.
-#[derive(Drop)]
+#[derive(Clone, Copy)]
 pub struct Outcome {
     pub answer: Past,
     pub env: Env,

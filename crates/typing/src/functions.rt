@@ -19,7 +19,7 @@ use rules::bytes::wide;
 use sets::LocationSet;
 
 // What the functions end with, or the first refusal in them.
-#[derive(Drop)]
+#[derive(Clone, Copy)]
 pub struct Learnt {
     pub answer: ReadAnswer,
     pub endings: Endings,

@@ -1,4 +1,5 @@
 // Typing of a read program: the first refusal of its bodies, functions in file order and then main; else how many qubits main leaves live.
+#![tactic(auto)]
 ghost use Rattle.std.specs.Prelude.{◌≡◌};
 ghost use Rattle.device.specs.Reader.{Owned};
 ghost use Rattle.program.specs.In.{ProgramIn};
@@ -29,7 +30,7 @@ mod slots;
 mod statements;
 
 // The answer of typing: the number left live.
-#[derive(Drop)]
+#[derive(Clone, Copy)]
 pub enum LiveAnswer {
     Live(usize),
     Refused(Refusal),

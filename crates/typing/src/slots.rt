@@ -7,7 +7,7 @@ ghost use Rattle.typing.specs.Stands.{kind_of};
 
 use rules::bytes::wide;
 
-#[derive(Drop)]
+#[derive(Clone, Copy)]
 pub enum Slot {
     Unbound,
     Qubit(u8),
@@ -15,7 +15,7 @@ pub enum Slot {
     Reference,
 }
 
-#[derive(Drop)]
+#[derive(Clone, Copy)]
 pub struct Cell {
     pub slot: Slot,
 }

@@ -97,6 +97,7 @@ module _ {s : Side} (ρ : Place s → Place device) where
       → distinct xs ≡ true → ((j : ℕ) → j < length xs → Settled (f (i + j)) (g (i + j)) (at ls j))
       → Fits (stored (up_to i (length xs) f) xs Γ.slots) (set_all unbound (without (up_to i (length xs) g) xs) χ)
   fits_back i f g [] ls F no_more d h = F
+  fits_back {Γ = Γ} {χ = χ} i f g (x ∷ xs) [] F a d h = elim a [ ]
   fits_back {Γ = Γ} {χ = χ} i f g (x ∷ xs) (l ∷ ls) F (and e r) d h =
       go (f i) (g i) (rw (add-zero i) at (h 0 (omega arith)))
       (fits_back (suc i) f g xs ls F r (distinct_tail x xs d) (λ j k. rw (suc-add i j, ← (add-suc i j)) (h (suc j) (omega arith))))

@@ -238,6 +238,7 @@ module _ {s : Side} where
   pub argument_at_lem : {Γ : Env s} (xs : List ℕ) (ls : List (Place s)) (i : ℕ) → Arguments Γ xs ls → i < length xs
       → slot Γ.slots (get_or xs i 0) ≡ qubit (at ls i)
   argument_at_lem [] ls i a h = absurd (omega arith)
+  argument_at_lem {Γ = Γ} (x ∷ xs) [] i a h = elim a [ ]
   argument_at_lem (x ∷ xs) (l ∷ ls) zero (and p r) h = p
   argument_at_lem (x ∷ xs) (l ∷ ls) (suc i) (and p r) h = argument_at_lem xs ls i r (omega arith)
 

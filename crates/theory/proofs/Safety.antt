@@ -301,7 +301,7 @@ module _ (R : Region) (fs : List Function) (len : ℕ) (last-free : List Bool) w
   connects_repeat : {L M : List Bool} {a : Commands device} → Connects R L (repeat a ε) M → Connects R L a L × (L ≡ M)
   connects_repeat (C-Loop p C-Empty) = (p, refl)
 
-  connects_split : {s : Side} (ρ : Place s → Place device) (c d : Commands s) {L M : List Bool} → Connects R L (commands_at ρ (c then d)) M
+  connects_split : {s : Side} (ρ : Place s → Place device) (c d : Commands s) {L M : List Bool} → Connects R L (commands_at ρ (◌then◌ c d)) M
       → (K : List Bool) × Connects R L (commands_at ρ c) K × Connects R K (commands_at ρ d) M
   connects_split ρ ε d {L = L} r = (L, C-Empty, r)
   connects_split ρ (alloc q l c) d (C-Alloc h r) = let (K, p, q) = connects_split ρ c d r in (K, C-Alloc h p, q)
@@ -315,7 +315,8 @@ module _ (R : Region) (fs : List Function) (len : ℕ) (last-free : List Bool) w
       → Rest N s B Γ L φs (statements_before B.actual ts is)
   rest_statements {N = N} {s = s} {B = B} {Γ = Γ} done {φs = φs} {is = is} T-Unit w r =
       subst (λ (L : List Bool). Rest N s B Γ L φs is) (sym (connects_nil w)) r
-  rest_statements {B = B} (t ⨾ ts) (T-Seq {c = c} {d = d} j k) w r = let (K, p, q) = connects_split B.place c d w in next j p (rest_statements ts k q r)
+  rest_statements {N = N} {s = s} {B = B} {Γ = Γ} {Δ = Δ} (t ⨾ ts) {L = L} {M = M} {φs = φs} {is = is} (T-Seq {Δ = Δ'} {c = c} {d = d} j k) w r =
+      let (K, p, q) = connects_split B.place c d w in next j p (rest_statements {Γ = Δ'} ts k q r)
 
   pub rest_block : {N : List Bool} {s : Side} {B : Body s} {Γ Δ : Env s} (b : Block s) {c : Commands s} {L M : List Bool} {φs : List Frame} {is : List Item}
       → BlockRule B.context Γ b Δ c → Connects R L (commands_at B.place c) M → Rest N s B Δ M φs is
@@ -674,21 +675,25 @@ module _ (R : Region) (fs : List Function) (len : ℕ) (last-free : List Bool) w
         };
       }
 
+  connects_from : {L N M : List Bool} {c : Commands device} → L ≡ N → Connects R L c M → Connects R N c M
+  connects_from {M = M} {c = c} e w = subst (λ (K : List Bool). Connects R K c M) e w
+
   -- 9. Every step of a job whose state is typed moves or finds it finished, and leaves its state typed.
   module _ (v : Bool) (is_free : ℕ → Bool) where
-    rest_moves : {N : List Bool} {s : Side} {B : Body s} {Γ : Env s} {φ : Frame} {φs : List Frame} {i : Item} {is : List Item}
-        → ((l : ℕ) → get_or N l false ≡ true → is_free l ≡ true) → Good B Γ N φ → Rest N s B Γ N φs (i ∷ is) → Moves v is_free N φ φs i is
-    rest_moves {B = B} {Γ = Γ} {φ = φ} more G (close Γ₀ r) =
-        rest_moves more (kept_good v is_free more G (fits_narrowed B.place Γ₀.slots Γ.slots φ G.fits)) r
-    rest_moves more G (next (T-Op j) w r) = op_moves v is_free more G j w r
-    rest_moves {N = N} {s = s} {B = B} {Γ = Γ} {φs = φs} {is = is} more G (next {M = M} (T-Call {f = f} {ls = ls} {xs = xs} A) w r) =
+    rest_moves : {N L : List Bool} {s : Side} {B : Body s} {Γ : Env s} {φ : Frame} {φs : List Frame} {i : Item} {is : List Item}
+        → ((l : ℕ) → get_or N l false ≡ true → is_free l ≡ true) → L ≡ N → Rest N s B Γ L φs (i ∷ is) → Good B Γ N φ → Moves v is_free N φ φs i is
+    rest_moves {B = B} {Γ = Γ} {φ = φ} more e (close Γ₀ r) G =
+        rest_moves more e r (kept_good v is_free more G (fits_narrowed B.place Γ₀.slots Γ.slots φ G.fits))
+    rest_moves more e (next (T-Op j) w r) G = op_moves v is_free more G j (connects_from e w) r
+    rest_moves {N = N} {s = s} {B = B} {Γ = Γ} {φs = φs} {is = is} more e (next {M = M} (T-Call {f = f} {ls = ls} {xs = xs} A) w r) G =
         let callee : Callee f (signature B.context.functions f) = known_at f G.known A.earlier in
         call_moves v is_free more G A callee
-        (subst (λ (h : Signature). Connects R N (commands_at B.place (commands_at (λ p. at ls p.no) h.commands)) M) callee.is w)
+        (subst (λ (h : Signature). Connects R N (commands_at B.place (commands_at (λ p. at ls p.no) h.commands)) M) callee.is (connects_from e w))
         (subst (λ (h : Signature). Rest N s B (substituted h ls xs Γ) M φs is) callee.is r)
-    rest_moves more G (next (T-If {b = b} {b' = b'} p j k) w r) = if_moves v is_free more G b b' p j k w r
-    rest_moves more G (next (T-While {b = b} p j) w r) = while_moves v is_free more G b p j w r
-    rest_moves more G (back w h r) = return_moves v is_free G w h r
+    rest_moves more e (next (T-If {b = b} {b' = b'} p j k) w r) G = if_moves v is_free more G b b' p j k (connects_from e w) r
+    rest_moves more e (next (T-While {b = b} p j) w r) G = while_moves v is_free more G b p j (connects_from e w) r
+    rest_moves {N = N} more e (back {Δ = Δ} {φs = φs} {is = is} w h r) G =
+        return_moves v is_free G w h (subst (λ (K : List Bool). Rest N w.s w.B (resumed w Δ) K φs is) e r)
 
     pub record Fine (N : List Bool) (S : Stepped) : Type 0 where
       pub unstuck : leb S.answer.code 1 ≡ true
@@ -702,7 +707,7 @@ module _ (R : Region) (fs : List Function) (len : ℕ) (last-free : List Bool) w
         → ((l : ℕ) → get_or N l false ≡ true → is_free l ≡ true) → Good B Γ N φ → Rest N s B Γ N φs is
         → Fine N (step_items R fs v is_free φ φs is)
     fine_items {s = s} {B = B} {Γ = Γ} φ φs [] more G r = record { unstuck = refl; inv = record { s = s; B = B; Γ = Γ; good = G; rest = r } }
-    fine_items φ φs (i ∷ is) more G r = moved (rest_moves more G r)
+    fine_items φ φs (i ∷ is) more G r = moved (rest_moves more refl r G)
 
     pub fine_step : (N : List Bool) (J : Job) → ((l : ℕ) → get_or N l false ≡ true → is_free l ≡ true) → Inv N J → Fine N (step R fs v is_free J)
     fine_step N J more I = fine_items J.top J.below J.items more I.good I.rest

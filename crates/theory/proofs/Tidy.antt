@@ -275,6 +275,7 @@ module _ (R : Region) (fs : List Function) (v w : Bool) (is_open : ℕ → Bool)
 
   stuck_move : (J : Job) (o : ℕ) (m n : Check Move) → Likewise Both m n → 2 ≤ (stepped J o m).answer.code → Stays J (stepped J o m) (stepped J o n)
   stuck_move J o (refused r) (refused q) refuse h = (refl, refl, refl)
+  stuck_move J o (refused r) (ok n) l h = elim l [ ]
   stuck_move J o (ok m) n l h = absurd (omega arith)
 
   stuck_items : (φ : Frame) (φs : List Frame) (is : List Item) → 2 ≤ (step_items R fs v is_open φ φs is).answer.code

@@ -120,6 +120,8 @@ weight_row S b r e xs o =
 mutual
   raw_short : (S : Scope) (d : ℕ) (r : Raw) → Good S d r → (n : ℕ) → n + d ≤ 8 → (t : List Line)
       → length (written (raw_lines n r ++ t)) ≤ 16 * length (raw_bytes r) + length (written t)
+  raw_short S zero (fork b xs q u) given n l t = elim given [ ]
+  raw_short S zero (loop b xs q) given n l t = elim given [ ]
   raw_short S d (plain b xs) (good_plain r f row m o) n l t =
       let w : (weight (raw_line b xs) ≤ 8 + 4 * length xs) × (1 ≤ length xs) = weight_row S b r row xs o in
       let e = length_indented n (name_of b) (said (operands_in (row_of b)) xs) (written t) in

@@ -237,6 +237,8 @@ module _ (s : List ℕ) where
       unfolding ◌>>=◌ ◌>>◌
 
       read_raw : (d : ℕ) (r : Raw) → Good (stubbed S) d r → (i e : ℕ) → At s i (raw_bytes r) → i + length (raw_bytes r) ≤ e → ReadOne d i e r
+      read_raw zero (fork b xs q t) given i e a l = elim given [ ]
+      read_raw zero (loop b xs q) given i e a l = elim given [ ]
       read_raw d (plain b xs) (good_plain r f row m o) i e a l =
           let a' : At s i (b ∷ (xs ++ [])) = subst (λ (z : List ℕ). At s i (b ∷ z)) (sym (append-nil xs)) a in
           let z : size r ≡ suc (length xs) = size_xs (stubbed S) r xs o in (

@@ -130,6 +130,8 @@ Ran p ls p' = (q : Sofar) × (run (sofar p) ls ≡ some (sofar q)) × Closes q p
 -- a tree's first line is at its depth
 starts_at : (n : ℕ) (S : Scope) (d : ℕ) (r : Raw) → Good S d r
     → (x : ℕ) × (w : Text) × (ws : List Text) × (ls : List Line) × (raw_lines n r ≡ indented n ((x ∷ w) ∷ ws) ∷ ls)
+starts_at n S zero (fork b xs q t) given = elim given [ ]
+starts_at n S zero (loop b xs q) given = elim given [ ]
 starts_at n S d (plain b xs) (good_plain r f row e h) =
     let N : (x : ℕ) × (w : Text) × (name_of b ≡ x ∷ w) = name_filled b r row in
     (N.0, N.1, said (operands_in (row_of b)) xs, [], ap (λ (v : Text). indented n (v ∷ said (operands_in (row_of b)) xs) ∷ []) N.2)
@@ -176,6 +178,8 @@ mutual
       → length bs + d ≡ 7
       → least (state S a (b ∷ bs) bytes) + length (raw_bytes r) ≤ 4096
       → Ran (state S a (b ∷ bs) bytes) (raw_lines (suc (length bs)) r) (state S a (b ∷ bs) (bytes ++ raw_bytes r))
+  run_raw S a zero (fork c xs q t) given b bs bytes n l = elim given [ ]
+  run_raw S a zero (loop c xs q) given b bs bytes n l = elim given [ ]
   run_raw S a d (plain c xs) (good_plain r f row e h) b bs bytes n l =
       let p : Sofar = state S a (b ∷ bs) bytes in
       let z : size r ≡ suc (length xs) = size_xs S r xs h in

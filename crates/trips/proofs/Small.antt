@@ -71,6 +71,8 @@ row_byte b r e = let h : (i : ℕ) × (b ≡ suc i) × (i < length table) = byte
 module _ (S : Scope) (sm : Small S) where
   mutual
     raw_bytes_lem : (d : ℕ) (r : Raw) → Good S d r → length (raw_bytes r) < 65536 → Bytes (raw_bytes r)
+    raw_bytes_lem zero (fork b xs q t) given l = elim given [ ]
+    raw_bytes_lem zero (loop b xs q) given l = elim given [ ]
     raw_bytes_lem d (plain b xs) (good_plain r f row m o) l = (row_byte b r row, operands_bytes S sm r.operands xs o)
     raw_bytes_lem d (called b xs ls ms) (good_called r row m o hl hm) l = (
       row_byte b r row,

@@ -14,7 +14,7 @@ import re
 import sys
 
 TOKEN = r"[^\s(){}.;,@\"«»\[\]\\`]+"
-OWN_CODE = re.compile(r"^Rattle\.(\w+)\.(?:specs|proofs)\.(?!.*(?:declared|TheVariants|Goals|Given|Tie|Statement|Lts|Reads))")
+OWN_CODE = re.compile(r"^Rattle\.(\w+)\.(?:specs|proofs)\.(?!.*\b(?:declared|TheVariants|Goals|Given|Tie|Statement|Lts|Reads)\b)")
 SIGNATURE = re.compile(r"^ *(?:(?:abbrev|unfoldable|opaque|private|pub) )*([^\s:(){},.;]+) : ", re.M)
 FIELDS = re.compile(r"^ +(?:pub )?([^\s:(){},.;]+(?: [^\s:(){},.;]+)*) : ", re.M)
 

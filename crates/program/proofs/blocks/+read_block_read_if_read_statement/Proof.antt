@@ -9,8 +9,8 @@ use Rattle.rules.specs.Syntax.{Side}
 use Rattle.rules.specs.Program.{Scope}
 use Rattle.program.specs.Reader.{Behind, block_past}
 use Rattle.program.proofs.PastLaws.{said_refused, said_at, said_no, between_refused, between_none, between_at, between_past, between_wider}
-use Rattle.program.proofs.StatementLaws.{st-zero, st-high, st-refused, st-simple, st-bool, st-while, st-if, st-if-refused, st-call}
-use Rattle.program.proofs.StatementLaws.{fixed-between, fixed-past, call_fits}
+use Rattle.program.proofs.StatementLaws.{st_zero, st_high, st_refused, st_simple, st_bool, st_while, st_if, st_if_refused, st_call}
+use Rattle.program.proofs.StatementLaws.{fixed_between, fixed_past, call_fits}
 use Rattle.program.proofs.BlockLaws.{rest_past, block_short, block_deep, block_long, block_enter, rest_end, rest_more, rest_refused}
 use borrow.Fn.Kinds.{In, Out}
 use borrow.Fn.PlainCycle.{Measures, is, falls, and}
@@ -220,7 +220,7 @@ read-if-enum-known-p t c = search rules
 read-if-read-block-requires : If-need read-if-lts.Need-read-block-requires
 read-if-read-block-requires t c κs =
     let b = c.before in
-    let w = fixed-past _ _ _ _ b.before.before.fixed-part.ensures.1 _ (omega arith) (omega arith) b.p.given.1 in omega arith
+    let w = fixed_past _ _ _ _ b.before.before.fixed-part.ensures.1 _ (omega arith) (omega arith) b.p.given.1 in omega arith
 
 read-if-enum-known-q : If-need read-if-lts.Need-enum-known-q
 read-if-enum-known-q t c = search rules
@@ -228,7 +228,7 @@ read-if-enum-known-q t c = search rules
 read-if-read-block-requires-2 : If-need read-if-lts.Need-read-block-requires-2
 read-if-read-block-requires-2 t c κs =
     let b = c.before.before.before.before.before in
-    let w = fixed-past _ _ _ _ b.before.before.fixed-part.ensures.1 _ (omega arith) (omega arith) b.p.given.1 in
+    let w = fixed_past _ _ _ _ b.before.before.fixed-part.ensures.1 _ (omega arith) (omega arith) b.p.given.1 in
     let v = between_past _ _ _ _ c.before.q.given.1 c.before.before.before.read_block_lem.ensures.1 in omega arith
 
 read-if-enum-known-x : If-need read-if-lts.Need-enum-known-x
@@ -242,9 +242,9 @@ read-if-returns t c =
     let then = c.before.before in
     let fixed = then.before.before.before.before in
     let b = fixed.before.before in
-    let w = fixed-past _ _ _ _ b.fixed-part.ensures.1 _ (omega arith) (omega arith) fixed.p.given.1 in
+    let w = fixed_past _ _ _ _ b.fixed-part.ensures.1 _ (omega arith) (omega arith) fixed.p.given.1 in
     let v = between_past _ _ _ _ then.q.given.1 then.before.before.read_block_lem.ensures.1 in (
-      (λ d S h. c.read-block2.ensures.0 d S h ∙ sym (st-if _ _ _ _ _ _ _ _ b.before.before.requires.1.2
+      (λ d S h. c.read-block2.ensures.0 d S h ∙ sym (st_if _ _ _ _ _ _ _ _ b.before.before.requires.1.2
           (said_at _ _ _ fixed.p.given.1 (b.fixed-part.ensures.0 S h))
           (said_at _ _ _ then.q.given.1 (then.before.before.read_block_lem.ensures.0 d S h)))),
       between_wider _ _ _ _ _ (omega arith) (omega arith) c.read-block2.ensures.1,
@@ -254,7 +254,7 @@ read-if-returns-2 : If-need read-if-lts.Need-returns-2
 read-if-returns-2 t c =
     let fixed = c.before.before.before.before.before in
     let b = fixed.before.before in (
-      (λ d S h. sym (st-if-refused _ _ _ _ _ _ _ _ b.before.before.requires.1.2
+      (λ d S h. sym (st_if_refused _ _ _ _ _ _ _ _ b.before.before.requires.1.2
           (said_at _ _ _ fixed.p.given.1 (b.fixed-part.ensures.0 S h))
           (said_no _ _ _ c.before.x.given.1 (c.before.before.before.read_block_lem.ensures.0 d S h)))),
       between_none _ _ _,
@@ -263,7 +263,7 @@ read-if-returns-2 t c =
 read-if-returns-3 : If-need read-if-lts.Need-returns-3
 read-if-returns-3 t c =
     let b = c.before.before.before in (
-      (λ d S h. sym (st-refused _ _ _ _ _ _ _ (omega arith) (omega arith)
+      (λ d S h. sym (st_refused _ _ _ _ _ _ _ (omega arith) (omega arith)
           (said_no _ _ _ c.before.x2.given.1 (b.fixed-part.ensures.0 S h)))),
       between_none _ _ _,
     )
@@ -286,7 +286,7 @@ read-statement-enum-known-p t c = search rules
 read-statement-read-block-requires : Statement-need read-statement-lts.Need-read-block-requires
 read-statement-read-block-requires t c κs =
     let b = c.before in
-    let w = fixed-past _ _ _ _ b.before.before.fixed-part.ensures.1 _ (omega arith) (omega arith) b.p.given.1 in omega arith
+    let w = fixed_past _ _ _ _ b.before.before.fixed-part.ensures.1 _ (omega arith) (omega arith) b.p.given.1 in omega arith
 
 read-statement-enum-known-x : Statement-need read-statement-lts.Need-enum-known-x
 read-statement-enum-known-x t c = search rules
@@ -319,7 +319,7 @@ read-statement-refused-requires-2 t c κs = search rules
 read-statement-returns : Statement-need read-statement-lts.Need-returns
 read-statement-returns t c =
     let r = c.refused.ensures in
-    ((λ d S h. said_refused _ _ _ r (st-zero _ _ _ _ _ _ c.before.match.keys1)), between_refused _ _ _ _ r)
+    ((λ d S h. said_refused _ _ _ r (st_zero _ _ _ _ _ _ c.before.match.keys1)), between_refused _ _ _ _ r)
 
 read-statement-returns-2 : Statement-need read-statement-lts.Need-returns-2
 read-statement-returns-2 t c = search rules
@@ -327,8 +327,8 @@ read-statement-returns-2 t c = search rules
 read-statement-returns-3 : Statement-need read-statement-lts.Need-returns-3
 read-statement-returns-3 t c =
     let b = c.before.before.before.before in
-    let w = fixed-past _ _ _ _ b.fixed-part.ensures.1 _ (omega arith) (omega arith) c.before.before.p.given.1 in (
-      (λ d S h. c.read_block_lem.ensures.0 d S h ∙ sym (st-while _ _ _ _ _ _ _ b.before.match.keys3
+    let w = fixed_past _ _ _ _ b.fixed-part.ensures.1 _ (omega arith) (omega arith) c.before.before.p.given.1 in (
+      (λ d S h. c.read_block_lem.ensures.0 d S h ∙ sym (st_while _ _ _ _ _ _ _ b.before.match.keys3
           (said_at _ _ _ c.before.before.p.given.1 (b.fixed-part.ensures.0 S h)))),
       between_wider _ _ _ _ _ (omega arith) (omega arith) c.read_block_lem.ensures.1,
     )
@@ -336,7 +336,7 @@ read-statement-returns-3 t c =
 read-statement-returns-4 : Statement-need read-statement-lts.Need-returns-4
 read-statement-returns-4 t c =
     let b = c.before.before.before in (
-      (λ d S h. sym (st-refused _ _ _ _ _ _ _ (omega arith) (omega arith)
+      (λ d S h. sym (st_refused _ _ _ _ _ _ _ (omega arith) (omega arith)
           (said_no _ _ _ c.before.x.given.1 (b.fixed-part.ensures.0 S h)))),
       between_none _ _ _,
     )
@@ -344,7 +344,7 @@ read-statement-returns-4 t c =
 read-statement-returns-5 : Statement-need read-statement-lts.Need-returns-5
 read-statement-returns-5 t c =
     let b = c.before.before.before in (
-      (λ d S h. c.call-list.ensures.0 ∙ sym (st-call _ _ _ _ _ _ _ _ b.before.match.keys4
+      (λ d S h. c.call-list.ensures.0 ∙ sym (st_call _ _ _ _ _ _ _ _ b.before.match.keys4
           (said_at _ _ _ c.before.enum_told.given.1 (b.fixed-part2.ensures.0 S h)) h.places_are)),
       c.call-list.ensures.1,
     )
@@ -352,7 +352,7 @@ read-statement-returns-5 t c =
 read-statement-returns-6 : Statement-need read-statement-lts.Need-returns-6
 read-statement-returns-6 t c =
     let b = c.before.before.before in (
-      (λ d S h. sym (st-refused _ _ _ _ _ _ _ (omega arith) (omega arith)
+      (λ d S h. sym (st_refused _ _ _ _ _ _ _ (omega arith) (omega arith)
           (said_no _ _ _ c.before.x2.given.1 (b.fixed-part2.ensures.0 S h)))),
       between_none _ _ _,
     )
@@ -360,22 +360,22 @@ read-statement-returns-6 t c =
 read-statement-returns-7 : Statement-need read-statement-lts.Need-returns-7
 read-statement-returns-7 t c =
     let f = c.fixed-part3.ensures in
-    ((λ d S h. f.0 S h ∙ sym (st-bool _ _ _ _ _ _ c.before.match.keys5)), fixed-between _ _ _ _ f.1 (omega arith) (omega arith))
+    ((λ d S h. f.0 S h ∙ sym (st_bool _ _ _ _ _ _ c.before.match.keys5)), fixed_between _ _ _ _ f.1 (omega arith) (omega arith))
 
 read-statement-returns-8 : Statement-need read-statement-lts.Need-returns-8
 read-statement-returns-8 t c =
     let f = c.fixed-part4.ensures in
-    ((λ d S h. f.0 S h ∙ sym (st-simple _ _ _ _ _ _ (omega arith) (omega arith))), fixed-between _ _ _ _ f.1 (omega arith) (omega arith))
+    ((λ d S h. f.0 S h ∙ sym (st_simple _ _ _ _ _ _ (omega arith) (omega arith))), fixed_between _ _ _ _ f.1 (omega arith) (omega arith))
 
 read-statement-returns-9 : Statement-need read-statement-lts.Need-returns-9
 read-statement-returns-9 t c =
     let f = c.fixed-part5.ensures in
-    ((λ d S h. f.0 S h ∙ sym (st-simple _ _ _ _ _ _ (omega arith) (omega arith))), fixed-between _ _ _ _ f.1 (omega arith) (omega arith))
+    ((λ d S h. f.0 S h ∙ sym (st_simple _ _ _ _ _ _ (omega arith) (omega arith))), fixed_between _ _ _ _ f.1 (omega arith) (omega arith))
 
 read-statement-returns-10 : Statement-need read-statement-lts.Need-returns-10
 read-statement-returns-10 t c =
     let r = c.refused2.ensures in
-    ((λ d S h. said_refused _ _ _ r (st-high _ _ _ _ _ _ (omega arith))), between_refused _ _ _ _ r)
+    ((λ d S h. said_refused _ _ _ r (st_high _ _ _ _ _ _ (omega arith))), between_refused _ _ _ _ r)
 
 pub +read-block-read-if-read-statement-spec : {M : Type 1} → statement M
 +read-block-read-if-read-statement-spec =

@@ -2,7 +2,7 @@
 use mathlib.Core.Path.{refl, sym, ap, ◌∙◌}
 use native.Mathlib.Omega.{arith}
 use Rattle.answers.specs.Said.{read_said}
-use Rattle.typing.proofs.CallStatements.{call_at, call-refused, call-goes}
+use Rattle.typing.proofs.CallStatements.{call_at, call_refused, call_goes}
 use borrow.Author.Rules.{rules}
 use Rattle.typing.proofs.calls.type_call.Statement.{statement}
 use Rattle.typing.proofs.calls.type_call.Tie as tie
@@ -38,10 +38,10 @@ goes-requires : tie.Need-goes-requires
 goes-requires c κs = search rules
 
 returns : tie.Need-returns
-returns c = λ t. call-refused t c.before.before.before.before.before.requires.1 (ap read_said (sym c.before.asked.given.1) ∙ c.before.before.before.asks.ensures t.side t.places t.context t.entry t.within t.is) refl
+returns c = λ t. call_refused t c.before.before.before.before.before.requires.1 (ap read_said (sym c.before.asked.given.1) ∙ c.before.before.before.asks.ensures t.side t.places t.context t.entry t.within t.is) refl
 
 returns-2 : tie.Need-returns-2
-returns-2 c = λ t. call-goes t c.before.before.before.before.before.before.before.before.requires.1 (ap read_said (sym c.before.before.before.before.enum_told.given.1) ∙ c.before.before.before.before.before.before.asks.ensures t.side t.places t.context t.entry t.within t.is) c.before.before.operand.ensures.0 c.before.operand2.ensures.0 (λ q. c.before.before.before.after_call.ensures t.side t.places t.entry _ t.is q) c.goes.ensures
+returns-2 c = λ t. call_goes t c.before.before.before.before.before.before.before.before.requires.1 (ap read_said (sym c.before.before.before.before.enum_told.given.1) ∙ c.before.before.before.before.before.before.asks.ensures t.side t.places t.context t.entry t.within t.is) c.before.before.operand.ensures.0 c.before.operand2.ensures.0 (λ q. c.before.before.before.after_call.ensures t.side t.places t.entry _ t.is q) c.goes.ensures
 
 pub type-call-spec : {M : Type 1} → statement M
 type-call-spec = tie.close (tie.spec asks-requires enum-known-asked enum_told after-call-requires add_goes operand-requires add-goes-2 operand-requires-2 add-goes-3 goes-requires returns returns-2)

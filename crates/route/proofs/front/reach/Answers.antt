@@ -1,0 +1,18 @@
+-- One member's step.
+use mathlib.Core.Bool.{◌&&◌}
+use mathlib.Core.Path.{ap, ◌∙◌}
+use Rattle.sets.specs.Sets.{has}
+use Rattle.route.proofs.Swept.{spread_skip, spread_more}
+use Rattle.route.proofs.front.reach.Goals as goal
+
+pub returns : goal.returns
+returns c =
+    let b = c in
+    let a = b.args in
+    let o = c.common-new in
+    let r = c.row.ensures in
+    let k = c.note.ensures in record {
+      long = k.long ∙ b.requires.hop_len;
+      on = λ S L h n p l f u. spread_more (spread_skip u a.x l f) c.without.result c.union.result o.result p
+          (λ y. o.ensures y ∙ ap (λ z. has z y && has a.f.left y) r) k c.without.ensures c.union.ensures;
+    }

@@ -1,0 +1,10 @@
+-- The arguments below i are remembered.
+use Prim.Native.Nat.{◌≤◌, ◌-◌}
+use Rattle.typing.specs.Functions.{Remembers}
+use Rattle.typing.proofs.endings.Endings.remember.Given as goal
+
+abbrev pub invariant-loop-i : goal.invariant-loop-i
+invariant-loop-i l = (l.i ≤ l.m) × Remembers (record { l.kept = l.initial.kept }) l.f l.i l.env (record { l.kept = l.kept })
+
+abbrev pub decreases-loop-i : goal.decreases-loop-i
+decreases-loop-i l = l.m - l.i

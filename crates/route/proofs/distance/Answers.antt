@@ -2,7 +2,10 @@ use mathlib.Core.Bool.{Bool, false, ◌&&◌}
 use mathlib.Core.Logic.{inl}
 use mathlib.Core.Path.{◌≡◌, refl, sym, ap, ◌∙◌}
 use native.Mathlib.Omega.{arith}
+use mathlib.Core.List.{List}
 use Prim.Native.Nat.{ℕ, ◌<◌}
+use Rattle.sets.specs.declared.LocationSet.{LocationSet}
+use Rattle.route.specs.declared.turn.Turn.{Turn}
 use Rattle.sets.specs.Sets.{has}
 use Rattle.sets.proofs.SetLaws.{has_lt}
 use Rattle.route.specs.Found.{edges_of}
@@ -44,8 +47,8 @@ loop-other-init c =
     (omega arith, λ R w. inl (turn_start w s.result t.result i s.ensures t.ensures e))
 
 -- the new level
-abbrev level : goal.After-advance-turn → ℕ → Bool
-level c y = has c.loop-other.joined y && has c.loop-other.left y
+abbrev level : LocationSet → LocationSet → ℕ → Bool
+level joined left y = has joined y && has left y
 
 pub overflow_add-k : goal.overflow_add-k
 overflow_add-k c = omega (arith, c.loop-other.invariant.0)
@@ -56,9 +59,9 @@ returns-then-turn c =
         c.if-a-b.false in
     let inner : Inner (has c.args.free) c.args.a c.args.b (has c.remove-left.result) =
         inner_of c.remove.result c.remove-left.result c.remove.ensures c.remove-left.ensures in
-    let turned : Turned c.args.rows.now (level c) (has c.loop-other.other) (has c.loop-other.left) 256
+    let turned : Turned c.args.rows.now (level c.loop-other.joined c.loop-other.left) (has c.loop-other.other) (has c.loop-other.left) 256
     c.advance-turn.result.left c.advance-turn.result.joined c.advance-turn.result.any c.advance-turn.result.met =
-        c.advance-turn.ensures (level c) (λ y. refl) in
+        c.advance-turn.ensures (level c.loop-other.joined c.loop-other.left) (λ y. refl) in
     let v = c in
     let l = v.loop-other in
     let d = v in
@@ -75,9 +78,9 @@ returns-then-turn-eq0 c =
         c.if-a-b.false in
     let inner : Inner (has c.args.free) c.args.a c.args.b (has c.remove-left.result) =
         inner_of c.remove.result c.remove-left.result c.remove.ensures c.remove-left.ensures in
-    let turned : Turned c.args.rows.now (level c) (has c.loop-other.other) (has c.loop-other.left) 256
+    let turned : Turned c.args.rows.now (level c.loop-other.joined c.loop-other.left) (has c.loop-other.other) (has c.loop-other.left) 256
     c.advance-turn.result.left c.advance-turn.result.joined c.advance-turn.result.any c.advance-turn.result.met =
-        c.advance-turn.ensures (level c) (λ y. refl) in
+        c.advance-turn.ensures (level c.loop-other.joined c.loop-other.left) (λ y. refl) in
     let v = c in
     let l = v.loop-other in
     let d = v in
@@ -88,26 +91,28 @@ returns-then-turn-eq0 c =
     }
 
 -- a level takes one at least
-shrinks : (c : goal.After-advance-turn) → c.advance-turn.result.met ≡ false → (c.advance-turn.result.any ≡ 0 → ⊥)
-    → count (has c.advance-turn.result.left) 256 < count (has c.loop-other.left) 256
-shrinks c m a =
-    let l = c.loop-other in
-    let u = (turned c).on m in
+shrinks : (rows : List ℕ) (joined other left : LocationSet) (turn : Turn) → Turned rows (level joined left) (has other) (has left) 256 turn.left turn.joined turn.any turn.met
+    → turn.met ≡ false → (turn.any ≡ 0 → ⊥) → count (has turn.left) 256 < count (has left) 256
+shrinks rows joined other left turn turned m a =
+    let u = turned.on m in
     let t = u.some a in
-    let n = level_left (has l.joined) (has l.left) (λ y. refl) t.0 t.1 in
-    set_less (level c) l.left c.advance-turn.result.left (all_taken (has l.joined) l.left (λ y. refl) u) t.0 t.1 n.1
+    let n = level_left (has joined) (has left) (λ y. refl) t.0 t.1 in
+    set_less (level joined left) left turn.left (all_taken (has joined) left (λ y. refl) u) t.0 t.1 n.1
 
 pub loop-other-smaller : goal.loop-other-smaller
-loop-other-smaller c = shrinks c c.if-turn.false c.if-turn-eq0.false
+loop-other-smaller c =
+    let l = c.loop-other in
+    shrinks c.args.rows.now l.joined l.other l.left c.advance-turn.result (c.advance-turn.ensures (level l.joined l.left) (λ y. refl)) c.if-turn.false
+    c.if-turn-eq0.false
 
 pub loop-other-preserved : goal.loop-other-preserved
 loop-other-preserved c =
-    let turned : Turned c.args.rows.now (level c) (has c.loop-other.other) (has c.loop-other.left) 256
+    let turned : Turned c.args.rows.now (level c.loop-other.joined c.loop-other.left) (has c.loop-other.other) (has c.loop-other.left) 256
     c.advance-turn.result.left c.advance-turn.result.joined c.advance-turn.result.any c.advance-turn.result.met =
-        c.advance-turn.ensures (level c) (λ y. refl) in
+        c.advance-turn.ensures (level c.loop-other.joined c.loop-other.left) (λ y. refl) in
     let v = c in
     let l = v.loop-other in
-    let z = shrinks v c.if-turn.false c.if-turn-eq0.false in
+    let z = shrinks c.args.rows.now l.joined l.other l.left c.advance-turn.result turned c.if-turn.false c.if-turn-eq0.false in
     let u = turned.on c.if-turn.false in (
       omega (arith, l.invariant.0),
       λ R w. turns_next w v.advance-turn.result.joined (l.invariant.1 R w) (λ y. refl) (level_lt (has l.joined) l.left (λ y. refl) u)

@@ -9,7 +9,7 @@ use Rattle.route.proofs.distance.Given as goal
 
 abbrev pub invariant-loop-other : goal.invariant-loop-other
 invariant-loop-other l = (l.k + count (has l.left) 256 ≤ 255)
-    × ((R : Region) → Rows R l.rows → Turns (joined R) (has l.initial.left) l.a l.b (has l.joined₁) (has l.other) (has l.left) l.k)
+    × ((R : Region) → Rows R l.rows → Turns (joined R) (has l.initial.left) l.a l.b (has l.joined) (has l.other) (has l.left) l.k)
 
 abbrev pub decreases-loop-other : goal.decreases-loop-other
 decreases-loop-other l = count (has l.left) 256

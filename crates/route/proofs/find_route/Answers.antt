@@ -6,13 +6,13 @@ pub returns-then-k-eq0 : goal.returns-then-k-eq0
 returns-then-k-eq0 c =
     let s = c.search-k in
     let a = c.args in
-    λ R w. none_answered s.new.1.1.1.1.0 a.a s.result a.out.now (s.ensures.0 R w) c.if-k-eq0.true
+    λ R w. none_answered s.new.hop a.a s.result a.out.now (s.ensures.b_value R w) c.if-k-eq0.true
 
 pub returns-then-out-k : goal.returns-then-out-k
 returns-then-out-k c =
     let s = c.search-k in
     let a = c.args in
-    λ R w. short_answered s.new.1.1.1.1.0 a.a s.result a.out.now (s.ensures.0 R w) c.if-k-eq0.false c.if-out-k.true
+    λ R w. short_answered s.new.hop a.a s.result a.out.now (s.ensures.b_value R w) c.if-k-eq0.false c.if-out-k.true
 
 pub returns : goal.returns
 returns c =
@@ -21,4 +21,4 @@ returns c =
     let a = e.args in
     let i = c.if-out-k.false in
     let t = c.trace.ensures in
-    λ R w. written_answered s.new.1.1.1.1.0 a.a s.result a.out.now _ (s.ensures.0 R w) e.if-k-eq0.false i t
+    λ R w. written_answered s.new.hop a.a s.result a.out.now _ (s.ensures.b_value R w) e.if-k-eq0.false i t

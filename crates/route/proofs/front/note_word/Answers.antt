@@ -40,7 +40,7 @@ returns c =
     let a = c.args in
     let l = c.loop-w in
     let u = l.invariant.2 in
-    let s = set_word a.t1 a.i c.requires.i_bound in record {
+    let s = set_word a.s a.i c.requires.i_bound in record {
       long = l.invariant.0;
       on = λ h k. noted_skip (l.invariant.3 _ h s k) _ (let f = u.room in omega arith) (rest_end u s c.loop-w-test.false);
     }

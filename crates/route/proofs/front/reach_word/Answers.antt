@@ -11,7 +11,7 @@ pub overflow_add-x : goal.overflow_add-x
 overflow_add-x c = omega (arith, c.low.ensures.small)
 
 pub reach-f-requires : goal.reach-f-requires
-reach-f-requires c = (omega (arith, c.low.ensures.small), c.loop-w.invariant.0)
+reach-f-requires c = record { x_bound = omega (arith, c.low.ensures.small); hop_len = c.loop-w.invariant.0 }
 
 pub loop-w-smaller : goal.loop-w-smaller
 loop-w-smaller c = c.rest-w.ensures.less
@@ -36,7 +36,7 @@ returns c =
     let a = c.args in
     let l = c.loop-w in
     let u = l.invariant.2 in
-    let s = set_word a.t2 a.i c.requires.i_bound in record {
+    let s = set_word a.s a.i c.requires.i_bound in record {
       long = l.invariant.0;
       on = λ L h v. spread_skip (l.invariant.3 _ L h s v) _ (let f = u.room in omega arith) (rest_end u s c.loop-w-test.false);
     }

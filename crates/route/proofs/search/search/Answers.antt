@@ -89,7 +89,7 @@ overflow_add-k c = omega (arith, c.loop-first.invariant.1)
 pub overflow_cast-hop-then-not-is_empty : goal.overflow_cast-hop-then-not-is_empty
 overflow_cast-hop-then-not-is_empty c =
     let meets : c.first_from.result < 256 =
-        let t = c.is_empty-in-loop-first.ensures.by_index (not_of _ c.if-not-is_empty.true) in
+        let t = c.is_empty-in-loop-first.ensures.by_index c.if-not-is_empty.true in
     first_in _ _ t.0 t.1 c.first_from.ensures in
     record { fits = meets }
 
@@ -110,7 +110,7 @@ returns-then-not-is_empty c =
     let s = c.remove-open in
     inner_whole (inner_of r.result s.result r.ensures s.ensures) level in
     let meets : c.first_from.result < 256 =
-        let t = c.is_empty-in-loop-first.ensures.by_index (not_of _ c.if-not-is_empty.true) in
+        let t = c.is_empty-in-loop-first.ensures.by_index c.if-not-is_empty.true in
     first_in _ _ t.0 t.1 c.first_from.ensures in
     let l = c.loop-first in
     let d = c in

@@ -1,5 +1,5 @@
 use native.Mathlib.Omega.{arith}
-use Prim.Native.Nat.{◌-◌}
+use Prim.Native.Nat.{◌-◌, ◌<◌}
 use Rattle.counting.proofs.Apart.{block_apart, byte_apart, if_apart, while_apart, call_apart, op_apart}
 use Rattle.counting.proofs.Along.{along_start, along_next, along_step, along_end}
 use Rattle.counting.proofs.Exits.{fewer, if_exit, while_exit, call_exit, op_exit, known_exit, counted_exit}
@@ -43,7 +43,11 @@ pub count_callee-recall-known-requires : goal.count_callee-recall-known-requires
 count_callee-recall-known-requires t c = let P = c.requires.1 in let a = P.enough in let b = P.few in omega arith
 
 pub count_callee-returns-then-known-le-MOST : goal.count_callee-returns-then-known-le-MOST
-count_callee-returns-then-known-le-MOST t c = let P = c.requires.1 in let a = P.enough in let b = P.few in record { found = (known_exit _ _ _ _ c.recall-known.result (omega arith) c.recall-known.ensures c.if-known-le-MOST.true).0; f_bound = (known_exit _ _ _ _ c.recall-known.result (omega arith) c.recall-known.ensures c.if-known-le-MOST.true).1 }
+count_callee-returns-then-known-le-MOST t c =
+    let P = c.requires.1 in
+    let small : c.args.f < 16 = let a = P.enough in let b = P.few in omega arith in
+    let e = known_exit _ _ _ _ c.recall-known.result small c.recall-known.ensures c.if-known-le-MOST.true in
+    record { found = e.0; f_bound = e.1 }
 
 pub count_callee-offset_bounds-bodies-f : goal.count_callee-offset_bounds-bodies-f
 count_callee-offset_bounds-bodies-f t c = let P = c.requires.1 in let a = P.enough in let b = P.few in omega arith

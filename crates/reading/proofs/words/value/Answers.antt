@@ -10,4 +10,4 @@ pub returns-in-Basis : goal.returns-in-Basis
 returns-in-Basis c = rw c.in-Basis.is c.gate-in-Basis.ensures.valued_2
 
 pub returns-in_default : goal.returns-in_default
-returns-in_default c = other_valued _ (search rules) c.in_default.in_default-own.keys3 _ _ c.number.ensures
+returns-in_default c = other_valued _ (search rules) (c.in_default.not-Gate, c.in_default.not-Basis) _ _ c.number.ensures

@@ -20,6 +20,6 @@ returns-in-Basis c =
 pub returns-in_default : goal.returns-in_default
 returns-in_default c =
     record {
-      value = other_number _ _ c.in_default.in_default-own.keys3;
+      value = other_number _ _ (c.in_default.not-Gate, c.in_default.not-Basis);
       upper_bound = omega arith;
     }

@@ -1,0 +1,26 @@
+-- The pass over nothing says how long the listing is; then 24, or the pass over the buffer.
+use Rattle.listing.proofs.Programs.{listing_is}
+use Rattle.listing.proofs.Writing.{short_exit, written_exit}
+use Rattle.listing.proofs.write_read.Goals as goal
+
+pub returns-then-out-n : goal.returns-then-out-n
+returns-then-out-n c =
+    let at-if1 = c in
+    let at-put-program = at-if1 in
+    let start = at-put-program in
+    let start = start in
+    let h = start.requires in
+    let e = listing_is start.args.s.now h.tree h.reads in
+    short_exit start.args.s.now start.args.out.now _ e _ _ (at-put-program.put_program-n.ensures _ e).end at-if1.if-out-n.true c.new.ensures
+
+pub returns : goal.returns
+returns c =
+    let at-put-program2 = c in
+    let at-if1 = at-put-program2 in
+    let at-put-program = at-if1 in
+    let start = at-put-program in
+    let start = start in
+    let h = start.requires in
+    let e = listing_is start.args.s.now h.tree h.reads in
+    written_exit start.args.s.now start.args.out.now _ e _ _ _ (at-put-program.put_program-n.ensures _ e).end at-if1.if-out-n.false
+    (at-put-program2.put_program.ensures _ e)

@@ -1,8 +1,10 @@
 -- A law for each arm.
-use mathlib.Core.Logic.{inl, inr, ⊎_elim}
+use mathlib.Core.Logic.{◌⊎◌, inl, inr}
+use Prim.Native.Nat.{◌<◌}
 use native.Mathlib.Omega.{arith}
 use Rattle.steps.proofs.Operate.{byte_there, init_there, free_there, gate_there, measure_there, merge_there, new_there, get_there, set_there, last_byte, constant_there, free_goes, new_goes, get_goes, set_goes, constant_goes, init_goes, measure_goes, merge_goes, gate_goes}
 use Rattle.steps.proofs.kinds.operate.Goals as goal
+use Rattle.steps.proofs.kinds.operate.Goals.{in_default-via-then-b-lt1, in_default-via-else-b-lt1+else-b-lt3}
 
 pub byte_of-b-requires : goal.byte_of-b-requires
 byte_of-b-requires c = byte_there c.requires
@@ -80,13 +82,31 @@ pub init-requires : goal.init-requires
 init-requires c = let f = init_there c.requires _ c.byte_of-b.ensures (omega (arith, c.in-1-to-2.if-b-lt3-own.true)) in omega (arith, f.1, c.operand-in-1-to-2.ensures.0)
 
 pub operand-requires-in_default : goal.operand-requires-in_default
-operand-requires-in_default c = let f = constant_there c.requires _ c.byte_of-b.ensures c.in_default-1.rest (⊎_elim (λ w. inl w.taken) (λ w. inr (omega (arith, w.1.left))) c.in_default.branch) in omega (arith, f.0)
+operand-requires-in_default c =
+    let low : (c.byte_of-b.result < 1) ⊎ (2 < c.byte_of-b.result) =
+        elim c.in_default.branch [
+          | in_default-via-then-b-lt1 w ↦ inl (omega arith)
+          | in_default-via-else-b-lt1+else-b-lt3 w ↦ inr (omega arith)
+        ] in
+    let f = constant_there c.requires _ c.byte_of-b.ensures c.in_default-1.rest low in omega (arith, f.0)
 
 pub byte_of-requires-in_default : goal.byte_of-requires-in_default
-byte_of-requires-in_default c = let f = constant_there c.requires _ c.byte_of-b.ensures c.in_default-1.rest (⊎_elim (λ w. inl w.taken) (λ w. inr (omega (arith, w.1.left))) c.in_default.branch) in omega (arith, f.0)
+byte_of-requires-in_default c =
+    let low : (c.byte_of-b.result < 1) ⊎ (2 < c.byte_of-b.result) =
+        elim c.in_default.branch [
+          | in_default-via-then-b-lt1 w ↦ inl (omega arith)
+          | in_default-via-else-b-lt1+else-b-lt3 w ↦ inr (omega arith)
+        ] in
+    let f = constant_there c.requires _ c.byte_of-b.ensures c.in_default-1.rest low in omega (arith, f.0)
 
 pub constant-requires : goal.constant-requires
-constant-requires c = let f = constant_there c.requires _ c.byte_of-b.ensures c.in_default-1.rest (⊎_elim (λ w. inl w.taken) (λ w. inr (omega (arith, w.1.left))) c.in_default.branch) in omega (arith, f.1, c.operand-in_default.ensures.0)
+constant-requires c =
+    let low : (c.byte_of-b.result < 1) ⊎ (2 < c.byte_of-b.result) =
+        elim c.in_default.branch [
+          | in_default-via-then-b-lt1 w ↦ inl (omega arith)
+          | in_default-via-else-b-lt1+else-b-lt3 w ↦ inr (omega arith)
+        ] in
+    let f = constant_there c.requires _ c.byte_of-b.ensures c.in_default-1.rest low in omega (arith, f.1, c.operand-in_default.ensures.0)
 
 pub returns-in-3 : goal.returns-in-3
 returns-in-3 c = free_goes _ _ _ _ _ _ _ _ _ c.byte_of-b.ensures _ c.operand.ensures.0 c.in-3.is c.free.ensures
@@ -113,4 +133,10 @@ pub returns-in-1-to-2 : goal.returns-in-1-to-2
 returns-in-1-to-2 c = init_goes _ _ _ _ _ _ _ _ _ c.byte_of-b.ensures _ c.operand-in-1-to-2.ensures.0 _ c.byte_of.ensures (omega (arith, c.in-1-to-2.if-b-lt3-own.true)) _ c.located.ensures c.init.ensures
 
 pub returns-in_default : goal.returns-in_default
-returns-in_default c = constant_goes _ _ _ _ _ _ _ _ _ c.byte_of-b.ensures _ c.operand-in_default.ensures.0 _ c.byte_of-in_default.ensures (last_byte c.requires _ c.byte_of-b.ensures c.in_default-1.rest (⊎_elim (λ w. inl w.taken) (λ w. inr (omega (arith, w.1.left))) c.in_default.branch)) c.constant.ensures
+returns-in_default c =
+    let low : (c.byte_of-b.result < 1) ⊎ (2 < c.byte_of-b.result) =
+        elim c.in_default.branch [
+          | in_default-via-then-b-lt1 w ↦ inl (omega arith)
+          | in_default-via-else-b-lt1+else-b-lt3 w ↦ inr (omega arith)
+        ] in
+    constant_goes _ _ _ _ _ _ _ _ _ c.byte_of-b.ensures _ c.operand-in_default.ensures.0 _ c.byte_of-in_default.ensures (last_byte c.requires _ c.byte_of-b.ensures c.in_default-1.rest low) c.constant.ensures

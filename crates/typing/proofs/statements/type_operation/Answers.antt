@@ -1,7 +1,7 @@
 -- Each arm has the statement of its byte, with its operands' bounds; the operation answers for it.
-use mathlib.Core.Logic.{inl, inr, ⊎_elim}
+use mathlib.Core.Logic.{◌⊎◌, inl, inr}
 use native.Mathlib.Omega.{arith}
-use Prim.Native.Nat.{◌+◌}
+use Prim.Native.Nat.{◌+◌, ◌≤◌, ◌<◌}
 use lib.Dec.{eqb}
 use Rattle.rules.specs.Basics.{byte}
 use Rattle.rules.specs.Syntax.{init, free, gate, measure, merge, new_ref, get_ref, set_ref, constant}
@@ -9,6 +9,7 @@ use Rattle.program.proofs.In.{statement_view, statement_byte}
 use Rattle.typing.proofs.Views.{shape_at, made}
 use Rattle.typing.proofs.OneStatement.{performed, placed, thirteen}
 use Rattle.typing.proofs.statements.type_operation.Goals as goal
+use Rattle.typing.proofs.statements.type_operation.Goals.{in_default-via-then-kind-lt1, in_default-via-else-kind-lt1+else-kind-lt3}
 
 pub bounds-s-at : goal.bounds-s-at
 bounds-s-at c = let y = statement_byte c.requires.statement_case.1.stands in omega arith
@@ -95,28 +96,46 @@ pub set_reference-requires : goal.set_reference-requires
 set_reference-requires c = let v = shape_at 9 (statement_view c.requires.statement_case.1.stands) c.in-9.is in (omega arith, omega arith)
 
 pub overflow_add-at-in-1-to-2 : goal.overflow_add-at-in-1-to-2
-overflow_add-at-in-1-to-2 c = let v = made (statement_view c.requires.statement_case.1.stands) c.if-kind-lt1.left c.in-1-to-2.if-kind-lt3-own.taken in omega arith
+overflow_add-at-in-1-to-2 c = let v = made (statement_view c.requires.statement_case.1.stands) c.in-1-to-2.if-kind-lt1-own.false c.in-1-to-2.if-kind-lt3-own.true in omega arith
 
 pub operand-requires-in-1-to-2 : goal.operand-requires-in-1-to-2
-operand-requires-in-1-to-2 c = let v = made (statement_view c.requires.statement_case.1.stands) c.if-kind-lt1.left c.in-1-to-2.if-kind-lt3-own.taken in omega arith
+operand-requires-in-1-to-2 c = let v = made (statement_view c.requires.statement_case.1.stands) c.in-1-to-2.if-kind-lt1-own.false c.in-1-to-2.if-kind-lt3-own.true in omega arith
 
 pub overflow_add-at-in-1-to-2-2 : goal.overflow_add-at-in-1-to-2-2
-overflow_add-at-in-1-to-2-2 c = let v = made (statement_view c.requires.statement_case.1.stands) c.if-kind-lt1.left c.in-1-to-2.if-kind-lt3-own.taken in omega arith
+overflow_add-at-in-1-to-2-2 c = let v = made (statement_view c.requires.statement_case.1.stands) c.in-1-to-2.if-kind-lt1-own.false c.in-1-to-2.if-kind-lt3-own.true in omega arith
 
 pub bounds-s-at-in-1-to-2 : goal.bounds-s-at-in-1-to-2
-bounds-s-at-in-1-to-2 c = let v = made (statement_view c.requires.statement_case.1.stands) c.if-kind-lt1.left c.in-1-to-2.if-kind-lt3-own.taken in omega arith
+bounds-s-at-in-1-to-2 c = let v = made (statement_view c.requires.statement_case.1.stands) c.in-1-to-2.if-kind-lt1-own.false c.in-1-to-2.if-kind-lt3-own.true in omega arith
 
 pub init-requires : goal.init-requires
-init-requires c = let v = made (statement_view c.requires.statement_case.1.stands) c.if-kind-lt1.left c.in-1-to-2.if-kind-lt3-own.taken in omega arith
+init-requires c = let v = made (statement_view c.requires.statement_case.1.stands) c.in-1-to-2.if-kind-lt1-own.false c.in-1-to-2.if-kind-lt3-own.true in omega arith
 
 pub overflow_add-at-in_default : goal.overflow_add-at-in_default
-overflow_add-at-in_default c = let v = shape_at 13 (statement_view c.requires.statement_case.1.stands) (let y = statement_byte c.requires.statement_case.1.stands in thirteen _ y.0 y.1 (⊎_elim (λ h. inl h.taken) (λ h. inr h.1.left) c.in_default.came) c.in_default-1.rest.0.0.0.0.0.0.1 c.in_default-1.rest.0.0.0.0.0.1 c.in_default-1.rest.0.0.0.0.1 c.in_default-1.rest.0.0.0.1 c.in_default-1.rest.0.0.1 c.in_default-1.rest.0.1 c.in_default-1.rest.1 c.requires.fact.0 c.requires.fact.1 c.requires.fact.2) in omega arith
+overflow_add-at-in_default c =
+    let low : (byte c.args.s.now c.args.at < 1) ⊎ (3 ≤ byte c.args.s.now c.args.at) =
+        elim c.in_default.branch [
+          | in_default-via-then-kind-lt1 w ↦ inl (omega arith)
+          | in_default-via-else-kind-lt1+else-kind-lt3 w ↦ inr (omega arith)
+        ] in
+    let v = shape_at 13 (statement_view c.requires.statement_case.1.stands) (let y = statement_byte c.requires.statement_case.1.stands in thirteen _ y.0 y.1 low c.in_default-1.rest.0.0.0.0.0.0.1 c.in_default-1.rest.0.0.0.0.0.1 c.in_default-1.rest.0.0.0.0.1 c.in_default-1.rest.0.0.0.1 c.in_default-1.rest.0.0.1 c.in_default-1.rest.0.1 c.in_default-1.rest.1 c.requires.fact.0 c.requires.fact.1 c.requires.fact.2) in omega arith
 
 pub operand-requires-in_default : goal.operand-requires-in_default
-operand-requires-in_default c = let v = shape_at 13 (statement_view c.requires.statement_case.1.stands) (let y = statement_byte c.requires.statement_case.1.stands in thirteen _ y.0 y.1 (⊎_elim (λ h. inl h.taken) (λ h. inr h.1.left) c.in_default.came) c.in_default-1.rest.0.0.0.0.0.0.1 c.in_default-1.rest.0.0.0.0.0.1 c.in_default-1.rest.0.0.0.0.1 c.in_default-1.rest.0.0.0.1 c.in_default-1.rest.0.0.1 c.in_default-1.rest.0.1 c.in_default-1.rest.1 c.requires.fact.0 c.requires.fact.1 c.requires.fact.2) in omega arith
+operand-requires-in_default c =
+    let low : (byte c.args.s.now c.args.at < 1) ⊎ (3 ≤ byte c.args.s.now c.args.at) =
+        elim c.in_default.branch [
+          | in_default-via-then-kind-lt1 w ↦ inl (omega arith)
+          | in_default-via-else-kind-lt1+else-kind-lt3 w ↦ inr (omega arith)
+        ] in
+    let v = shape_at 13 (statement_view c.requires.statement_case.1.stands) (let y = statement_byte c.requires.statement_case.1.stands in thirteen _ y.0 y.1 low c.in_default-1.rest.0.0.0.0.0.0.1 c.in_default-1.rest.0.0.0.0.0.1 c.in_default-1.rest.0.0.0.0.1 c.in_default-1.rest.0.0.0.1 c.in_default-1.rest.0.0.1 c.in_default-1.rest.0.1 c.in_default-1.rest.1 c.requires.fact.0 c.requires.fact.1 c.requires.fact.2) in omega arith
 
 pub constant-requires : goal.constant-requires
-constant-requires c = let v = shape_at 13 (statement_view c.requires.statement_case.1.stands) (let y = statement_byte c.requires.statement_case.1.stands in thirteen _ y.0 y.1 (⊎_elim (λ h. inl h.taken) (λ h. inr h.1.left) c.in_default.came) c.in_default-1.rest.0.0.0.0.0.0.1 c.in_default-1.rest.0.0.0.0.0.1 c.in_default-1.rest.0.0.0.0.1 c.in_default-1.rest.0.0.0.1 c.in_default-1.rest.0.0.1 c.in_default-1.rest.0.1 c.in_default-1.rest.1 c.requires.fact.0 c.requires.fact.1 c.requires.fact.2) in omega arith
+constant-requires c =
+    let low : (byte c.args.s.now c.args.at < 1) ⊎ (3 ≤ byte c.args.s.now c.args.at) =
+        elim c.in_default.branch [
+          | in_default-via-then-kind-lt1 w ↦ inl (omega arith)
+          | in_default-via-else-kind-lt1+else-kind-lt3 w ↦ inr (omega arith)
+        ] in
+    let v = shape_at 13 (statement_view c.requires.statement_case.1.stands) (let y = statement_byte c.requires.statement_case.1.stands in thirteen _ y.0 y.1 low c.in_default-1.rest.0.0.0.0.0.0.1 c.in_default-1.rest.0.0.0.0.0.1 c.in_default-1.rest.0.0.0.0.1 c.in_default-1.rest.0.0.0.1 c.in_default-1.rest.0.0.1 c.in_default-1.rest.0.1 c.in_default-1.rest.1 c.requires.fact.0 c.requires.fact.1 c.requires.fact.2) in omega arith
 
 pub returns-in-3 : goal.returns-in-3
 returns-in-3 c = λ e t. let v = shape_at 3 (statement_view t.stands) c.in-3.is in performed t (λ d. free c.operand.result) c.free.ensures (rw c.operand.ensures.0 v.2) v.3
@@ -140,7 +159,13 @@ pub returns-in-9 : goal.returns-in-9
 returns-in-9 c = λ e t. let v = shape_at 9 (statement_view t.stands) c.in-9.is in performed t (λ d. set_ref c.operand-in-9.result c.operand-in-9-2.result) c.set_reference.ensures (rw (c.operand-in-9.ensures.0, c.operand-in-9-2.ensures.0) v.3) v.4
 
 pub returns-in-1-to-2 : goal.returns-in-1-to-2
-returns-in-1-to-2 c = λ e t. let v = made (statement_view t.stands) c.if-kind-lt1.left c.in-1-to-2.if-kind-lt3-own.taken in placed t (λ d. init v.0 c.operand-in-1-to-2.result (record { no = byte c.args.s.now (c.args.at + 2) })) (c.init.ensures v.0) (rw c.operand-in-1-to-2.ensures.0 v.3) v.4
+returns-in-1-to-2 c = λ e t. let v = made (statement_view t.stands) c.in-1-to-2.if-kind-lt1-own.false c.in-1-to-2.if-kind-lt3-own.true in placed t (λ d. init v.0 c.operand-in-1-to-2.result (record { no = byte c.args.s.now (c.args.at + 2) })) (c.init.ensures v.0) (rw c.operand-in-1-to-2.ensures.0 v.3) v.4
 
 pub returns-in_default : goal.returns-in_default
-returns-in_default c = λ e t. let v = shape_at 13 (statement_view t.stands) (let y = statement_byte c.requires.statement_case.1.stands in thirteen _ y.0 y.1 (⊎_elim (λ h. inl h.taken) (λ h. inr h.1.left) c.in_default.came) c.in_default-1.rest.0.0.0.0.0.0.1 c.in_default-1.rest.0.0.0.0.0.1 c.in_default-1.rest.0.0.0.0.1 c.in_default-1.rest.0.0.0.1 c.in_default-1.rest.0.0.1 c.in_default-1.rest.0.1 c.in_default-1.rest.1 c.requires.fact.0 c.requires.fact.1 c.requires.fact.2) in performed t (λ d. constant c.operand-in_default.result (eqb (byte c.args.s.now (c.args.at + 2)) 1)) (c.constant.ensures (eqb (byte c.args.s.now (c.args.at + 2)) 1)) (rw c.operand-in_default.ensures.0 v.2) v.3
+returns-in_default c =
+    let low : (byte c.args.s.now c.args.at < 1) ⊎ (3 ≤ byte c.args.s.now c.args.at) =
+        elim c.in_default.branch [
+          | in_default-via-then-kind-lt1 w ↦ inl (omega arith)
+          | in_default-via-else-kind-lt1+else-kind-lt3 w ↦ inr (omega arith)
+        ] in
+    λ e t. let v = shape_at 13 (statement_view t.stands) (let y = statement_byte c.requires.statement_case.1.stands in thirteen _ y.0 y.1 low c.in_default-1.rest.0.0.0.0.0.0.1 c.in_default-1.rest.0.0.0.0.0.1 c.in_default-1.rest.0.0.0.0.1 c.in_default-1.rest.0.0.0.1 c.in_default-1.rest.0.0.1 c.in_default-1.rest.0.1 c.in_default-1.rest.1 c.requires.fact.0 c.requires.fact.1 c.requires.fact.2) in performed t (λ d. constant c.operand-in_default.result (eqb (byte c.args.s.now (c.args.at + 2)) 1)) (c.constant.ensures (eqb (byte c.args.s.now (c.args.at + 2)) 1)) (rw c.operand-in_default.ensures.0 v.2) v.3

@@ -3,6 +3,7 @@ use mathlib.Core.Logic.{inl, inr}
 use native.Mathlib.Omega.{arith}
 use Rattle.typing.proofs.LiveSlots.{counts_start, counts_one, counts_none, counts_all}
 use Rattle.typing.proofs.env.Env.live.Goals as goal
+use Rattle.typing.proofs.env.Env.live.Goals.{then-kind_at-ge-QUBIT, else-kind_at-ge-QUBIT}
 
 pub loop-slot-init : goal.loop-slot-init
 loop-slot-init c = (omega arith, omega arith, counts_start _)
@@ -13,8 +14,8 @@ loop-slot-preserved c =
     let more : l.slot < 32 = omega arith in
     let kind = c.kind_at.ensures.value in
     elim c.if-kind_at-ge-QUBIT.branch [
-      | inl h ↦ (omega arith, omega arith, counts_one l.invariant.2 more kind h.0.taken h.1)
-      | inr h ↦ (omega arith, omega arith, counts_none l.invariant.2 more kind h.0.left h.1)
+      | then-kind_at-ge-QUBIT w ↦ (omega arith, omega arith, counts_one l.invariant.2 more kind w.if-kind_at-ge-QUBIT.true w.n-is)
+      | else-kind_at-ge-QUBIT w ↦ (omega arith, omega arith, counts_none l.invariant.2 more kind w.if-kind_at-ge-QUBIT.false w.n-is)
     ]
 
 pub returns : goal.returns

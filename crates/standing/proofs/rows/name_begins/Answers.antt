@@ -1,0 +1,39 @@
+use mathlib.Core.Logic.{inl, inr}
+use native.Mathlib.Omega.{arith}
+use Prim.Native.Nat.{◌-◌}
+use Rattle.reading.specs.Cursor.{part}
+use Rattle.standing.proofs.Counted.{none_first, none_next, name_offered, name_found, name_not_begun, name_dead, name_none}
+use borrow.Author.Rules.{rules}
+use Rattle.standing.proofs.rows.name_begins.Goals as goal
+
+pub loop-b-init : goal.loop-b-init
+loop-b-init c =
+    let a = c.args in
+    let u = part a.text.now a.at a.to in
+    (search rules, search rules, none_first (name_offered a.c u))
+
+pub returns-then-row_lives : goal.returns-then-row_lives
+returns-then-row_lives c =
+    let a = c.args in
+    let u = part a.text.now a.at a.to in
+    name_found a.c u c.loop-b.b (search rules) (search rules) c.begins_word.ensures
+    c.if-begins_word.true c.row_lives.ensures c.if-row_lives.true
+
+pub loop-b-preserved : goal.loop-b-preserved
+loop-b-preserved c =
+    let a = c.args in
+    let u = part a.text.now a.at a.to in
+    let b = c.loop-b.b in (
+      search rules,
+      search rules,
+      none_next (name_offered a.c u) b (search rules) c.loop-b.invariant.2 (elim c.if-begins_word.branch [
+        | inl h ↦ name_dead a.c u b h.1.ensures h.2.left
+        | inr h ↦ name_not_begun a.c u b c.begins_word.ensures h.left
+      ]),
+    )
+
+pub returns : goal.returns
+returns c =
+    let a = c.args in
+    let u = part a.text.now a.at a.to in
+    name_none a.c u c.loop-b.b (omega arith) c.loop-b.invariant.2

@@ -1,0 +1,75 @@
+use mathlib.Core.Logic.{inl, inr}
+use mathlib.Core.Path.{ap, ◌∙◌}
+use native.Mathlib.Omega.{arith}
+use Prim.Native.Nat.{◌-◌}
+use Rattle.rules.specs.Listing.{silent}
+use Rattle.reading.specs.Cursor.{part}
+use Rattle.standing.proofs.Counted.{none_yet, none_more, callee_few, first_now, first_before}
+use Rattle.standing.proofs.Counted.{operand_offered, operand_found, operand_not_begun, operand_dead, operand_none}
+use borrow.Author.Rules.{rules}
+use Rattle.standing.proofs.rows.operand_begins.Goals as goal
+
+pub loop-v-init : goal.loop-v-init
+loop-v-init c =
+    let a = c.args in
+    let u = part a.text.now a.at a.to in
+    none_yet (operand_offered a.c u a.b a.n a.first)
+
+pub word_for-requires : goal.word_for-requires
+word_for-requires c = (search rules, ap silent c.operand_kind-kind.ensures ∙ c.requires.n_value)
+
+pub begins_word-requires : goal.begins_word-requires
+begins_word-requires c = let s = c.requires in (s.small.1, s.small.2, c.word_for.ensures.upper_bound)
+
+pub rest_lives-requires : goal.rest_lives-requires
+rest_lives-requires c =
+    let n = c in
+    let s = n in
+    let a = s.args in
+    let few = callee_few a.c a.b a.n (search rules) n.operand_kind-kind.ensures n.count-limit.ensures.0
+    c.loop-v-test.true in (
+      s.requires.small.0,
+      s.requires.small.3,
+      s.requires.small.4,
+      search rules,
+      λ e. elim c.if-n-eq1.branch [ inl h ↦ omega (arith, few e (s.requires.small.7 e), h.1) | inr h ↦ absurd (h.0.left (s.requires.small.7 e)) ],
+    )
+
+pub returns-then-rest_lives : goal.returns-then-rest_lives
+returns-then-rest_lives c =
+    let n = c in
+    let a = n.args in
+    let u = part a.text.now a.at a.to in
+    let t = c in
+    let v = c.loop-v.v in
+    operand_found a.c u a.b a.n a.first v n.operand_kind-kind.ensures n.count-limit.ensures.0 t.loop-v-test.true
+    t.word_for.ensures.value t.begins_word.ensures c.if-begins_word.true
+    (elim c.if-n-eq1.branch [
+      | inl h ↦ first_now a.n v a.first h.0.taken h.1
+      | inr h ↦ first_before a.n v a.first h.0.left h.1
+    ])
+    c.rest_lives.ensures c.if-rest_lives.true
+
+pub loop-v-preserved : goal.loop-v-preserved
+loop-v-preserved c =
+    let n = c in
+    let a = n.args in
+    let u = part a.text.now a.at a.to in
+    let l = c in
+    let v = l.loop-v.v in
+    none_more (operand_offered a.c u a.b a.n a.first) v l.loop-v.invariant (elim c.if-begins_word.branch [
+      | inl h ↦ operand_dead a.c u a.b a.n a.first v (elim h.1.came [
+        | inl g ↦ first_now a.n v a.first g.0.taken g.1
+        | inr g ↦ first_before a.n v a.first g.0.left g.1
+      ]) h.2.ensures h.3.left
+      | inr h ↦ operand_not_begun a.c u a.b a.n a.first v n.operand_kind-kind.ensures
+          c.word_for.ensures.value c.begins_word.ensures h.left
+    ])
+
+pub returns : goal.returns
+returns c =
+    let n = c in
+    let a = n.args in
+    let u = part a.text.now a.at a.to in
+    operand_none a.c u a.b a.n a.first c.loop-v.v n.operand_kind-kind.ensures n.count-limit.ensures.0
+    (omega arith) c.loop-v.invariant

@@ -1,0 +1,40 @@
+use mathlib.Core.Path.{refl, sym, ◌∙◌}
+use native.Mathlib.Omega.{arith}
+use Prim.Native.Nat.{◌-◌}
+use Rattle.standing.specs.Numbers.{rest_lives}
+use Rattle.standing.proofs.Counted.{none_yet, none_more, callee_few, row_unfit, row_found, row_none}
+use borrow.Author.Rules.{rules}
+use Rattle.standing.proofs.rows.row_lives.Goals as goal
+
+pub returns-then-not-fits : goal.returns-then-not-fits
+returns-then-not-fits c = let a = c.args in row_unfit a.c a.b c.fits2.ensures c.if-not-fits.true
+
+pub loop-v-init : goal.loop-v-init
+loop-v-init c = let a = c.args in none_yet (rest_lives a.c a.b 2)
+
+pub rest_lives-requires : goal.rest_lives-requires
+rest_lives-requires c =
+    let n = c in
+    let s = n in
+    let few = callee_few s.args.c s.args.b 1 (search rules) n.operand_kind.ensures n.count-n.ensures.0 c.loop-v-test.true in
+    (s.requires.0, s.requires.1, s.requires.2, search rules, λ e. few e refl)
+
+pub returns-then-rest_lives : goal.returns-then-rest_lives
+returns-then-rest_lives c =
+    let n = c in
+    let a = n.args in
+    row_found a.c a.b n.fits2.ensures n.operand_kind.ensures n.count-n.ensures.0 n.if-not-fits.false
+    c.loop-v.v c.loop-v-test.true c.rest_lives.ensures c.if-rest_lives.true
+
+pub loop-v-preserved : goal.loop-v-preserved
+loop-v-preserved c =
+    let l = c in
+    let a = l.args in
+    none_more (rest_lives a.c a.b 2) l.loop-v.v l.loop-v.invariant (sym c.rest_lives.ensures ∙ c.if-rest_lives.false)
+
+pub returns : goal.returns
+returns c =
+    let n = c in
+    let a = n.args in
+    row_none a.c a.b n.fits2.ensures n.operand_kind.ensures n.count-n.ensures.0 n.if-not-fits.false
+    c.loop-v.v (omega arith) c.loop-v.invariant

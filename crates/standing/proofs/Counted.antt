@@ -1,12 +1,12 @@
 -- What the code counts and tests is what its numbers say: a law for each place where it returns, and for each step of a loop. A loop that looks for a number
 -- that passes a test has found none so far.
-use mathlib.Core.Bool.{Bool, true, false, not, ◌&&◌, ◌||◌, false≢true}
+use mathlib.Core.Bool.{Bool, true, false, ◌&&◌, ◌||◌, false≢true}
 use mathlib.Core.List.{[], ◌∷◌}
 use mathlib.Core.Path.{◌≡◌, refl, sym, ap, subst, ◌∙◌}
 use native.Mathlib.Omega.{arith}
 use native.Mathlib.Decide.{ℕ_discrete}
 use Prim.Native.Nat.{ℕ, zero, suc, ◌+◌, ◌-◌, ◌<◌, ◌≤◌}
-use borrow.Author.Tests.{not-true, not-false, eq-eqb, ne_eqb, lt-ltb, le-ltb}
+use borrow.Author.Tests.{eq-eqb, ne_eqb, lt-ltb, le-ltb}
 use denote.Enum.Declared
 use types.Run.{OneOf, miss}
 use lib.Dec.{eqb, ltb}
@@ -107,17 +107,17 @@ never true = refl
 never false = refl
 
 -- Room, and a number that is 0 or a test that passes: how the code comes to it.
-roomless : (r : Bool) (n : ℕ) (t : Bool) → not r ≡ true → false ≡ (r && (eqb n 0 || t))
-roomless true n t h = absurd (false≢true h)
+roomless : (r : Bool) (n : ℕ) (t : Bool) → r ≡ false → false ≡ (r && (eqb n 0 || t))
+roomless true n t h = absurd (false≢true (sym h))
 roomless false n t h = refl
 
-unneeded : (r : Bool) (n : ℕ) (t : Bool) → not r ≡ false → n ≡ 0 → true ≡ (r && (eqb n 0 || t))
+unneeded : (r : Bool) (n : ℕ) (t : Bool) → r ≡ true → n ≡ 0 → true ≡ (r && (eqb n 0 || t))
 unneeded true n t h e = sym (ap (λ (s : Bool). s || t) (eq-eqb n 0 e))
-unneeded false n t h e = absurd (false≢true (sym h))
+unneeded false n t h e = absurd (false≢true h)
 
-needed : (r : Bool) (n : ℕ) (t : Bool) → not r ≡ false → (n ≡ 0 → ⊥) → t ≡ (r && (eqb n 0 || t))
+needed : (r : Bool) (n : ℕ) (t : Bool) → r ≡ true → (n ≡ 0 → ⊥) → t ≡ (r && (eqb n 0 || t))
 needed true n t h e = sym (ap (λ (s : Bool). s || t) (ne_eqb n 0 e))
-needed false n t h e = absurd (false≢true (sym h))
+needed false n t h e = absurd (false≢true h)
 
 pub either : (t : Bool) → (t || true) ≡ true
 either true = refl
@@ -131,13 +131,13 @@ module _ (c : Standing) where
         ap (λ (t : Bool). t && (eqb n 0 || ltb c.depth 8)) room ∙ ap (λ (k : ℕ). room_of c (k + n) && (eqb n 0 || ltb c.depth 8)) size
         ∙ ap (λ (k : ℕ). room_of c (size_of b + k) && (eqb k 0 || ltb c.depth 8)) blocks
 
-    pub fits_no_room : not r ≡ true → false ≡ fits_of c b
+    pub fits_no_room : r ≡ false → false ≡ fits_of c b
     fits_no_room h = roomless r n (ltb c.depth 8) h ∙ fits_is
 
-    pub fits_no_block : not r ≡ false → n ≡ 0 → true ≡ fits_of c b
+    pub fits_no_block : r ≡ true → n ≡ 0 → true ≡ fits_of c b
     fits_no_block h e = unneeded r n (ltb c.depth 8) h e ∙ fits_is
 
-    pub fits_deep : not r ≡ false → (n ≡ 0 → ⊥) → ltb c.depth 8 ≡ fits_of c b
+    pub fits_deep : r ≡ true → (n ≡ 0 → ⊥) → ltb c.depth 8 ≡ fits_of c b
     fits_deep h e = needed r n (ltb c.depth 8) h e ∙ fits_is
 
   module _ (f : ℕ) {k m : ℕ} {r : Bool} (ks : k ≡ unwritten_of c CalleeK f) (ms : m ≡ unwritten_of c CalleeM f) (room : r ≡ room_of c (4 + k + m)) where
@@ -147,13 +147,13 @@ module _ (c : Standing) where
         ap (λ (t : Bool). t && (eqb k 0 || ltb 0 c.places)) room ∙ ap (λ (x : ℕ). room_of c (4 + k + x) && (eqb k 0 || ltb 0 c.places)) ms
         ∙ ap (λ (x : ℕ). room_of c (4 + x + get_or c.ms f 0) && (eqb x 0 || ltb 0 c.places)) ks
 
-    pub call_no_room : not r ≡ true → false ≡ call_lives c f
+    pub call_no_room : r ≡ false → false ≡ call_lives c f
     call_no_room h = roomless r k (ltb 0 c.places) h ∙ call_is
 
-    pub call_no_locations : not r ≡ false → k ≡ 0 → true ≡ call_lives c f
+    pub call_no_locations : r ≡ true → k ≡ 0 → true ≡ call_lives c f
     call_no_locations h e = unneeded r k (ltb 0 c.places) h e ∙ call_is
 
-    pub call_places_lem : not r ≡ false → (k ≡ 0 → ⊥) → ltb 0 c.places ≡ call_lives c f
+    pub call_places_lem : r ≡ true → (k ≡ 0 → ⊥) → ltb 0 c.places ≡ call_lives c f
     call_places_lem h e = needed r k (ltb 0 c.places) h e ∙ call_is
 
   -- Each operand from number i on has a word, or is not written.
@@ -174,17 +174,17 @@ module _ (c : Standing) where
     worded_here : worded_from b i ≡ (worded o && worded_from b (i + 1))
     worded_here = worded_step b i l ∙ ap (λ (a : Operand). worded a && worded_from b (i + 1)) (sym is)
 
-    pub worded_silent : {s : Bool} → s ≡ silent o → not s ≡ false → worded_from b i ≡ worded_from b (i + 1)
-    worded_silent {s} e h = worded_here ∙ ap (λ (t : Bool). (t || ltb 0 (count_of c o)) && worded_from b (i + 1)) (sym e ∙ not-false s h)
+    pub worded_silent : {s : Bool} → s ≡ silent o → s ≡ true → worded_from b i ≡ worded_from b (i + 1)
+    worded_silent {s} e h = worded_here ∙ ap (λ (t : Bool). (t || ltb 0 (count_of c o)) && worded_from b (i + 1)) (sym e ∙ h)
 
     pub worded_some : {n : ℕ} → n ≡ count_of c o → (n ≡ 0 → ⊥) → worded_from b i ≡ worded_from b (i + 1)
     worded_some {n} e h =
         worded_here ∙ ap (λ (t : Bool). (silent o || t) && worded_from b (i + 1)) (lt-ltb 0 (count_of c o) (omega arith))
         ∙ ap (λ (t : Bool). t && worded_from b (i + 1)) (either (silent o))
 
-    pub worded_none : {s : Bool} {n : ℕ} → s ≡ silent o → not s ≡ true → n ≡ count_of c o → n ≡ 0 → worded_from b i ≡ false
+    pub worded_none : {s : Bool} {n : ℕ} → s ≡ silent o → s ≡ false → n ≡ count_of c o → n ≡ 0 → worded_from b i ≡ false
     worded_none {s} {n} e h k z =
-        worded_here ∙ ap (λ (t : Bool). (t || ltb 0 (count_of c o)) && worded_from b (i + 1)) (sym e ∙ not-true s h)
+        worded_here ∙ ap (λ (t : Bool). (t || ltb 0 (count_of c o)) && worded_from b (i + 1)) (sym e ∙ h)
         ∙ ap (λ (t : Bool). t && worded_from b (i + 1)) (le-ltb 0 (count_of c o) (omega arith))
 
   pub worded_end : (b i : ℕ) → size_of b ≤ i → worded_from b i ≡ true
@@ -274,16 +274,16 @@ callee_few c b n {o} {limit} h a e l q k =
 module _ (c : Standing) where
   -- A row's line goes on.
   module _ (b : ℕ) {fit : Bool} (fits : fit ≡ fits_of c b) where
-    pub row_unfit : not fit ≡ true → false ≡ row_lives c b
+    pub row_unfit : fit ≡ false → false ≡ row_lives c b
     unfolding row_lives
-    row_unfit h = sym (ap (λ (t : Bool). t && some_below (count_of c (operand_at b 1)) (rest_lives c b 2)) (sym fits ∙ not-true fit h))
+    row_unfit h = sym (ap (λ (t : Bool). t && some_below (count_of c (operand_at b 1)) (rest_lives c b 2)) (sym fits ∙ h))
 
-    module _ {o : Operand} {n : ℕ} (is : o ≡ operand_at b 1) (many : n ≡ count_of c o) (h : not fit ≡ false) where
+    module _ {o : Operand} {n : ℕ} (is : o ≡ operand_at b 1) (many : n ≡ count_of c o) (h : fit ≡ true) where
       row_fit : some_below n (rest_lives c b 2) ≡ row_lives c b
       unfolding row_lives
       row_fit =
           ap (λ (m : ℕ). some_below m (rest_lives c b 2)) (many ∙ ap (count_of c) is)
-          ∙ sym (ap (λ (t : Bool). t && some_below (count_of c (operand_at b 1)) (rest_lives c b 2)) (sym fits ∙ not-false fit h))
+          ∙ sym (ap (λ (t : Bool). t && some_below (count_of c (operand_at b 1)) (rest_lives c b 2)) (sym fits ∙ h))
 
       pub row_found : (v : ℕ) {r : Bool} → v < n → r ≡ rest_lives c b 2 v → r ≡ true → true ≡ row_lives c b
       row_found v l e t = one_found n (rest_lives c b 2) v l (sym e ∙ t) ∙ row_fit

@@ -22,8 +22,8 @@ deal-ended-requires c =
       p = d.p;
       q = d.q;
       M = _;
-      both = both a.device.now a.h a.first.now a.ones a.first-main o₁.result _ a.second.now a.twos a.second-main o₂.result _ a.schedule.now d.D d.p d.q d.the_device d.first d.second (o₁.ensures d.D d.the_device) r₁ (o₂.ensures d.D d.the_device) r₂;
-      holds = fresh_holds a.device.now a.h a.first.now a.ones a.first-main o₁.result _ a.second.now a.twos a.second-main o₂.result _ a.schedule.now d.D d.p d.q d.the_device d.first d.second _ _ c.start.ensures c.start-2.ensures;
+      both = both a.device.now a.h a.first.now a.ones a.first_main o₁.result _ a.second.now a.twos a.second_main o₂.result _ a.schedule.now d.D d.p d.q d.the_device d.first d.second (o₁.ensures d.D d.the_device) r₁ (o₂.ensures d.D d.the_device) r₂;
+      holds = fresh_holds a.device.now a.h a.first.now a.ones a.first_main o₁.result _ a.second.now a.twos a.second_main o₂.result _ a.schedule.now d.D d.p d.q d.the_device d.first d.second _ _ c.start.ensures c.start-2.ensures;
       all_turns = d.all_turns;
       short = d.short;
       fits = d.fits;
@@ -38,8 +38,8 @@ write_map-requires c =
     let r₁ = c.region_rows.ensures.all d.D d.the_device in
     let r₂ = c.region_rows-2.ensures.all d.D d.the_device in
     let e = c.deal-ended.ensures d.D d.p d.q _
-    (both a.device.now a.h a.first.now a.ones a.first-main o₁.result _ a.second.now a.twos a.second-main o₂.result _ a.schedule.now d.D d.p d.q d.the_device d.first d.second (o₁.ensures d.D d.the_device) r₁ (o₂.ensures d.D d.the_device) r₂)
-    (fresh_holds a.device.now a.h a.first.now a.ones a.first-main o₁.result _ a.second.now a.twos a.second-main o₂.result _ a.schedule.now d.D d.p d.q d.the_device d.first d.second _ _ c.start.ensures c.start-2.ensures) in
+    (both a.device.now a.h a.first.now a.ones a.first_main o₁.result _ a.second.now a.twos a.second_main o₂.result _ a.schedule.now d.D d.p d.q d.the_device d.first d.second (o₁.ensures d.D d.the_device) r₁ (o₂.ensures d.D d.the_device) r₂)
+    (fresh_holds a.device.now a.h a.first.now a.ones a.first_main o₁.result _ a.second.now a.twos a.second_main o₂.result _ a.schedule.now d.D d.p d.q d.the_device d.first d.second _ _ c.start.ensures c.start-2.ensures) in
     (e.maps.long, (known d.the_device).few, d.map_fits)
 
 pub returns : goal.returns
@@ -51,8 +51,8 @@ returns c =
     λ D p q Q L₁ L₂.
     let r₁ = c.region_rows.ensures.all D Q in
     let r₂ = c.region_rows-2.ensures.all D Q in
-    run_is a.device.now a.h a.first.now a.ones a.first-main o₁.result _ a.second.now a.twos a.second-main o₂.result _ a.schedule.now D p q Q L₁ L₂ a.records.now a.map.now _ _ c.deal-ended.result e.fits e.map_fits
+    run_is a.device.now a.h a.first.now a.ones a.first_main o₁.result _ a.second.now a.twos a.second_main o₂.result _ a.schedule.now D p q Q L₁ L₂ a.records.now a.map.now _ _ c.deal-ended.result e.fits e.map_fits
     (c.deal-ended.ensures D p q _
-    (both a.device.now a.h a.first.now a.ones a.first-main o₁.result _ a.second.now a.twos a.second-main o₂.result _ a.schedule.now D p q Q L₁ L₂ (o₁.ensures D Q) r₁ (o₂.ensures D Q) r₂)
-    (fresh_holds a.device.now a.h a.first.now a.ones a.first-main o₁.result _ a.second.now a.twos a.second-main o₂.result _ a.schedule.now D p q Q L₁ L₂ _ _ c.start.ensures c.start-2.ensures))
+    (both a.device.now a.h a.first.now a.ones a.first_main o₁.result _ a.second.now a.twos a.second_main o₂.result _ a.schedule.now D p q Q L₁ L₂ (o₁.ensures D Q) r₁ (o₂.ensures D Q) r₂)
+    (fresh_holds a.device.now a.h a.first.now a.ones a.first_main o₁.result _ a.second.now a.twos a.second_main o₂.result _ a.schedule.now D p q Q L₁ L₂ _ _ c.start.ensures c.start-2.ensures))
     c.write_map.ensures

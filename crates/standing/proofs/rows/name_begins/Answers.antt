@@ -1,10 +1,10 @@
-use mathlib.Core.Logic.{inl, inr}
 use native.Mathlib.Omega.{arith}
 use Prim.Native.Nat.{◌-◌}
 use Rattle.reading.specs.Cursor.{part}
 use Rattle.standing.proofs.Counted.{none_first, none_next, name_offered, name_found, name_not_begun, name_dead, name_none}
 use borrow.Author.Rules.{rules}
 use Rattle.standing.proofs.rows.name_begins.Goals as goal
+use Rattle.standing.proofs.rows.name_begins.Goals.{then-begins_word+else-row_lives, else-begins_word}
 
 pub loop-b-init : goal.loop-b-init
 loop-b-init c =
@@ -27,8 +27,8 @@ loop-b-preserved c =
       search rules,
       search rules,
       none_next (name_offered a.c u) b (search rules) c.loop-b.invariant.2 (elim c.if-begins_word.branch [
-        | inl h ↦ name_dead a.c u b h.1.ensures h.2.left
-        | inr h ↦ name_not_begun a.c u b c.begins_word.ensures h.left
+        | then-begins_word+else-row_lives w ↦ name_dead a.c u b w.row_lives.ensures w.if-row_lives.false
+        | else-begins_word w ↦ name_not_begun a.c u b c.begins_word.ensures w.if-begins_word.false
       ]),
     )
 

@@ -1,4 +1,3 @@
-use mathlib.Core.Logic.{inl, inr}
 use mathlib.Core.Path.{ap, ◌∙◌}
 use native.Mathlib.Omega.{arith}
 use Prim.Native.Nat.{◌-◌}
@@ -8,6 +7,7 @@ use Rattle.standing.proofs.Counted.{none_yet, none_more, callee_few, first_now, 
 use Rattle.standing.proofs.Counted.{operand_offered, operand_found, operand_not_begun, operand_dead, operand_none}
 use borrow.Author.Rules.{rules}
 use Rattle.standing.proofs.rows.operand_begins.Goals as goal
+use Rattle.standing.proofs.rows.operand_begins.Goals.{then-n-eq1, else-n-eq1, then-begins_word+else-rest_lives, else-begins_word}
 
 pub loop-v-init : goal.loop-v-init
 loop-v-init c =
@@ -32,7 +32,7 @@ rest_lives-requires c =
       s.requires.small.3,
       s.requires.small.4,
       search rules,
-      λ e. elim c.if-n-eq1.branch [ inl h ↦ omega (arith, few e (s.requires.small.7 e), h.1) | inr h ↦ absurd (h.0.left (s.requires.small.7 e)) ],
+      λ e. elim c.if-n-eq1.branch [ then-n-eq1 w ↦ omega (arith, few e (s.requires.small.7 e), w.f-is) | else-n-eq1 w ↦ absurd (w.if-n-eq1.false (s.requires.small.7 e)) ],
     )
 
 pub returns-then-rest_lives : goal.returns-then-rest_lives
@@ -45,8 +45,8 @@ returns-then-rest_lives c =
     operand_found a.c u a.b a.n a.first v n.operand_kind-kind.ensures n.count-limit.ensures.0 t.loop-v-test.true
     t.word_for.ensures.value t.begins_word.ensures c.if-begins_word.true
     (elim c.if-n-eq1.branch [
-      | inl h ↦ first_now a.n v a.first h.0.taken h.1
-      | inr h ↦ first_before a.n v a.first h.0.left h.1
+      | then-n-eq1 w ↦ first_now a.n v a.first w.if-n-eq1.true w.f-is
+      | else-n-eq1 w ↦ first_before a.n v a.first w.if-n-eq1.false w.f-is
     ])
     c.rest_lives.ensures c.if-rest_lives.true
 
@@ -58,12 +58,12 @@ loop-v-preserved c =
     let l = c in
     let v = l.loop-v.v in
     none_more (operand_offered a.c u a.b a.n a.first) v l.loop-v.invariant (elim c.if-begins_word.branch [
-      | inl h ↦ operand_dead a.c u a.b a.n a.first v (elim h.1.came [
-        | inl g ↦ first_now a.n v a.first g.0.taken g.1
-        | inr g ↦ first_before a.n v a.first g.0.left g.1
-      ]) h.2.ensures h.3.left
-      | inr h ↦ operand_not_begun a.c u a.b a.n a.first v n.operand_kind-kind.ensures
-          c.word_for.ensures.value c.begins_word.ensures h.left
+      | then-begins_word+else-rest_lives w ↦ operand_dead a.c u a.b a.n a.first v (elim w.if-n-eq1.branch [
+        | then-n-eq1 x ↦ first_now a.n v a.first x.if-n-eq1.true x.f-is
+        | else-n-eq1 x ↦ first_before a.n v a.first x.if-n-eq1.false x.f-is
+      ]) w.rest_lives.ensures w.if-rest_lives.false
+      | else-begins_word w ↦ operand_not_begun a.c u a.b a.n a.first v n.operand_kind-kind.ensures
+          c.word_for.ensures.value c.begins_word.ensures w.if-begins_word.false
     ])
 
 pub returns : goal.returns

@@ -1,10 +1,10 @@
-use mathlib.Core.Logic.{inl, inr}
 use mathlib.Core.Path.{refl, ◌∙◌}
 use native.Mathlib.Omega.{arith}
 use Prim.Native.Nat.{◌-◌}
 use Rattle.standing.proofs.Counted.{worded_silent, worded_some, worded_none, worded_end, rest_none, rest_call, rest_other}
 use borrow.Author.Rules.{rules}
 use Rattle.standing.proofs.rows.rest_lives.Goals as goal
+use Rattle.standing.proofs.rows.rest_lives.Goals.{then-not-is_silent+else-count-eq0, else-not-is_silent}
 
 pub loop-i-init : goal.loop-i-init
 loop-i-init c = (search rules, refl)
@@ -25,10 +25,10 @@ loop-i-preserved c =
     let a = l.args in (
       search rules,
       l.loop-i.invariant.1 ∙ elim c.if-not-is_silent.branch [
-        | inl h ↦ worded_some a.c a.b l.loop-i.i (omega (arith, l.fixed_size-size.ensures.value)) k.operand_kind-kind.ensures
-            h.1.ensures.0 h.2.left
-        | inr h ↦ worded_silent a.c a.b l.loop-i.i (omega (arith, l.fixed_size-size.ensures.value)) k.operand_kind-kind.ensures
-            c.is_silent.ensures h.left
+        | then-not-is_silent+else-count-eq0 w ↦ worded_some a.c a.b l.loop-i.i (omega (arith, l.fixed_size-size.ensures.value)) k.operand_kind-kind.ensures
+            w.count.ensures.0 w.if-count-eq0.false
+        | else-not-is_silent w ↦ worded_silent a.c a.b l.loop-i.i (omega (arith, l.fixed_size-size.ensures.value)) k.operand_kind-kind.ensures
+            c.is_silent.ensures w.if-not-is_silent.false
       ],
     )
 

@@ -7,7 +7,7 @@ use borrow.Author.Rules.{rules}
 use Rattle.standing.proofs.rows.row_lives.Goals as goal
 
 pub returns-then-not-fits : goal.returns-then-not-fits
-returns-then-not-fits c = let a = c.args in row_unfit a.c a.b c.fits2.ensures c.if-not-fits.true
+returns-then-not-fits c = let a = c.args in row_unfit a.c a.b c.fits.ensures c.if-not-fits.true
 
 pub loop-v-init : goal.loop-v-init
 loop-v-init c = let a = c.args in none_yet (rest_lives a.c a.b 2)
@@ -23,7 +23,7 @@ pub returns-then-rest_lives : goal.returns-then-rest_lives
 returns-then-rest_lives c =
     let n = c in
     let a = n.args in
-    row_found a.c a.b n.fits2.ensures n.operand_kind.ensures n.count-n.ensures.0 n.if-not-fits.false
+    row_found a.c a.b n.fits.ensures n.operand_kind.ensures n.count-n.ensures.0 n.if-not-fits.false
     c.loop-v.v c.loop-v-test.true c.rest_lives.ensures c.if-rest_lives.true
 
 pub loop-v-preserved : goal.loop-v-preserved
@@ -36,5 +36,5 @@ pub returns : goal.returns
 returns c =
     let n = c in
     let a = n.args in
-    row_none a.c a.b n.fits2.ensures n.operand_kind.ensures n.count-n.ensures.0 n.if-not-fits.false
+    row_none a.c a.b n.fits.ensures n.operand_kind.ensures n.count-n.ensures.0 n.if-not-fits.false
     c.loop-v.v (omega arith) c.loop-v.invariant

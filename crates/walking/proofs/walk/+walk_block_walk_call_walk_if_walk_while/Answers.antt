@@ -17,6 +17,8 @@ use Prim.Native.Nat.{ℕ}
 use borrow.Fn.PlainCycle.{is}
 use Rattle.walking.proofs.walk.+walk_block_walk_call_walk_if_walk_while.{statement}
 use Rattle.walking.proofs.walk.+walk_block_walk_call_walk_if_walk_while.Goals as goal
+use Rattle.walking.proofs.walk.+walk_block_walk_call_walk_if_walk_while.Goals.{walk_block-then-op-eq10, walk_block-else-op-eq10+then-op-eq11}
+use Rattle.walking.proofs.walk.+walk_block_walk_call_walk_if_walk_while.Goals.{walk_block-else-op-eq10+else-op-eq11}
 
 pub walk_block-block_end-stop-requires : goal.walk_block-block_end-stop-requires
 walk_block-block_end-stop-requires t c = let k = block_bounds c.requires.block_at in (omega arith, k.1)
@@ -161,19 +163,19 @@ walk_block-walk_call-requires t c =
     let k = c.is_inner.ensures.lt_op c.if-is_inner.true in
     (omega (arith, T.inside, T.within, c.loop-p.invariant.0, c.requires.block_at), ((T.here, omega (arith, k.0, k.1, c.if-op-eq10.false, c.if-op-eq11.false)), c.loop-p.invariant.4))
 
--- however it came about, the inner statement is walked
-walk-block-joined : (t : ℕ) (c : goal.Joined-op-eq10 (walk-block-calls t) (walk-block-at t) walk_block.Post walk-block-Inv-loop walk-block-μ-loop) → StatementWalked c.args.s.now c.args.bodies.now c.args.quiet.now c.args.rows.now c.args.g (names_of c.args.in_main c.args.names.now) c.loop-p.p c.loop-p.frame (set_of c.loop-p.free) (leaves c.if-op-eq10.fault c.if-op-eq10.free) × (length c.if-op-eq10.free ≡ 4)
-walk-block-joined t c =
-    let same = walked_as c.args.s.now c.args.bodies.now c.args.quiet.now c.args.rows.now c.args.g (names_of c.args.in_main c.args.names.now) c.loop-p.p c.loop-p.frame (set_of c.loop-p.free) c.if-op-eq10.fault c.if-op-eq10.free in
-    ⊎_elim
-    (λ w. same _ _ w.4 w.5 w.3.ensures.0 w.3.ensures.1)
-    (⊎_elim (λ w. same _ _ w.5 w.6 c.loop-p.invariant.4 w.4.ensures) (λ w. same _ _ w.4 w.5 w.3.ensures.0 (w.3.ensures.1 c.loop-p.frame)))
-    c.if-op-eq10.branch
-
 pub walk_block-returns-then-fault-ne0 : goal.walk_block-returns-then-fault-ne0
 walk_block-returns-then-fault-ne0 t c =
     let T = turn c.requires.block_at c.block_end-stop.ensures c.loop-p.invariant.1 c.loop-p-test.true c.loop-p.invariant.3 in
-    let j = walk-block-joined _ c in record {
+    let j : StatementWalked c.args.s.now c.args.bodies.now c.args.quiet.now c.args.rows.now c.args.g (names_of c.args.in_main c.args.names.now) c.loop-p.p
+        c.loop-p.frame (set_of c.loop-p.free) (leaves c.if-op-eq10.fault c.if-op-eq10.free) × (length c.if-op-eq10.free ≡ 4) =
+        -- however it came about, the inner statement is walked
+        let same = walked_as c.args.s.now c.args.bodies.now c.args.quiet.now c.args.rows.now c.args.g (names_of c.args.in_main c.args.names.now) c.loop-p.p
+        c.loop-p.frame (set_of c.loop-p.free) c.if-op-eq10.fault c.if-op-eq10.free in
+        elim c.if-op-eq10.branch [
+          | walk_block-then-op-eq10 w ↦ same _ _ w.free-is w.fault-is w.walk_if-fault.ensures.long w.walk_if-fault.ensures.walks
+          | walk_block-else-op-eq10+then-op-eq11 w ↦ same _ _ w.free-is w.fault-is c.loop-p.invariant.4 w.walk_while.ensures
+          | walk_block-else-op-eq10+else-op-eq11 w ↦ same _ _ w.free-is w.fault-is w.walk_call.ensures.long (w.walk_call.ensures.walks c.loop-p.frame)
+        ] in record {
       long = j.1;
       walks = λ b R W σ o. fault_said_lem _ _ c.if-fault-ne0.true ∙ block_refused c.loop-p.invariant.3 c.block_end-stop.ensures b R W σ o _ T.inside λ t R W σ o.
           kept_refused c.loop-p.frame (leaves c.if-op-eq10.fault c.if-op-eq10.free) (j.0 t R W σ o) c.if-fault-ne0.true;
@@ -250,7 +252,16 @@ walk_block-loop-p-smaller-else-fault-ne0 t c =
 pub walk_block-loop-p-preserved-else-fault-ne0 : goal.walk_block-loop-p-preserved-else-fault-ne0
 walk_block-loop-p-preserved-else-fault-ne0 t c =
     let T = turn c.requires.block_at c.block_end-stop.ensures c.loop-p.invariant.1 c.loop-p-test.true c.loop-p.invariant.3 in
-    let j = walk-block-joined _ c in
+    let j : StatementWalked c.args.s.now c.args.bodies.now c.args.quiet.now c.args.rows.now c.args.g (names_of c.args.in_main c.args.names.now) c.loop-p.p
+        c.loop-p.frame (set_of c.loop-p.free) (leaves c.if-op-eq10.fault c.if-op-eq10.free) × (length c.if-op-eq10.free ≡ 4) =
+        -- however it came about, the inner statement is walked
+        let same = walked_as c.args.s.now c.args.bodies.now c.args.quiet.now c.args.rows.now c.args.g (names_of c.args.in_main c.args.names.now) c.loop-p.p
+        c.loop-p.frame (set_of c.loop-p.free) c.if-op-eq10.fault c.if-op-eq10.free in
+        elim c.if-op-eq10.branch [
+          | walk_block-then-op-eq10 w ↦ same _ _ w.free-is w.fault-is w.walk_if-fault.ensures.long w.walk_if-fault.ensures.walks
+          | walk_block-else-op-eq10+then-op-eq11 w ↦ same _ _ w.free-is w.fault-is c.loop-p.invariant.4 w.walk_while.ensures
+          | walk_block-else-op-eq10+else-op-eq11 w ↦ same _ _ w.free-is w.fault-is w.walk_call.ensures.long (w.walk_call.ensures.walks c.loop-p.frame)
+        ] in
     let e = c.statement_end.ensures _ _ _ _ _ T.here.stands in
     let A = turn_bounds c.requires.block_at c.block_end-stop.ensures T e c.skip-next.ensures in (
       omega (arith, A.1, c.loop-p.invariant.0),
@@ -313,13 +324,10 @@ pub walk_call-enter-requires : goal.walk_call-enter-requires
 walk_call-enter-requires t c =
     let v = view_call (statement_view c.requires.statement_at.0.stands) c.requires.statement_at.1 in
     let k = callee_known c.requires.statement_at.1 _ c.wide-f.ensures.0 c.requires.statement_at.0 in
-    let e = c.wide.ensures.0 in record { k_bound = (record {
+    let e = c.wide.ensures.0 in record {
       k_bound = (omega (arith, k.4, e), omega (arith, v.fits, e), λ i l h. place_room c.requires.statement_at.0 (v.places i (omega (arith, l, e))) h);
       inner_len = (refl, refl);
-    }).0; inner_len = (record {
-      k_bound = (omega (arith, k.4, e), omega (arith, v.fits, e), λ i l h. place_room c.requires.statement_at.0 (v.places i (omega (arith, l, e))) h);
-      inner_len = (refl, refl);
-    }).1 }
+    }
 
 pub walk_call-offset_bounds-bodies-f : goal.walk_call-offset_bounds-bodies-f
 walk_call-offset_bounds-bodies-f t c = let k = callee_known c.requires.statement_at.1 _ c.wide-f.ensures.0 c.requires.statement_at.0 in omega (arith, k.2)
@@ -338,7 +346,7 @@ walk_call-returns t c =
     record {
       long = c.walk_block.ensures.long;
       walks = λ fr. call_walked fr (set_of c.args.free.now) c.requires.statement_at.1 _ _ c.wide-f.ensures.0 c.wide.ensures.0 _ c.enter.new.frame (leaves c.walk_block.result _) refl
-      c.enter.ensures.named.0 c.enter.ensures.named.1.0 (λ i l. c.enter.ensures.named.1.1 i l ∙ none_placed 32 i) c.walk_block.ensures.walks;
+      c.enter.ensures.named c.enter.ensures.passed (λ i l. c.enter.ensures.rest i l ∙ none_placed 32 i) c.walk_block.ensures.walks;
     }
 
 pub walk_if-overflow_add-at : goal.walk_if-overflow_add-at

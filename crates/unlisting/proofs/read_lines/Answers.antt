@@ -19,7 +19,7 @@ returns-in-Not c =
     let at-stop = at_line in
     let at_end = at-stop in
     let F = at_end.loop-at.invariant.2 in record { result_value = (refused_line _ _ _ _ _ F (search rules) _ _ (search rules) (search rules) at_end.line_end-end.ensures.line_end at-stop.line_stop-stop.ensures _ _
-    at_line.read_line-line.ensures c.in-Not.is _ c.refused.ensures _).0; by_index = (refused_line _ _ _ _ _ F (search rules) _ _ (search rules) (search rules) at_end.line_end-end.ensures.line_end at-stop.line_stop-stop.ensures _ _
+    at_line.read_line-line.ensures c.in-Not.is _ c.refused.ensures c.args.out.now).0; by_index = (refused_line _ _ _ _ _ F (search rules) _ _ (search rules) (search rules) at_end.line_end-end.ensures.line_end at-stop.line_stop-stop.ensures _ _
     at_line.read_line-line.ensures c.in-Not.is _ c.refused.ensures _).1 }
 
 pub returns-in-Begun : goal.returns-in-Begun
@@ -28,7 +28,7 @@ returns-in-Begun c =
     let at-stop = at_line in
     let at_end = at-stop in
     let F = at_end.loop-at.invariant.2 in record { result_value = (refused_last _ _ _ _ _ F (search rules) _ _ (search rules) (search rules) at_end.line_end-end.ensures.line_end at-stop.line_stop-stop.ensures _ _
-    at_line.read_line-line.ensures c.in-Begun.is _ c.refused-in-Begun.ensures _).0; by_index = (refused_last _ _ _ _ _ F (search rules) _ _ (search rules) (search rules) at_end.line_end-end.ensures.line_end at-stop.line_stop-stop.ensures _ _
+    at_line.read_line-line.ensures c.in-Begun.is _ c.refused-in-Begun.ensures c.args.out.now).0; by_index = (refused_last _ _ _ _ _ F (search rules) _ _ (search rules) (search rules) at_end.line_end-end.ensures.line_end at-stop.line_stop-stop.ensures _ _
     at_line.read_line-line.ensures c.in-Begun.is _ c.refused-in-Begun.ensures _).1 }
 
 pub loop-at-smaller : goal.loop-at-smaller
@@ -66,4 +66,4 @@ returns-then-finish c =
 pub returns : goal.returns
 returns c =
     let at-finish = c in
-    let F = at-finish.loop-at.invariant.2 in record { result_value = (refused_end _ _ _ _ _ F (search rules) _ _ at-finish.finish.ensures (search rules) _ c.refused-2.ensures _).0; by_index = (refused_end _ _ _ _ _ F (search rules) _ _ at-finish.finish.ensures (search rules) _ c.refused-2.ensures _).1 }
+    let F = at-finish.loop-at.invariant.2 in record { result_value = (refused_end _ _ _ _ _ F (search rules) _ _ at-finish.finish.ensures (search rules) _ c.refused-2.ensures c.args.out.now).0; by_index = (refused_end _ _ _ _ _ F (search rules) _ _ at-finish.finish.ensures (search rules) _ c.refused-2.ensures _).1 }

@@ -23,4 +23,4 @@ returns-else-program-n c =
     let counted = at_n in
     let text = counted.args.text.now in
     counted_written text _ _ counted.read_lines.ensures.result_value _ at_n.in-Written.is (search rules) written.read_lines-in-Written.result _
-    written.read_lines-in-Written.ensures
+    (written.read_lines-in-Written.ensures.result_value, written.read_lines-in-Written.ensures.by_index)

@@ -7,7 +7,7 @@ use Rattle.unlisting.proofs.lines.else_line.Goals as goal
 pub expect-requires : goal.expect-requires
 expect-requires c =
     let at-indent = c in
-    let on = onto_at _ _ at-indent.indent.ensures.onto.0 c.in-At.is in
+    let on = onto_at _ _ at-indent.indent.ensures.onto c.in-At.is in
     omega arith
 
 pub overflow_add-c : goal.overflow_add-c

@@ -2,13 +2,14 @@ use mathlib.Core.Path.{ap}
 use native.Mathlib.Omega.{arith}
 use Rattle.standing.specs.declared.state.Standing.{Standing}
 use Rattle.unlisting.proofs.Ending.{not_in_main_lem, ending_first, ending_due, ending_next, ending_few, ending_header}
+use borrow.Author.Tests.{not-true, not-false}
 use Rattle.unlisting.proofs.lines.finish.Goals as goal
 
 pub returns-then-not-from : goal.returns-then-not-from
-returns-then-not-from c = not_in_main_lem _ _ _ c.if-not-from.true
+returns-then-not-from c = not_in_main_lem _ _ _ (not-true _ c.if-not-from.true)
 
 pub loop-c-init : goal.loop-c-init
-loop-c-init c = ending_first _ _ c.if-not-from.false c.requires
+loop-c-init c = ending_first _ _ (not-false _ c.if-not-from.false) c.requires
 
 pub overflow_sub-c : goal.overflow_sub-c
 overflow_sub-c c = omega (arith, c.loop-c-test.true)

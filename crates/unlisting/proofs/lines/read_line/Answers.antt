@@ -4,15 +4,16 @@ use Rattle.unlisting.proofs.Said.{onto_at}
 use Rattle.unlisting.proofs.Outward.{reached_none, now_means, line_statement, line_begun, line_else, reached_more, line_top}
 use Rattle.unlisting.proofs.Outward.{below_eight, one_fewer, no_program, any_line, first_any}
 use borrow.Author.Rules.{rules}
+use borrow.Author.Tests.{not-true, not-false}
 use Rattle.unlisting.proofs.lines.read_line.Goals as goal
 
 pub first_line-requires : goal.first_line-requires
 first_line-requires c =
     let pre = c.requires in
-    (pre.0, (no_program _ _ pre.1.1 c.if-not-c.true).1)
+    (pre.0, (no_program _ _ pre.1.1 (not-true _ c.if-not-c.true)).1)
 
 pub returns-then-not-c : goal.returns-then-not-c
-returns-then-not-c c = first_any _ _ _ _ _ _ c.if-not-c.true _ c.first_line.ensures
+returns-then-not-c c = first_any _ _ _ _ _ _ (not-true _ c.if-not-c.true) _ c.first_line.ensures
 
 pub loop-c-init : goal.loop-c-init
 loop-c-init c = (refl, reached_none _ _ _ _ _ _)
@@ -22,14 +23,14 @@ statement_lives-requires c =
     let at-loop = c in
     let at-if1 = at-loop in
     let pre = at-if1.requires in
-    means_small _ _ (now_means _ _ _ _ _ _ _ _ at-loop.loop-c.invariant.1 _ pre.1.1 at-if1.if-not-c.false).1
+    means_small _ _ (now_means _ _ _ _ _ _ _ _ at-loop.loop-c.invariant.1 _ pre.1.1 (not-false _ at-if1.if-not-c.false)).1
 
 pub indent-requires : goal.indent-requires
 indent-requires c =
     let at-loop = c in
     let at-if1 = at-loop in
     let pre = at-if1.requires in
-    let S = means_small _ _ (now_means _ _ _ _ _ _ _ _ at-loop.loop-c.invariant.1 _ pre.1.1 at-if1.if-not-c.false).1 in
+    let S = means_small _ _ (now_means _ _ _ _ _ _ _ _ at-loop.loop-c.invariant.1 _ pre.1.1 (not-false _ at-if1.if-not-c.false)).1 in
     (pre.0, S.1)
 
 pub statement_line-requires : goal.statement_line-requires
@@ -38,8 +39,8 @@ statement_line-requires c =
     let at-loop = at-indent in
     let at-if1 = at-loop in
     let pre = at-if1.requires in
-    let w = onto_at _ _ at-indent.indent.ensures.onto.0 c.in-At.is in
-    (search rules, now_means _ _ _ _ _ _ _ _ at-loop.loop-c.invariant.1 _ pre.1.1 at-if1.if-not-c.false)
+    let w = onto_at _ _ at-indent.indent.ensures.onto c.in-At.is in
+    (search rules, now_means _ _ _ _ _ _ _ _ at-loop.loop-c.invariant.1 _ pre.1.1 (not-false _ at-if1.if-not-c.false))
 
 pub returns-in-At : goal.returns-in-At
 returns-in-At c =
@@ -47,17 +48,17 @@ returns-in-At c =
     let at-indent = at_p in
     let at-lives = at-indent in
     let at-loop = at-lives in
-    let started = at-loop.if-not-c.false in
+    let started = (not-false _ at-loop.if-not-c.false) in
     any_line _ _ _ _ _ _ started _ _
     (line_statement _ _ _ _ _ _ _ _ at-loop.loop-c.invariant.1 (search rules) _ at-lives.statement_lives.ensures _ _ at_p.in-At.is
-    at-indent.indent.ensures.indents at-indent.indent.ensures.onto.1 _ _ c.statement_line.ensures)
+    at-indent.indent.ensures.indents at-indent.indent.ensures.blank _ _ c.statement_line.ensures)
 
 pub returns-in-Begun : goal.returns-in-Begun
 returns-in-Begun c =
     let at-indent = c in
     let at-lives = at-indent in
     let at-loop = at-lives in
-    let started = at-loop.if-not-c.false in
+    let started = (not-false _ at-loop.if-not-c.false) in
     any_line _ _ _ _ _ _ started _ _
     (line_begun _ _ _ _ _ _ _ _ at-loop.loop-c.invariant.1 (search rules) _ at-lives.statement_lives.ensures _ c.in-Begun.is
     at-indent.indent.ensures.indents _ c.begun.ensures _)
@@ -67,7 +68,7 @@ bounds-dues-c c =
     let at-loop = c in
     let at-if1 = at-loop in
     let pre = at-if1.requires in
-    let M = (now_means _ _ _ _ _ _ _ _ at-loop.loop-c.invariant.1 _ pre.1.1 at-if1.if-not-c.false).1 in
+    let M = (now_means _ _ _ _ _ _ _ _ at-loop.loop-c.invariant.1 _ pre.1.1 (not-false _ at-if1.if-not-c.false)).1 in
     let h = below_eight _ _ M (search rules) in
     search rules
 
@@ -76,7 +77,7 @@ else_line-requires c =
     let at-loop = c in
     let at-if1 = at-loop in
     let pre = at-if1.requires in
-    (pre.0, now_means _ _ _ _ _ _ _ _ at-loop.loop-c.invariant.1 _ pre.1.1 at-if1.if-not-c.false, search rules, c.if-dues-c.true)
+    (pre.0, now_means _ _ _ _ _ _ _ _ at-loop.loop-c.invariant.1 _ pre.1.1 (not-false _ at-if1.if-not-c.false), search rules, c.if-dues-c.true)
 
 pub returns-then-dues-c : goal.returns-then-dues-c
 returns-then-dues-c c =
@@ -85,7 +86,7 @@ returns-then-dues-c c =
     let at-indent = at_told in
     let at-lives = at-indent in
     let at-loop = at-lives in
-    let started = at-loop.if-not-c.false in
+    let started = (not-false _ at-loop.if-not-c.false) in
     any_line _ _ _ _ _ _ started _ _
     (line_else _ _ _ _ _ _ _ _ at-loop.loop-c.invariant.1 (search rules) _ at-lives.statement_lives.ensures _ at_told.in-Not.is
     at-indent.indent.ensures.indents at-if3.if-dues-c.true _ _ c.else_line.ensures)
@@ -95,7 +96,7 @@ put_innermost-requires c =
     let at-loop = c in
     let at-if1 = at-loop in
     let pre = at-if1.requires in
-    (now_means _ _ _ _ _ _ _ _ at-loop.loop-c.invariant.1 _ pre.1.1 at-if1.if-not-c.false, search rules)
+    (now_means _ _ _ _ _ _ _ _ at-loop.loop-c.invariant.1 _ pre.1.1 (not-false _ at-if1.if-not-c.false), search rules)
 
 pub loop-c-smaller : goal.loop-c-smaller
 loop-c-smaller c = one_fewer _ _ c.closed-c.ensures (search rules)
@@ -118,10 +119,10 @@ top_line-requires c =
     let at-loop = c in
     let at-if1 = at-loop in
     let pre = at-if1.requires in
-    (pre.0, now_means _ _ _ _ _ _ _ _ at-loop.loop-c.invariant.1 _ pre.1.1 at-if1.if-not-c.false, search rules)
+    (pre.0, now_means _ _ _ _ _ _ _ _ at-loop.loop-c.invariant.1 _ pre.1.1 (not-false _ at-if1.if-not-c.false), search rules)
 
 pub returns : goal.returns
 returns c =
     let at-loop = c in
-    let started = at-loop.if-not-c.false in
+    let started = (not-false _ at-loop.if-not-c.false) in
     any_line _ _ _ _ _ _ started _ _ (line_top _ _ _ _ _ _ _ _ at-loop.loop-c.invariant.1 (search rules) _ _ c.top_line.ensures)

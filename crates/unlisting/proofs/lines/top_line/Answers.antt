@@ -3,6 +3,7 @@ use mathlib.Core.Path.{ap}
 use denote.Enum.Declared.{tag_of}
 use Rattle.stating.specs.contracts.statement.Heard.{the_type}
 use Rattle.unlisting.proofs.Tops.{one_of_two, nothing_in_main, main_after, function_stays}
+use borrow.Enum.Refused.{opened}
 use Rattle.unlisting.proofs.lines.top_line.Goals as goal
 
 pub returns-then-c : goal.returns-then-c
@@ -22,4 +23,4 @@ returns-in_default c =
     let at-function-line = c in
     let at-if1 = at-function-line in
     function_stays _ _ _ _ _ _ _ _ at-if1.if-c.false at-function-line.function_line-f.ensures.reads_line (λ e. one_of_two _ (ap (tag_of the_type) e)
-    c.in_default.in_default-own.keys2)
+    (opened c.in_default.in_default-own.keys2))

@@ -30,8 +30,7 @@ pub fn check(device: &[u8], program: &[u8], job: u64) -> CheckAnswer
 }
 
 // Value: the command count, and 65,536 times the number left live.
-#[unsafe(no_mangle)]
-pub extern "C" fn abwakiris_check(device: &[u8], program: &[u8], job: u64) -> u64
+pub fn abwakiris_check(device: &[u8], program: &[u8], job: u64) -> u64
     ensures { result ≡ packed_counted (check_of device.now program.now job) }
 {
     match check(device, program, job) {

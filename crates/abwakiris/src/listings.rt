@@ -15,8 +15,7 @@ pub fn write_listing(program: &[u8], text: &mut [u8]) -> WrittenAnswer
 }
 
 // Value: the bytes of the text.
-#[unsafe(no_mangle)]
-pub extern "C" fn abwakiris_write_listing(program: &[u8], text: &mut [u8]) -> u64
+pub fn abwakiris_write_listing(program: &[u8], text: &mut [u8]) -> u64
     ensures answer { result ≡ packed_value (write_listing_of program.now text.old).answer }
     ensures written { text.new ≡ (write_listing_of program.now text.old).buffer }
 {
@@ -34,8 +33,7 @@ pub fn read_listing(text: &[u8], program: &mut [u8]) -> WrittenAnswer
 }
 
 // Value: the bytes of the program.
-#[unsafe(no_mangle)]
-pub extern "C" fn abwakiris_read_listing(text: &[u8], program: &mut [u8]) -> u64
+pub fn abwakiris_read_listing(text: &[u8], program: &mut [u8]) -> u64
     ensures answer { result ≡ packed_value (read_listing_of text.now program.old).answer }
     ensures written { program.new ≡ (read_listing_of text.now program.old).buffer }
 {

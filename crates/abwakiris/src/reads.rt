@@ -19,8 +19,7 @@ pub fn read_device(bytes: &[u8]) -> LocationsAnswer
 }
 
 // Value: n, the number of locations.
-#[unsafe(no_mangle)]
-pub extern "C" fn abwakiris_read_device(bytes: &[u8]) -> u64
+pub fn abwakiris_read_device(bytes: &[u8]) -> u64
     ensures { result ≡ packed_value (read_device_of bytes.now) }
 {
     match read_device(bytes) {
@@ -38,8 +37,7 @@ pub fn read_program(bytes: &[u8]) -> ReadAnswer
 }
 
 // Value 0.
-#[unsafe(no_mangle)]
-pub extern "C" fn abwakiris_read_program(bytes: &[u8]) -> u64
+pub fn abwakiris_read_program(bytes: &[u8]) -> u64
     ensures { result ≡ packed_read (read_program_of bytes.now) }
 {
     match read_program(bytes) {

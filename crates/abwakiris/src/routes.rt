@@ -41,8 +41,7 @@ pub fn route(
 }
 
 // Value: the number of locations.
-#[unsafe(no_mangle)]
-pub extern "C" fn abwakiris_route(
+pub fn abwakiris_route(
     device: &[u8],
     job: u64,
     occupancy: &[u8],

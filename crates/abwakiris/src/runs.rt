@@ -32,8 +32,7 @@ pub fn run(
 }
 
 // Value: how many steps job 1 moved, and 65,536 times how many job 2 moved.
-#[unsafe(no_mangle)]
-pub extern "C" fn abwakiris_run(
+pub fn abwakiris_run(
     device: &[u8],
     first: &[u8],
     second: &[u8],

@@ -1,5 +1,6 @@
 // The public calls with their promises, and their exports.
 #![tactic(auto)]
+
 pub mod checks;
 mod jobs;
 pub mod listings;

@@ -1,5 +1,6 @@
 // The library for C: one export for each call, under the same name, with the same promise.
 #![tactic(auto)]
+
 ghost use Rattle.std.specs.Prelude.{◌≡◌};
 ghost use Rattle.rules.specs.Promises.{check_of, read_device_of, read_program_of};
 ghost use Rattle.rules.specs.Promises.{read_listing_of, write_listing_of};

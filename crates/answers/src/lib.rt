@@ -1,5 +1,6 @@
 // What a call answers: a value, or a refusal that says its number, its place and which file the place is in.
 #![tactic(auto)]
+
 ghost use Rattle.std.specs.Prelude.{◌≡◌};
 ghost use Rattle.answers.specs.Check.{refusal, in_file};
 

@@ -2,6 +2,7 @@
 // The two exports promise nothing of their sum: no rule speaks of it, and it is there only so that no search is left out when the code is compiled.
 // They are proved safe and ending as all code is, each search that they call keeps its own promise, and nothing but the benchmark links them.
 #![tactic(auto)]
+
 ghost use Rattle.std.specs.Prelude.{◌≡◌, ◌<◌, length};
 
 use route::Found;

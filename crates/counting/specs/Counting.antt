@@ -1,8 +1,7 @@
 -- What the count finds: the size of main's commands and of each function's, capped above the limit.
-use Rattle.std.specs.Prelude.{List, ◌≡◌, ℕ, ◌<◌, min, get_or, length}
+use Rattle.std.specs.Prelude.{◌≡◌, ℕ, ◌<◌, min, get_or, length}
 use Rattle.rules.specs.Syntax.{Program, function}
 use Rattle.theory.specs.Counts.{block_size}
-use Rattle.counting.specs.declared.Memory.{Memory}
 use Rattle.counting.specs.declared.Counted.{Counted}
 
 -- a count above 65,535 is known only to be too large

@@ -1,5 +1,6 @@
 // The command count of a read program.
 #![tactic(auto)]
+
 ghost use Rattle.std.specs.Prelude.{◌≡◌, ℕ, ◌≤◌, ◌<◌, get_or};
 ghost use Rattle.rules.specs.Syntax.{Program};
 ghost use Rattle.program.specs.In.{ProgramIn};

@@ -1,5 +1,5 @@
 -- What the device reader answers, and what it hands on: the region of a job as a set of locations and rows of bits.
-use Rattle.std.specs.Prelude.{Bool, List, ◌≡◌, ℕ, length}
+use Rattle.std.specs.Prelude.{List, ◌≡◌, ℕ, length}
 use Rattle.answers.specs.Check.{Check, ok, refused, ◌>>=◌}
 use Rattle.rules.specs.declared.device.DeviceHeader.{DeviceHeader}
 use Rattle.rules.specs.Device.{Device, read_device}

@@ -1,5 +1,6 @@
 // The reader of device files, and the region of a job.
 #![tactic(auto)]
+
 ghost use Rattle.std.specs.Prelude.{◌≡◌, ◌≤◌};
 ghost use Rattle.answers.specs.declared.File.TheVariants.{Device};
 ghost use Rattle.answers.specs.Check.{within};

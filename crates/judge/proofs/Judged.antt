@@ -1,6 +1,6 @@
 -- What typing, the count and the walk say of a program is what the judgement says. Typing accepts what the rules derive, so the sizes that the count sums
 -- up are those of the commands derived, and the walk goes over those commands.
-use mathlib.Core.Bool.{Bool, true, false}
+use mathlib.Core.Bool.{Bool, true}
 use mathlib.Core.List.{List}
 use mathlib.Core.Path.{◌≡◌, refl, sym, ap, ◌∙◌}
 use native.Mathlib.Decide.{dec_le}
@@ -16,7 +16,7 @@ use Rattle.answers.specs.declared.Counted.{Counted as Answer}
 use Rattle.counting.specs.declared.Counted.{Counted}
 use Rattle.counting.specs.Counting.{cap, Sizes, Counts}
 use Rattle.rules.specs.Region.{Region}
-use Rattle.rules.specs.Syntax.{device, function, Program}
+use Rattle.rules.specs.Syntax.{device, Program}
 use Rattle.rules.specs.Program.{read_program}
 use Rattle.rules.specs.Commands.{size_of, walk}
 use Rattle.rules.specs.Typing.{Typed, signature, type_program, live_in}

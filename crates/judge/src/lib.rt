@@ -1,6 +1,7 @@
 // The judgement of a read program in a job's region: typing, then 20, then 21. The answer is the command count and the number
 // left live, or the first refusal, its file not named.
 #![tactic(auto)]
+
 ghost use Rattle.std.specs.Prelude.{◌≡◌};
 ghost use Rattle.answers.specs.Check.{ok};
 ghost use Rattle.answers.specs.Said.{check_said};

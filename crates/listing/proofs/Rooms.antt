@@ -5,7 +5,6 @@ use mathlib.Core.Path.{◌≡◌}
 use native.Mathlib.Omega.{arith}
 use Prim.Native.Nat.{ℕ, ◌+◌, ◌*◌, ◌≤◌}
 use lib.ListN.{length}
-use Rattle.rules.specs.Basics.{byte}
 use Rattle.listing.specs.declared.blocks.Ends.{Ends}
 use Rattle.listing.specs.Blocks.{Room, Between}
 

@@ -1,5 +1,6 @@
 // Listings of programs: the writer.
 #![tactic(auto)]
+
 ghost use Rattle.std.specs.Prelude.{◌≡◌};
 ghost use Rattle.rules.specs.Promises.{write_listing_of};
 ghost use Rattle.listing.specs.Whole.{ReadIn, told};

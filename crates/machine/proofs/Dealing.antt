@@ -1,8 +1,8 @@
 -- The turns dealt out one by one, in the manner of what is still to come: the records of the rest, written after those that are written, the machine that
 -- the rest ends with, and the moved steps of the rest on top of those counted are those of the whole.
-use mathlib.Core.Bool.{Bool, true, ◌&&◌}
-use mathlib.Core.List.{List, [], ◌∷◌, map}
-use mathlib.Core.Path.{◌≡◌, refl, sym, ap, ◌∙◌, subst}
+use mathlib.Core.Bool.{◌&&◌}
+use mathlib.Core.List.{List, ◌∷◌, map}
+use mathlib.Core.Path.{◌≡◌, refl, sym, ap, ◌∙◌}
 use native.Mathlib.Omega.{arith}
 use Prim.Native.Nat.{ℕ, suc, ◌+◌, ◌*◌, ◌/◌, ◌≤◌, ◌<◌}
 use lib.Dec.{eqb}

@@ -1,7 +1,7 @@
 -- A step taken is the rules' step, done to the map; a turn is the step of the job that its byte names, and the other job stays.
 use mathlib.Core.Bool.{Bool, true}
-use mathlib.Core.List.{List, map}
-use mathlib.Core.Path.{◌≡◌, refl, sym, ap, ◌∙◌, subst}
+use mathlib.Core.List.{List}
+use mathlib.Core.Path.{◌≡◌, sym, ◌∙◌, subst}
 use native.Mathlib.Omega.{arith}
 use Prim.Native.Nat.{ℕ, ◌/◌, ◌%◌, ◌≤◌, ◌<◌}
 use lib.Dec.{eqb}
@@ -11,7 +11,6 @@ use Rattle.rules.specs.Region.{region_of}
 use Rattle.rules.specs.Syntax.{Program}
 use Rattle.rules.specs.Run as run
 use Rattle.rules.specs.Run.{Turn, step_of, after}
-use Rattle.sets.specs.declared.LocationSet.{LocationSet}
 use Rattle.steps.specs.declared.Stepped.{Stepped}
 use Rattle.steps.specs.declared.job.Job.{Job}
 use Rattle.steps.specs.Stepping.{Steps}
@@ -21,9 +20,8 @@ use Rattle.steps.proofs.Applying.{step_applied, length_written}
 use Rattle.machine.specs.declared.turn.Seat.{Seat}
 use Rattle.machine.specs.declared.turn.Machine.{Machine}
 use Rattle.machine.specs.declared.turn.Taken.{Taken}
-use Rattle.machine.specs.declared.turn.Turned.{Turned}
-use Rattle.theory.specs.TheRun.{is_turn, turn_of}
-use Rattle.machine.specs.Running.{programs, Takes, Both, Holds, Turns}
+use Rattle.theory.specs.TheRun.{is_turn}
+use Rattle.machine.specs.Running.{programs, Takes, Holds, Turns}
 use Rattle.theory.proofs.TheRun.{turn_bounds}
 
 pub taken : (s : List ℕ) (c : Seat) (rows before : List ℕ) (j : Job) (number : ℕ) (v : Bool) (r : Stepped) (now : List ℕ) → Steps s c.functions rows c.owned before v j r

@@ -4,10 +4,10 @@ use mathlib.Core.Bool.{◌&&◌}
 use mathlib.Core.List.{List, [], ◌∷◌, ◌++◌}
 use mathlib.Core.Path.{◌≡◌, refl, sym, ap, ◌∙◌}
 use native.Mathlib.Omega.{arith}
-use Prim.Native.Nat.{ℕ, zero, suc, ◌+◌, ◌/◌, ◌%◌, ◌≤◌, ◌<◌}
+use Prim.Native.Nat.{ℕ, suc, ◌+◌, ◌/◌, ◌%◌, ◌≤◌, ◌<◌}
 use borrow.Author.Tests.{eq-eqb, ne_eqb}
 use lib.Dec.{eqb}
-use lib.ListN.{length, get_or, set, take, drop, length-take, drop_of_length-le}
+use lib.ListN.{length, get_or, set, take, drop, drop_of_length-le}
 use lib.Seq.{sets, sets-eq, drop-cons, get_or-take, length-take-le}
 use Rattle.rules.specs.Basics.{chosen}
 use Rattle.rules.specs.Promises.{over}

@@ -1,8 +1,6 @@
 -- What it is for the code's machine to stand for a machine of the rules, and what a turn and the run promise.
-use Rattle.std.specs.Prelude.{Bool, true, List, [], ◌∷◌, map, ◌≡◌, ℕ, ◌+◌, ◌*◌, ◌/◌, ◌%◌, ◌≤◌, ◌<◌, eqb, length}
+use Rattle.std.specs.Prelude.{Bool, true, List, [], ◌∷◌, map, ◌≡◌, ℕ, ◌*◌, ◌/◌, ◌%◌, ◌≤◌, ◌<◌, eqb, length}
 use Rattle.std.proofs.lemmas.List.Edits.{sets}
-use Rattle.answers.specs.Check.{ok}
-use Rattle.answers.specs.declared.Moved.{Moved}
 use Rattle.rules.specs.Basics.{byte, chosen}
 use Rattle.rules.specs.Device.{Device}
 use Rattle.rules.specs.Region.{Region, region_of, free_in}
@@ -13,7 +11,7 @@ use Rattle.rules.specs.Run as run
 use Rattle.rules.specs.Run.{Turn, turns, written, started, step_of, after, final, records, record_bytes, moved_by}
 use Rattle.theory.specs.TheRun.{is_turn, turn_of}
 use Rattle.device.specs.Reader.{Owned, Rows}
-use Rattle.program.specs.In.{ProgramIn, offset_of}
+use Rattle.program.specs.In.{ProgramIn}
 use Rattle.program.specs.Reader.{Heads}
 use Rattle.steps.specs.declared.Record.{Record}
 use Rattle.steps.specs.declared.job.Job.{Job}

@@ -17,7 +17,7 @@ use Rattle.rules.specs.Basics.{byte, word, has_mark}
 use Rattle.rules.specs.Syntax.{Side, device, parameter, Op, Statement, op, Statements, done, ◌⨾◌, Block, block, Function, function, Program}
 use Rattle.rules.specs.Words.{Text}
 use Rattle.rules.specs.Table.{simple, branches, loops, calls, Row, table, row_of, size}
-use Rattle.rules.specs.Program.{Read, Scope, known, operands, meant, statement, statements, read_block}
+use Rattle.rules.specs.Program.{Read, Scope, known, meant, statement, statements, read_block}
 use Rattle.rules.specs.Program.{function_header, program_header, functions_at, read_program}
 use Rattle.program.specs.In.{BlockIn, StatementIn, StatementsIn, ProgramIn, offset_of, main_scope}
 use Rattle.program.specs.In.{View, is_init_lem, is_magic, is_free, is_gate, is_measure, is_merge_lem, is_new, is_get, is_set, is_if, is_while, is_call_lem, is_bool_lem}

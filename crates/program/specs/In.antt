@@ -1,13 +1,13 @@
 -- What it is for a tree to stand in the bytes of a read file, part by part: a block, the statements from a position to a block's end, a statement.
 -- Scope and depths left are indices, so that a pass which goes down into a block or a callee says which it is in. These are what later passes
 -- cite; the laws that take them apart are in proofs/In.antt.
-use Rattle.std.specs.Prelude.{List, ◌≡◌, ℕ, suc, ◌+◌, ◌-◌, ◌<◌, ◌≤◌, get_or, length, take}
+use Rattle.std.specs.Prelude.{List, ◌≡◌, ℕ, ◌+◌, ◌-◌, ◌<◌, ◌≤◌, length, take}
 use Rattle.answers.specs.Check.{ok}
-use Rattle.rules.specs.Basics.{up_to, byte, word}
-use Rattle.rules.specs.Syntax.{Side, device, parameter, Place, Preparation, plain, magic}
-use Rattle.rules.specs.Syntax.{Op, init, free, gate, measure, merge, new_ref, get_ref, set_ref, constant}
-use Rattle.rules.specs.Syntax.{Statement, op, if, while, call, Statements, done, ◌⨾◌, Block, block, Function, function, Program}
-use Rattle.rules.specs.Program.{Scope, read_block, statement, statements, read_program}
+use Rattle.rules.specs.Basics.{up_to, byte}
+use Rattle.rules.specs.Syntax.{Side, Place, plain, magic}
+use Rattle.rules.specs.Syntax.{init, free, gate, measure, merge, new_ref, get_ref, set_ref, constant}
+use Rattle.rules.specs.Syntax.{Statement, op, if, while, call, Statements, Block, block, Function, function, Program}
+use Rattle.rules.specs.Program.{Scope, read_block, statement, statements}
 
 module _ {d : Side} (s : List ℕ) (S : Scope) where
   -- block x from its length word at `at` up to p

@@ -1,5 +1,6 @@
 // The reader of program files: heads, body offsets and main's offset of a file that reads, or the first refusal.
 #![tactic(auto)]
+
 ghost use Rattle.std.specs.Prelude.{◌≡◌, List, ◌≤◌, length};
 ghost use Rattle.answers.specs.Check.{ok, ◌>>◌ as ◌then◌, within};
 ghost use Rattle.answers.specs.Said.{read_said};

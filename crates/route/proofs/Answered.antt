@@ -1,7 +1,7 @@
 -- From the hops that the search found to what it answers, one law for each answer: the buffer is written where the route fits, and else stays.
-use mathlib.Core.List.{List, [], ◌∷◌}
-use mathlib.Core.Option.{Option, none, some}
-use mathlib.Core.Path.{◌≡◌, refl, sym, ap, ◌∙◌}
+use mathlib.Core.List.{List}
+use mathlib.Core.Option.{Option, none}
+use mathlib.Core.Path.{◌≡◌, refl, ap, ◌∙◌}
 use native.Mathlib.Numerals.{add-one}
 use native.Mathlib.Omega.{arith}
 use Prim.Native.Nat.{ℕ, zero, suc, ◌+◌, ◌≤◌, ◌<◌}
@@ -10,7 +10,7 @@ use lib.ListN.{length}
 use Rattle.answers.specs.Check.{◌>>=◌, ◌>>◌}
 use Rattle.rules.specs.Promises.{over}
 use Rattle.route.specs.declared.Found.TheVariants.{Written, NoPath, Short}
-use Rattle.route.specs.Found.{fitted, said_of, Answers}
+use Rattle.route.specs.Found.{fitted, Answers}
 use Rattle.route.specs.Hops.{hops, followed}
 use Rattle.route.proofs.Hopped.{hops_length}
 

@@ -1,13 +1,13 @@
 -- A way by its hops. From each location the hop leads to the first neighbour that is one level nearer to b; so the hops make a way as long as the level
 -- is high, and among the ways of that length none is before it: at the first location where another one differs, it takes a larger neighbour.
-use mathlib.Core.Bool.{Bool, true, false}
+use mathlib.Core.Bool.{Bool, true}
 use mathlib.Core.List.{List, [], ◌∷◌}
-use mathlib.Core.Logic.{◌⊎◌, inl, inr, ⊎_elim}
+use mathlib.Core.Logic.{inl, inr, ⊎_elim}
 use mathlib.Core.Option.{some}
 use mathlib.Core.Path.{◌≡◌, refl, sym, ap, subst, ◌∙◌}
 use native.Mathlib.Decide.{ℕ_discrete}
 use native.Mathlib.Omega.{arith}
-use Prim.Native.Nat.{ℕ, zero, suc, ◌+◌, ◌≤◌, ◌<◌}
+use Prim.Native.Nat.{ℕ, zero, suc, ◌≤◌, ◌<◌}
 use lib.ListN.{length, get_or}
 use Rattle.rules.specs.Region.{Region, joined}
 use Rattle.rules.specs.Path.{NotAfter, between, Along, last, then, route}

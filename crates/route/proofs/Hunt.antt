@@ -3,25 +3,24 @@
 use mathlib.Core.Bool.{Bool, true, false, not, ◌&&◌, ◌||◌}
 use mathlib.Core.List.{List}
 use mathlib.Core.Logic.{◌⊎◌, inl, inr, ⊎_elim}
-use mathlib.Core.Option.{none, some}
+use mathlib.Core.Option.{none}
 use mathlib.Core.Path.{◌≡◌, refl, sym, ap, subst, ◌∙◌}
-use native.Mathlib.Decide.{ℕ_discrete}
 use native.Mathlib.Numerals.{add-one}
 use native.Mathlib.Omega.{arith}
-use Prim.Native.Nat.{ℕ, zero, suc, ◌+◌, ◌≤◌, ◌<◌}
-use borrow.Author.Tests.{eq-eqb, ne_eqb, eqb-true}
+use Prim.Native.Nat.{ℕ, suc, ◌+◌, ◌≤◌, ◌<◌}
+use borrow.Author.Tests.{eq-eqb, eqb-true}
 use lib.Dec.{eqb}
 use lib.ListN.{length, get_or, set}
 use lib.Seq.{get_or-set_same, get_or-set_other}
 use Rattle.rules.specs.Region.{Region, joined}
-use Rattle.rules.specs.Path.{between, route}
+use Rattle.rules.specs.Path.{route}
 use Rattle.sets.specs.declared.LocationSet.{LocationSet}
 use Rattle.sets.specs.Sets.{has, row_of, FirstFrom}
-use Rattle.sets.proofs.Bools.{clash, either, and_both, both_and, or_left, or_right, or_cases, not_of, of_not, side}
+use Rattle.sets.proofs.Bools.{clash, either, and_both, both_and, or_left, or_right, side}
 use Rattle.sets.proofs.SetLaws.{has_lt}
 use Rattle.sets.proofs.Sweep.{none_has}
 use Rattle.device.specs.Reader.{Rows}
-use Rattle.route.specs.Hops.{hops, followed}
+use Rattle.route.specs.Hops.{followed}
 use Rattle.route.specs.Sweeps.{Spread}
 use Rattle.route.proofs.Edges.{joined_turn}
 use Rattle.route.proofs.Hopped.{Hop, hop_route}

@@ -1,17 +1,17 @@
 -- A word taken by its bits from the lowest on. One less than a word has no lowest bit, all bits below it, and above it the word's own: by halving. So the
 -- common part of the two is the word without its lowest bit.
 use mathlib.Core.Logic.{⊎_elim}
-use mathlib.Core.Path.{◌≡◌, refl, sym, ap, ◌∙◌}
+use mathlib.Core.Path.{◌≡◌, sym, ap, ◌∙◌}
 use native.Mathlib.Nat.{div-one}
 use native.Mathlib.Numerals.{one-add}
 use native.Mathlib.Omega.{arith}
-use Prim.Native.Nat.{ℕ, zero, suc, ◌-◌, ◌/◌, ◌%◌, ◌^◌, ◌<◌}
+use Prim.Native.Nat.{ℕ, zero, suc, ◌-◌, ◌/◌, ◌%◌, ◌<◌}
 use lib.Bits.{bit_and, and_zero_l, and_zero_r, and_self, and_le_r}
 use lib.Pow.{shr-shr}
 use Rattle.sets.specs.Sets.{bit_of}
 use Rattle.sets.proofs.Bits.{and_bit}
 use Rattle.sets.proofs.Bools.{side}
-use Rattle.route.specs.Sweeps.{Lowest, Cleared}
+use Rattle.route.specs.Sweeps.{Cleared}
 
 half_bit : (w j : ℕ) → bit_of w (suc j) ≡ bit_of (w / 2) j
 unfolding bit_of

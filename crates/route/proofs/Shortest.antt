@@ -1,18 +1,18 @@
 -- A shortest way from a to b has no location twice: else cutting out what lies between the two would give a shorter one. So it is a path, and the laws of the
 -- route apply to it: no way at all is no route, the shortest way has as many edges as the route, and the smallest of the shortest is the route.
-use mathlib.Core.Bool.{Bool, true, false, not, ◌&&◌, ◌||◌, false≢true}
+use mathlib.Core.Bool.{Bool, true, false, not, ◌&&◌, false≢true}
 use mathlib.Core.List.{List, [], ◌∷◌}
 use mathlib.Core.Option.{Option, none, some}
-use mathlib.Core.Path.{◌≡◌, refl, sym, ap, subst, ◌∙◌}
+use mathlib.Core.Path.{◌≡◌, refl}
 use native.Mathlib.Decide.{ℕ_discrete}
 use native.Mathlib.Omega.{arith}
-use Prim.Native.Nat.{ℕ, zero, suc, ◌+◌, ◌-◌, ◌≤◌, ◌<◌}
+use Prim.Native.Nat.{ℕ, suc, ◌-◌, ◌≤◌}
 use borrow.Author.Tests.{eq-eqb, ne_eqb}
 use lib.Dec.{eqb}
 use lib.ListN.{length}
 use Rattle.rules.specs.Basics.{any, distinct}
-use Rattle.rules.specs.Region.{Region, joined}
-use Rattle.rules.specs.Path.{NotAfter, between, Along, last, then, Path, Route, route}
+use Rattle.rules.specs.Region.{Region}
+use Rattle.rules.specs.Path.{NotAfter, between, Along, last, then, Path, route}
 use Rattle.theory.proofs.Routes.{no_route, the_route}
 use Rattle.sets.proofs.Bools.{and_both, not_of, clash}
 use Rattle.route.specs.Found.{edges_of}

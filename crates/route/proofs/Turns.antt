@@ -9,7 +9,7 @@ use Prim.Native.Nat.{ℕ, suc, ◌+◌, ◌<◌}
 use borrow.Author.Tests.{eq-eqb}
 use lib.Dec.{eqb}
 use Rattle.rules.specs.Region.{Region, joined}
-use Rattle.rules.specs.Path.{between, Along, last, route}
+use Rattle.rules.specs.Path.{between, last, route}
 use Rattle.sets.specs.declared.LocationSet.{LocationSet}
 use Rattle.sets.specs.Sets.{has, row_of}
 use Rattle.sets.proofs.Bools.{clash, and_both, not_of}

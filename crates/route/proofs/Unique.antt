@@ -9,7 +9,7 @@ use Rattle.answers.specs.Check.{Check, ok, refused}
 use Rattle.rules.specs.Promises.{Routed}
 use Rattle.route.specs.declared.Found.{Found}
 use Rattle.route.specs.declared.Found.TheVariants.{Written, NoPath, Short}
-use Rattle.route.specs.Found.{found_said, said_of, Answers}
+use Rattle.route.specs.Found.{found_said, Answers}
 
 -- what is said gives the answer back
 abbrev back : Check ℕ → Found

@@ -1,6 +1,6 @@
 -- What the levels around both ends say of the ways from a to b. A way is at least as long as the levels are deep on both sides, since no edge joins them; where
 -- a location is joined to the newest level of either end there is a way of just that length; where one end has no further level there is none.
-use mathlib.Core.Bool.{Bool, true, false}
+use mathlib.Core.Bool.{Bool, true}
 use mathlib.Core.List.{List, [], ◌∷◌}
 use mathlib.Core.Logic.{◌⊎◌, inl, inr, ⊎_elim}
 use mathlib.Core.Path.{◌≡◌, refl, sym, ap, subst, ◌∙◌}

@@ -1,5 +1,6 @@
 // The route search over a region's rows of bits: how many edges the route between two ends has, and the route itself.
 #![tactic(auto)]
+
 ghost use Rattle.std.specs.Prelude.{◌≡◌, ◌<◌};
 ghost use Rattle.rules.specs.Region.{Region};
 ghost use Rattle.rules.specs.Path.{route};

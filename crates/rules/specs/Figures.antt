@@ -1,15 +1,15 @@
 -- The paper's rules, narrowed as the document says, under the paper's names: Figures 10, 11 and 14 derive typings, Figure 12 command sequences.
 -- Statements 8 and 13 are house forms (T-Deref bound to a slot, T-Bool). Each command stands before those that follow it, as in Definition 3, so
 -- C-Concat is part of every rule of Figure 12.
-use Rattle.std.specs.Prelude.{Bool, true, false, List, [], ◌∷◌, map, ◌≢◌, ◌≡◌, ℕ, ◌<◌, ◌≤◌, get_or, set, length, drop}
+use Rattle.std.specs.Prelude.{Bool, true, false, List, [], ◌∷◌, map, ◌≢◌, ◌≡◌, ℕ, ◌<◌, get_or, set, length, drop}
 use Rattle.rules.specs.Basics.{all, up_to, distinct}
 use Rattle.rules.specs.Region.{Region}
 use Rattle.rules.specs.Path.{Path}
 use Rattle.rules.specs.Syntax.{Side, device, parameter, Place, at, Preparation, plain, magic}
 use Rattle.rules.specs.Syntax.{Op, init, free, gate, measure, merge, new_ref, get_ref, set_ref, constant}
 use Rattle.rules.specs.Syntax.{Statement, op, if, while, call, Statements, done, ◌⨾◌, Block, block, Function, Program}
-use Rattle.rules.specs.Slots.{Slot, unbound, qubit, bool, ref, slot}
-use Rattle.rules.specs.Commands.{Commands, ε, alloc, release, connect, either, repeat, ◌then◌, commands_at, size_of}
+use Rattle.rules.specs.Slots.{unbound, qubit, bool, ref, slot}
+use Rattle.rules.specs.Commands.{Commands, ε, alloc, release, connect, either, repeat, ◌then◌, commands_at}
 use Rattle.rules.specs.Typing.{Kind, Env, Typed, Signature, Context, signature, all_stay, narrowed, entry, body_context, signature_of, main_context, start}
 
 -- each value stored at its number

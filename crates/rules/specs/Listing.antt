@@ -1,5 +1,5 @@
 -- The listing of a readable program: its lines, each a list of words. A statement's line is printed from its row of the table and its bytes.
-use Rattle.std.specs.Prelude.{Bool, true, false, List, [], ◌∷◌, ◌++◌, map, ℕ, zero, suc, ◌+◌, get_or}
+use Rattle.std.specs.Prelude.{Bool, true, false, List, [], ◌∷◌, ◌++◌, map, ℕ, zero, suc, get_or}
 use Rattle.std.proofs.Math.Option.{Option, none, some}
 use Rattle.answers.specs.Check.{Check, ok, ◌>>=◌}
 use Rattle.rules.specs.declared.statements.Operand.{Operand}

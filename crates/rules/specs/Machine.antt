@@ -1,5 +1,5 @@
 -- The steps of a job: one item is one step.
-use Rattle.std.specs.Prelude.{Bool, true, false, List, [], ◌∷◌, map, ℕ, ◌-◌, length, take, replicate}
+use Rattle.std.specs.Prelude.{Bool, List, [], ◌∷◌, map, ℕ, ◌-◌, length, take, replicate}
 use Rattle.answers.specs.Check.{Check, ok, refused, ◌>>=◌, ◌>>◌}
 use Rattle.rules.specs.Basics.{chosen, without, set_all}
 use Rattle.rules.specs.Region.{Region, owns}

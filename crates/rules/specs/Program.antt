@@ -1,6 +1,6 @@
 -- Program files. Order: 1, 4 for file length, 2, 3, 4 for f, then left to right, first fault met. "Fits" is within the enclosing block, and for
 -- headers and outermost blocks within the file.
-use Rattle.std.specs.Prelude.{Bool, true, false, ◌&&◌, List, [], ◌∷◌, ◌++◌, map, ℕ, zero, suc, ◌+◌, eqb, ltb, leb, length, replicate}
+use Rattle.std.specs.Prelude.{Bool, true, false, ◌&&◌, List, [], ◌∷◌, ◌++◌, ℕ, zero, suc, ◌+◌, eqb, ltb, leb, length, replicate}
 use Rattle.std.proofs.Math.Option.{Option, none, some}
 use Rattle.answers.specs.Check.{Check, ok, refused, refusal, ◌>>=◌, ◌>>◌, need}
 use Rattle.rules.specs.declared.program.ProgramHeader.{ProgramHeader}
@@ -12,7 +12,7 @@ use Rattle.rules.specs.declared.program.FunctionHeaderAnswer.TheVariants.{Made a
 use Rattle.rules.specs.declared.statements.Operand.{Operand}
 use Rattle.rules.specs.declared.statements.Operand.TheVariants.{Slot, Location, Gate, Basis, Value, Callee, CalleeK, CalleeM, Nothing}
 use Rattle.rules.specs.Basics.{up_to, byte, word, has_mark}
-use Rattle.rules.specs.Syntax.{Side, device, parameter, Place, Op, Statement, op, if, while, call}
+use Rattle.rules.specs.Syntax.{Side, device, parameter, Statement, op, if, while, call}
 use Rattle.rules.specs.Syntax.{Statements, done, ◌⨾◌, Block, block, Function, function, Program}
 use Rattle.rules.specs.Table.{Meaning, simple, branches, loops, calls, Row, row_of, size}
 

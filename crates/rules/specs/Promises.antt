@@ -1,5 +1,5 @@
 -- What each public call promises: from what it is given, its answer and the final bytes of every buffer, for every input.
-use Rattle.std.specs.Prelude.{Bool, ◌&&◌, ◌||◌, not, List, [], ◌∷◌, ◌++◌, ℕ, ◌*◌, eqb, leb, length, drop}
+use Rattle.std.specs.Prelude.{◌&&◌, ◌||◌, not, List, ◌++◌, ℕ, ◌*◌, eqb, leb, length, drop}
 use Rattle.answers.specs.Check.{Check, ok, refused, ◌>>=◌, ◌>>◌, need, within}
 use Rattle.answers.specs.declared.File.TheVariants.{Device, Schedule, Listing, Program}
 use Rattle.answers.specs.declared.Counted.{Counted}

@@ -1,5 +1,5 @@
 -- The region of a job: one record that typing, commands, steps and the route search share.
-use Rattle.std.specs.Prelude.{Bool, false, ◌&&◌, ◌||◌, List, map, ℕ, eqb, get_or, length}
+use Rattle.std.specs.Prelude.{Bool, false, ◌&&◌, ◌||◌, List, map, ℕ, eqb, get_or}
 use Rattle.rules.specs.Basics.{any}
 use Rattle.rules.specs.Device.{Edge, Device}
 

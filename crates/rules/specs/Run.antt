@@ -1,10 +1,10 @@
 -- The run of any number of jobs on one device under a schedule.
-use Rattle.std.specs.Prelude.{Bool, true, false, ◌&&◌, List, [], ◌∷◌, ◌++◌, map, ℕ, suc, ◌+◌, ◌/◌, ◌%◌, eqb, leb, set, length, replicate}
-use Rattle.answers.specs.Check.{Check, ok, refused, ◌>>=◌, ◌>>◌, need}
+use Rattle.std.specs.Prelude.{Bool, ◌&&◌, List, [], ◌∷◌, ℕ, suc, ◌+◌, ◌/◌, ◌%◌, eqb, leb, set, length, replicate}
+use Rattle.answers.specs.Check.{Check, ok, ◌>>=◌, ◌>>◌, need}
 use Rattle.rules.specs.Basics.{chosen}
 use Rattle.rules.specs.Device.{Device}
-use Rattle.rules.specs.Region.{Region, region_of, free_in}
-use Rattle.rules.specs.Syntax.{device, Place, Program}
+use Rattle.rules.specs.Region.{region_of, free_in}
+use Rattle.rules.specs.Syntax.{device, Program}
 use Rattle.rules.specs.Slots.{Act, quiet, takes, gives, merges}
 use Rattle.rules.specs.Machine.{Job, fresh, Record, Stepped, step}
 

@@ -3,7 +3,7 @@
 use Rattle.std.specs.Prelude.{Bool, true, false, not, ◌&&◌, List, [], ◌∷◌, ◌++◌, map, ℕ, ◌-◌, eqb, get_or, set, length, drop, replicate}
 use Rattle.answers.specs.Check.{Check, ok, refused, refusal, ◌>>=◌, ◌>>◌, need}
 use Rattle.rules.specs.Basics.{all, up_to, distinct}
-use Rattle.rules.specs.Syntax.{Side, Place, at, Preparation, Op, init, free, gate, measure, merge, new_ref, get_ref, set_ref, constant}
+use Rattle.rules.specs.Syntax.{Side, Place, Preparation, Op, init, free, gate, measure, merge, new_ref, get_ref, set_ref, constant}
 
 -- A slot is unbound, a qubit at a place, a bool, or a reference to a bool. Typing knows no bool's value (B is `Unit`), a step does (B is `Bool`).
 pub data Slot (s : Side) (B : Type 0) : Type 0 where

@@ -1,7 +1,7 @@
 -- Typing: the environment after a statement or a block and its commands, or the first refusal.
 use Rattle.std.specs.Prelude.{Bool, true, false, not, ◌&&◌, ◌||◌, cond, List, [], ◌∷◌, ◌++◌, map, ℕ, ◌+◌, ◌-◌, eqb, ltb, get_or, set, length, replicate}
 use Rattle.std.specs.Bool.{beq}
-use Rattle.answers.specs.Check.{Check, ok, refused, ◌>>=◌, ◌>>◌, need}
+use Rattle.answers.specs.Check.{Check, ok, ◌>>=◌, ◌>>◌, need}
 use Rattle.rules.specs.Basics.{chosen, all, how_many, same_list, up_to, without, set_all}
 use Rattle.rules.specs.Syntax.{Side, device, parameter, Place, param, at, Statement, op, if, while, call}
 use Rattle.rules.specs.Syntax.{Statements, done, ◌⨾◌, Block, block, Function, Program}

@@ -1,7 +1,7 @@
 -- The reader of listings, line by line: the program so far, which lines may follow it, and the file when the text ends.
 use Rattle.std.specs.Prelude.{Bool, true, false, List, [], ◌∷◌, ◌++◌, ℕ, zero, suc, ◌+◌, ◌/◌, ◌%◌, ltb, leb, get_or, length, replicate}
 use Rattle.std.proofs.Math.Option.{Option, none, some}
-use Rattle.answers.specs.Check.{Check, ok, refused, refusal, ◌>>=◌, ◌>>◌, need}
+use Rattle.answers.specs.Check.{Check, ok, refused, refusal, ◌>>◌, need}
 use Rattle.rules.specs.declared.statements.Operand.{Operand}
 use Rattle.rules.specs.declared.statements.Operand.TheVariants.{Slot, Location, Gate, Basis, Value, Callee, CalleeK, CalleeM, Nothing}
 use Rattle.rules.specs.Basics.{chosen, up_to}

@@ -1,7 +1,7 @@
 -- Laws of the first member of a set, one for each exit of the search, and of the test for no member. The search shifts the word where it starts, so
 -- its bits are those from the start on; every later word is taken whole. Where the union of the words is zero, each word is.
 use mathlib.Core.Bool.{true, false}
-use mathlib.Core.Logic.{◌⊎◌, ⊎_elim}
+use mathlib.Core.Logic.{⊎_elim}
 use mathlib.Core.Path.{◌≡◌, refl, sym, ap, ◌∙◌}
 use native.Mathlib.Decide.{ℕ_discrete}
 use native.Mathlib.Nat.{div-eq_of_lt, lt_of_lt_of_le}

@@ -1,7 +1,7 @@
 -- Going through the members of a set by `first_from`, from the first on: what was shown of each member that was met holds of every member, since
 -- between two that are met there is none. Nothing here looks into `has`.
 use mathlib.Core.Bool.{true, false}
-use mathlib.Core.Logic.{◌⊎◌, ⊎_elim}
+use mathlib.Core.Logic.{⊎_elim}
 use mathlib.Core.Path.{◌≡◌, subst}
 use native.Mathlib.Nat.{eq-or-lt_of_le}
 use native.Mathlib.Omega.{arith}

@@ -1,5 +1,6 @@
 // Sets of the device's locations, as 256 bits. What a function does is said pointwise over `has`, for every number: from 256 on no set has any.
 #![tactic(auto)]
+
 ghost use Rattle.std.specs.Prelude.{true, false, not, ◌&&◌, ◌||◌, ◌≡◌, ℕ, ◌≤◌, ◌<◌, eqb};
 ghost use Rattle.sets.specs.Sets.{bit_of, has, FirstFrom};
 

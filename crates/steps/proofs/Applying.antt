@@ -11,7 +11,7 @@ use lib.Seq.{get_or-set_same, get_or-set_other, get_or-take, length-take-le, ext
 use Rattle.answers.specs.Check.{Check, ok, refused}
 use Rattle.answers.proofs.Laws.{Holds, by, holds_bind, holds_then, holds_need, holds_any}
 use Rattle.rules.specs.Region.{Region, owns, free_in}
-use Rattle.rules.specs.Syntax.{Side, device, Place, Op, init, free, gate, measure, merge, new_ref, get_ref, set_ref, constant, op, if, while, call, Function, Program}
+use Rattle.rules.specs.Syntax.{Side, device, Op, init, free, gate, measure, merge, new_ref, get_ref, set_ref, constant, op, if, while, call, Function, Program}
 use Rattle.rules.specs.Slots as slots
 use Rattle.rules.specs.Slots.{quiet, takes, gives, merges, perform}
 use Rattle.rules.specs.Machine as rules

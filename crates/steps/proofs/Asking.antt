@@ -1,6 +1,6 @@
 -- What a call asks, exit by exit: each test of the code is the check of the rules at that place.
 use mathlib.Core.Bool.{Bool, true, false, ◌&&◌}
-use mathlib.Core.List.{List, [], ◌∷◌, map}
+use mathlib.Core.List.{List, [], ◌∷◌}
 use mathlib.Core.Path.{◌≡◌, refl, sym, ap, ◌∙◌, fun_ext}
 use native.Mathlib.Numerals.{add-one}
 use native.Mathlib.Omega.{arith}
@@ -9,13 +9,13 @@ use lib.Dec.{eqb}
 use lib.ListN.{get_or, length, drop}
 use lib.Seq.{drop-cons}
 use borrow.Author.Tests.{eq-eqb, ne_eqb}
-use Rattle.answers.specs.Check.{Check, ok, refused, refusal, ◌>>=◌, ◌>>◌, need}
+use Rattle.answers.specs.Check.{Check, ok, refused, ◌>>=◌, ◌>>◌, need}
 use Rattle.rules.specs.declared.place.Location.{Location}
 use Rattle.rules.specs.Basics.{all, distinct}
 use Rattle.rules.specs.Region.{Region, owns, free_in}
 use Rattle.rules.specs.Syntax.{Side, device, Place, Function}
-use Rattle.rules.specs.Slots.{slot, need_qubit, Setting, arguments_at, callable}
-use Rattle.rules.specs.Machine.{Frame, Actual, floor}
+use Rattle.rules.specs.Slots.{slot, need_qubit, Setting, arguments_at}
+use Rattle.rules.specs.Machine.{Actual, floor}
 use Rattle.sets.specs.declared.LocationSet.{LocationSet}
 use Rattle.sets.specs.Sets.{has}
 use Rattle.device.specs.Reader.{Owned}

@@ -4,16 +4,15 @@ use mathlib.Core.Bool.{Bool, true, false}
 use mathlib.Core.List.{List, ◌∷◌}
 use mathlib.Core.Path.{◌≡◌, refl, sym, ap, ◌∙◌, subst}
 use native.Mathlib.Omega.{arith}
-use Prim.Native.Nat.{ℕ, suc, ◌+◌, ◌-◌, ◌≤◌, ◌<◌}
+use Prim.Native.Nat.{ℕ, suc, ◌+◌, ◌≤◌, ◌<◌}
 use lib.ListN.{length}
-use Rattle.answers.specs.Check.{Check, ok, refused, refusal, ◌>>=◌, ◌>>◌}
+use Rattle.answers.specs.Check.{Check, ok, ◌>>=◌, ◌>>◌}
 use Rattle.rules.specs.Basics.{byte, word}
 use Rattle.rules.specs.Region.{Region}
 use Rattle.rules.specs.Syntax.{Statement, if, while, Statements, Block, block, Program}
-use Rattle.rules.specs.Slots.{slot, need_bool, need_ref}
 use Rattle.rules.specs.Machine as rules
 use Rattle.rules.specs.Machine.{Item, run, statements_before, Move, silent, move, step}
-use Rattle.program.specs.In.{BlockIn, StatementsIn, ProgramIn}
+use Rattle.program.specs.In.{BlockIn, StatementsIn}
 use Rattle.program.proofs.In.{block_in}
 use Rattle.steps.specs.declared.Act.TheVariants.{Quiet}
 use Rattle.steps.specs.declared.Stepped.{Stepped}
@@ -21,13 +20,13 @@ use Rattle.steps.specs.declared.slots.Value.{Value}
 use Rattle.steps.specs.declared.slots.Value.TheVariants.{Of, Missing}
 use Rattle.steps.specs.declared.frames.Frame.{Frame}
 use Rattle.steps.specs.declared.job.Job.{Job}
-use Rattle.steps.specs.State.{slots_of, value_said, here_of, advanced, pushed, with_top}
+use Rattle.steps.specs.State.{slots_of, here_of, advanced, pushed, with_top}
 use Rattle.steps.specs.Standing.{FrameIn, Stands}
 use Rattle.steps.specs.Stepping.{stuck_at, moved_at, Follows, Steady}
 use Rattle.steps.proofs.Perform.{Truth, Reference, bool_is, ref_is}
 use Rattle.steps.proofs.Seen.{if_seen, while_seen}
-use Rattle.steps.proofs.Stand.{put, Kept, advanced_kept, pushed_kept, advanced_n}
-use Rattle.steps.proofs.Coming.{Next, next, moved, stays, frame_goes, coming}
+use Rattle.steps.proofs.Stand.{put, advanced_kept, pushed_kept, advanced_n}
+use Rattle.steps.proofs.Coming.{Next, stays, frame_goes, coming}
 
 module _ (s : List ℕ) (p : Program) (J : rules.Job) (j : Job) (at : ℕ) (N : Next s p J j at) where
   -- where the first block of the statement ends, and the second

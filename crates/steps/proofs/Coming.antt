@@ -1,38 +1,35 @@
 -- The statement to come of a job that stands, whatever its depth: all that a step needs to know of it. A step that is stuck leaves the job as it
 -- is; one that moves says which job stands for the rules' next one.
-use mathlib.Core.Bool.{Bool, true, false}
-use mathlib.Core.List.{List, [], ◌∷◌}
+use mathlib.Core.Bool.{Bool}
+use mathlib.Core.List.{List, ◌∷◌}
 use mathlib.Core.Path.{◌≡◌, refl, sym, ap, ◌∙◌, subst}
 use native.Mathlib.Decide.{ℕ_discrete}
 use native.Mathlib.Omega.{arith}
-use Prim.Native.Nat.{ℕ, suc, ◌+◌, ◌-◌, ◌≤◌, ◌<◌}
+use Prim.Native.Nat.{ℕ, ◌+◌, ◌-◌, ◌≤◌, ◌<◌}
 use lib.ListN.{length}
 use borrow.Author.Tests.{eq-eqb, ne_eqb}
 use Rattle.answers.specs.Check.{Check, ok, refused, refusal}
 use Rattle.rules.specs.Region.{Region}
-use Rattle.rules.specs.Basics.{byte}
-use Rattle.rules.specs.Syntax.{Side, Statement, Statements, Function, function, Program}
-use Rattle.rules.specs.Table.{size_of}
+use Rattle.rules.specs.Syntax.{Side, Statement, Function, function, Program}
 use Rattle.rules.specs.Program.{Scope}
 use Rattle.rules.specs.Machine as rules
 use Rattle.rules.specs.Machine.{Actual, locate, Item, run, statements_before, offset_of, Move, move, stepped, step_items, step}
-use Rattle.program.specs.In.{StatementIn, StatementsIn, ProgramIn}
+use Rattle.program.specs.In.{StatementIn, ProgramIn}
 use Rattle.program.proofs.In.{statement_byte}
 use Rattle.steps.specs.declared.Act.{Act}
 use Rattle.steps.specs.declared.Stepped.{Stepped}
-use Rattle.steps.specs.declared.slots.Slots.{Slots}
 use Rattle.steps.specs.declared.frames.Frame.{Frame}
 use Rattle.steps.specs.declared.job.Job.{Job}
 use Rattle.steps.specs.declared.operations.Told.TheVariants.{Moved, Stuck}
 use Rattle.steps.specs.declared.operations.Performed.{Performed}
-use Rattle.steps.specs.State.{place_of, slots_of, here_of, with_slots, advanced, pushed, with_top, located_in}
+use Rattle.steps.specs.State.{place_of, slots_of, here_of, with_slots, advanced, with_top, located_in}
 use Rattle.steps.specs.Told.{act_of}
 use Rattle.steps.specs.Standing.{FrameIn, FramesIn, Stands}
 use Rattle.steps.specs.Performing.{Tells, moves, fails, Named}
 use Rattle.steps.specs.Stepping.{stuck_at, moved_at, Follows, Steady}
 use Rattle.steps.proofs.Seen.{offset_seen}
 use Rattle.steps.proofs.Unique.{one_told}
-use Rattle.steps.proofs.Stand.{Head, head_of, Top, top_of, passed, put, Kept, advanced_kept, pushed_kept}
+use Rattle.steps.proofs.Stand.{Head, head_of, Top, top_of, passed, advanced_kept}
 
 pub record Next (s : List ℕ) (p : Program) (J : rules.Job) (j : Job) (at : ℕ) : Type 0 where
   pub d : Side

@@ -26,7 +26,7 @@ use Rattle.steps.specs.declared.frames.Frame.{Frame}
 use Rattle.steps.specs.declared.job.Job.{Job}
 use Rattle.steps.specs.State.{slots_of, here_of, empty_frame, pushed}
 use Rattle.steps.specs.Standing.{RangesIn, FrameIn, FramesIn, Stands}
-use Rattle.steps.specs.Stepping.{stuck_at, Ready, Steady, NoBlock, Anyway, Acts, Calls, Steps, Begins, Starts}
+use Rattle.steps.specs.Stepping.{stuck_at, Ready, NoBlock, Anyway, Acts, Calls, Steps, Begins, Starts}
 use Rattle.steps.proofs.Stand.{put, pushed_kept}
 use Rattle.steps.proofs.Coming.{next}
 use Rattle.steps.proofs.Returning.{finished}

@@ -1,6 +1,6 @@
 -- A call: the locations that the code finds are those that the rules find, so what it asks is what they ask; and the callee's frame on top of the
 -- passed caller stands for the rules' job after the call. A callee comes before its caller in the file, so there is room for its frame.
-use mathlib.Core.Bool.{Bool, true, false}
+use mathlib.Core.Bool.{Bool}
 use mathlib.Core.List.{List, [], ◌∷◌, ◌++◌, map, map-append, append_assoc}
 use mathlib.Core.List as Core
 use mathlib.Core.Path.{◌≡◌, refl, sym, ap, ◌∙◌, subst}
@@ -9,12 +9,11 @@ use native.Mathlib.Omega.{arith}
 use Prim.Native.Nat.{ℕ, zero, suc, ◌+◌, ◌-◌, ◌≤◌, ◌<◌}
 use lib.ListN.{get_or, set, length, take, replicate, length-map, length-set, length-append, get_or-map}
 use lib.Seq.{take-suc, take-take, set_at, ext_get_or}
-use Rattle.answers.specs.Check.{Check, ok, refused, refusal, ◌>>=◌, ◌>>◌}
+use Rattle.answers.specs.Check.{Check, ok, ◌>>◌}
 use Rattle.rules.specs.declared.place.Location.{Location}
 use Rattle.rules.specs.Basics.{byte, word, up_to}
 use Rattle.rules.specs.Region.{Region, free_in}
-use Rattle.rules.specs.Syntax.{Side, device, parameter, Place, call, Statement, Statements, Block, block, Function, function, Program}
-use Rattle.rules.specs.Slots as slots
+use Rattle.rules.specs.Syntax.{device, parameter, Place, call, Statement, Statements, Block, block, Function, function, Program}
 use Rattle.rules.specs.Slots.{unbound, qubit, entered, callable}
 use Rattle.rules.specs.Machine as rules
 use Rattle.rules.specs.Machine.{Actual, locate, locations, Item, run, return, statements_before, block_before, Move, silent, floor, move, step}
@@ -22,7 +21,6 @@ use Rattle.sets.specs.declared.LocationSet.{LocationSet}
 use Rattle.device.specs.Reader.{Owned}
 use Rattle.program.specs.declared.functions.FunctionTable.{FunctionTable}
 use Rattle.program.specs.In.{StatementsIn, ProgramIn, offset_of, scope_of}
-use Rattle.program.specs.Reader.{Heads}
 use Rattle.program.proofs.In.{block_in}
 use Rattle.steps.specs.declared.Act.TheVariants.{Quiet}
 use Rattle.steps.specs.declared.Stepped.{Stepped}
@@ -33,7 +31,7 @@ use Rattle.steps.specs.declared.asks.Asked.{Asked}
 use Rattle.steps.specs.declared.asks.Asked.TheVariants.{Granted, Refused}
 use Rattle.steps.specs.State.{place_of, slots_of, location_at, here_of, empty_frame, advanced, pushed, entering, located_in}
 use Rattle.steps.specs.Standing.{RangesIn, FrameIn, CallIn, FramesIn, Stands}
-use Rattle.steps.specs.Performing.{Maps, Named}
+use Rattle.steps.specs.Performing.{Maps}
 use Rattle.steps.specs.Calling.{asked_said, given, Callable, Enters}
 use Rattle.steps.specs.Stepping.{stuck_at, moved_at, Follows, Steady, Ready, Calls}
 use Rattle.steps.proofs.Lists.{length_up_to, get_d_up_to, given_length, given_at}

@@ -1,12 +1,12 @@
 -- The operation to come, by its byte: what the code reads of it is what the statement that stands there is made of, so what the operation's function
 -- tells is the move of that statement.
-use mathlib.Core.Bool.{Bool, true}
+use mathlib.Core.Bool.{Bool}
 use mathlib.Core.List.{List}
 use mathlib.Core.Logic.{◌⊎◌, ⊎_elim}
-use mathlib.Core.Path.{◌≡◌, refl, sym, ap, ◌∙◌, subst}
+use mathlib.Core.Path.{◌≡◌, sym, ap, ◌∙◌, subst}
 use native.Mathlib.Nat.{add-zero}
 use native.Mathlib.Omega.{arith}
-use Prim.Native.Nat.{ℕ, ◌+◌, ◌<◌, ◌≤◌}
+use Prim.Native.Nat.{ℕ, ◌+◌, ◌<◌}
 use lib.Dec.{eqb}
 use lib.ListN.{length}
 use Rattle.rules.specs.declared.place.Location.{Location}
@@ -15,9 +15,7 @@ use Rattle.rules.specs.Region.{Region, free_in}
 use Rattle.rules.specs.Syntax.{Side, Op, init, free, gate, measure, merge, new_ref, get_ref, set_ref, constant, Statement, op, Function}
 use Rattle.rules.specs.Machine.{Frame, Actual, Item, run, move}
 use Rattle.sets.specs.declared.LocationSet.{LocationSet}
-use Rattle.program.specs.In.{StatementIn}
 use Rattle.program.proofs.In.{statement_byte}
-use Rattle.steps.specs.declared.slots.Slots.{Slots}
 use Rattle.steps.specs.declared.operations.Performed.{Performed}
 use Rattle.steps.specs.declared.job.Job.{Job}
 use Rattle.steps.specs.State.{place_of, slots_of, located_in}

@@ -1,20 +1,18 @@
 -- The operation to come as a step: it stands where the last range begins, so the code may read it; where it moved, it is passed.
 use mathlib.Core.Bool.{Bool}
 use mathlib.Core.List.{List}
-use mathlib.Core.Path.{◌≡◌, refl, sym, ap, ◌∙◌, subst}
+use mathlib.Core.Path.{◌≡◌, sym, ap, ◌∙◌, subst}
 use native.Mathlib.Nat.{add-zero}
 use native.Mathlib.Omega.{arith}
 use Prim.Native.Nat.{ℕ, ◌+◌, ◌≤◌, ◌<◌}
 use lib.ListN.{length}
 use Rattle.rules.specs.Basics.{byte}
-use Rattle.rules.specs.Region.{Region, free_in}
+use Rattle.rules.specs.Region.{free_in}
 use Rattle.rules.specs.Syntax.{Program}
 use Rattle.rules.specs.Table.{size_of}
 use Rattle.rules.specs.Machine as rules
 use Rattle.rules.specs.Machine.{step}
 use Rattle.sets.specs.declared.LocationSet.{LocationSet}
-use Rattle.device.specs.Reader.{Owned, Rows}
-use Rattle.program.specs.In.{ProgramIn}
 use Rattle.program.proofs.In.{statement_byte}
 use Rattle.steps.specs.declared.Act.{Act}
 use Rattle.steps.specs.declared.Stepped.{Stepped}
@@ -24,9 +22,8 @@ use Rattle.steps.specs.declared.job.Job.{Job}
 use Rattle.steps.specs.declared.operations.Told.TheVariants.{Moved, Stuck}
 use Rattle.steps.specs.declared.operations.Performed.{Performed}
 use Rattle.steps.specs.State.{here_of, with_slots, advanced, with_top}
-use Rattle.steps.specs.Standing.{Stands}
-use Rattle.steps.specs.Performing.{Maps, Operable, Operates}
-use Rattle.steps.specs.Stepping.{stuck_at, moved_at, Follows, Steady, NoBlock, Acts}
+use Rattle.steps.specs.Performing.{Operable, Operates}
+use Rattle.steps.specs.Stepping.{stuck_at, moved_at, Steady, NoBlock, Acts}
 use Rattle.steps.proofs.Seen.{ends_seen}
 use Rattle.steps.proofs.Coming.{Next, next, coming, operation_stuck, operation_moved}
 

@@ -2,17 +2,17 @@
 -- the same reason, and where it ends they give the slots and the act that it made.
 use mathlib.Core.Bool.{Bool, true, false, ◌&&◌}
 use mathlib.Core.List.{List}
-use mathlib.Core.Path.{◌≡◌, refl, sym, ap, ◌∙◌, subst}
+use mathlib.Core.Path.{◌≡◌, refl, sym, ap, ◌∙◌}
 use Prim.Native.Nat.{ℕ}
 use lib.Dec.{eqb}
 use lib.ListN.{get_or, set}
-use Rattle.answers.specs.Check.{Check, ok, refused, refusal, ◌>>=◌, ◌>>◌, need}
+use Rattle.answers.specs.Check.{ok, refused, refusal, ◌>>=◌, ◌>>◌}
 use Rattle.rules.specs.declared.place.Location.{Location}
 use Rattle.rules.specs.Region.{Region, owns, free_in}
-use Rattle.rules.specs.Syntax.{Side, device, Place, location, Preparation, Op, init, free, gate, measure, new_ref, get_ref, set_ref, constant, op, Function}
+use Rattle.rules.specs.Syntax.{device, free, gate, measure, new_ref, get_ref, set_ref, constant}
 use Rattle.rules.specs.Slots as rules
 use Rattle.rules.specs.Slots.{quiet, takes, gives, unbound, qubit, bool, ref, slot, need_qubit, need_bool, need_ref, holds_no_qubit}
-use Rattle.rules.specs.Machine.{Frame, Actual, locate, Item, run, move}
+use Rattle.rules.specs.Machine.{Frame, Item}
 use Rattle.sets.specs.declared.LocationSet.{LocationSet}
 use Rattle.sets.specs.Sets.{has}
 use Rattle.device.specs.Reader.{Owned}

@@ -2,13 +2,10 @@
 use mathlib.Core.Bool.{Bool, true, false}
 use mathlib.Core.List.{List, [], ◌∷◌, map}
 use mathlib.Core.Path.{◌≡◌, refl, sym, ap, ◌∙◌, subst}
-use native.Mathlib.Nat.{add-zero}
 use native.Mathlib.Omega.{arith}
 use Prim.Native.Nat.{ℕ, zero, suc, ◌+◌, ◌-◌, ◌≤◌, ◌<◌}
-use lib.ListN.{get_or, set, length, take, get_or-map}
+use lib.ListN.{set, length, get_or-map}
 use lib.Seq.{get_or-take}
-use Rattle.answers.specs.Check.{ok}
-use Rattle.rules.specs.declared.place.Location.{Location}
 use Rattle.rules.specs.Basics.{byte, chosen, up_to, without, set_all}
 use Rattle.rules.specs.Region.{Region}
 use Rattle.rules.specs.Syntax.{device, Place, at, Function, Program}
@@ -16,7 +13,6 @@ use Rattle.rules.specs.Slots as slots
 use Rattle.rules.specs.Slots.{unbound, slot, is_qubit_at, kept}
 use Rattle.rules.specs.Machine as rules
 use Rattle.rules.specs.Machine.{Item, return, silent, stepped, step_items, step}
-use Rattle.program.specs.In.{ProgramIn}
 use Rattle.steps.specs.declared.Act.TheVariants.{Quiet}
 use Rattle.steps.specs.declared.Stepped.{Stepped}
 use Rattle.steps.specs.declared.slots.Slots.{Slots}
@@ -25,7 +21,7 @@ use Rattle.steps.specs.declared.job.Job.{Job}
 use Rattle.steps.specs.State.{place_of, slots_of, location_at, frame_at, with_slots, leaving}
 use Rattle.steps.specs.Standing.{CallIn, FramesIn, Stands}
 use Rattle.steps.specs.Calling.{keeps, handed_back}
-use Rattle.steps.specs.Stepping.{stuck_at, moved_at, Follows, Steady, Anyway}
+use Rattle.steps.specs.Stepping.{stuck_at, moved_at, Follows, Steady}
 use Rattle.steps.proofs.Lists.{length_up_to}
 use Rattle.steps.proofs.Stand.{Ending, ending, none_left, reslotted}
 

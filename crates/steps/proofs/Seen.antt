@@ -2,14 +2,13 @@
 -- view are gone through once, each at its own byte; a byte that is known then picks its case by computing.
 use mathlib.Core.Bool.{Bool, true, false, false≢true}
 use mathlib.Core.List.{List}
-use mathlib.Core.Path.{◌≡◌, refl, sym, ap, ◌∙◌, subst}
-use native.Mathlib.Omega.{arith}
+use mathlib.Core.Path.{◌≡◌, refl, sym, ap, subst}
 use Prim.Native.Nat.{ℕ, ◌+◌, ◌<◌, ◌≤◌}
 use lib.Dec.{eqb, ltb}
 use lib.ListN.{length}
 use borrow.Author.Tests.{lt-ltb}
 use Rattle.rules.specs.Basics.{byte, up_to}
-use Rattle.rules.specs.Syntax.{Side, Place, Preparation, plain, magic, init, free, gate, measure, merge, new_ref, get_ref, set_ref, constant, Statement, op, if, while, call, Block, function}
+use Rattle.rules.specs.Syntax.{Side, Preparation, plain, magic, init, free, gate, measure, merge, new_ref, get_ref, set_ref, constant, Statement, op, if, while, call, Block, function}
 use Rattle.rules.specs.Table.{size_of}
 use Rattle.rules.specs.Program.{Scope}
 use Rattle.rules.specs.Machine.{offset_of}

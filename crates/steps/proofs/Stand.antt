@@ -4,16 +4,15 @@
 use mathlib.Core.Bool.{Bool, true, false}
 use mathlib.Core.List.{List, [], ◌∷◌, map}
 use mathlib.Core.Path.{◌≡◌, refl, sym, ap, ◌∙◌, subst}
-use native.Mathlib.Decide.{ℕ_discrete}
 use native.Mathlib.Omega.{arith}
 use Prim.Native.Nat.{ℕ, zero, suc, ◌+◌, ◌-◌, ◌≤◌, ◌<◌}
 use lib.Dec.{eqb}
 use lib.ListN.{get_or, length, take, set, length-set, get_or-map}
 use lib.Seq.{get_or-set_same, get_or-set_other, get_or-take, length-take-le}
-use borrow.Author.Tests.{eqb-true, ne_eqb, eq-eqb}
+use borrow.Author.Tests.{eqb-true, eq-eqb}
 use Rattle.rules.specs.declared.place.Location.{Location}
 use Rattle.rules.specs.Basics.{chosen, byte}
-use Rattle.rules.specs.Syntax.{Side, device, parameter, Place, location, Statement, Statements, done, ◌⨾◌, Function, function, Program}
+use Rattle.rules.specs.Syntax.{Side, device, parameter, Place, location, Statement, Statements, Function, function}
 use Rattle.rules.specs.Program.{Scope}
 use Rattle.rules.specs.Machine as rules
 use Rattle.rules.specs.Machine.{Actual, themselves, locations, locate, Item, run, return, statements_before}
@@ -22,9 +21,8 @@ use Rattle.program.proofs.In.{statements_end, statements_next}
 use Rattle.steps.specs.declared.slots.Slots.{Slots}
 use Rattle.steps.specs.declared.frames.Range.{Range}
 use Rattle.steps.specs.declared.frames.Frame.{Frame}
-use Rattle.steps.specs.declared.job.Job.{Job}
-use Rattle.steps.specs.State.{place_of, slots_of, location_at, range, range_at, with_slots, with_ranges, advanced, pushed, no_frame, frame_at, located_in}
-use Rattle.steps.specs.Standing.{RangeIn, RangesIn, FrameIn, CallIn, FramesIn}
+use Rattle.steps.specs.State.{place_of, slots_of, location_at, range, range_at, with_slots, with_ranges, advanced, pushed, no_frame, frame_at}
+use Rattle.steps.specs.Standing.{RangesIn, FrameIn, CallIn, FramesIn}
 
 module _ {d : Side} (s : List ℕ) (S : Scope) (σ : Actual d) (after : List Item) where
   -- a store past the ranges in use

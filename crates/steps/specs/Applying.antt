@@ -1,6 +1,6 @@
 -- What an act does to the map that the code has: the map is the rules' occupancy after the act.
 use Rattle.std.specs.Prelude.{List, ◌≡◌, ℕ, ◌<◌, length}
-use Rattle.rules.specs.Syntax.{device, Place}
+use Rattle.rules.specs.Syntax.{device}
 use Rattle.rules.specs.Slots as slots
 use Rattle.rules.specs.Slots.{quiet, takes, gives, merges}
 use Rattle.rules.specs.Run.{written}

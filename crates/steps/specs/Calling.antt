@@ -1,5 +1,5 @@
 -- What a call asks and what a return gives back, in the code's terms: the call's locations and slots as lists.
-use Rattle.std.specs.Prelude.{Bool, List, map, ◌≡◌, ℕ, eqb, length, take}
+use Rattle.std.specs.Prelude.{Bool, List, map, ◌≡◌, ℕ, eqb, take}
 use Rattle.answers.specs.Check.{Check, ok, refused, refusal, ◌>>=◌, need}
 use Rattle.rules.specs.declared.place.Location.{Location}
 use Rattle.rules.specs.Basics.{up_to, without, set_all}

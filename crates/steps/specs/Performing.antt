@@ -1,5 +1,5 @@
 -- What the code's operations promise: each tells what the rules' move of its statement gives, whatever comes after the statement.
-use Rattle.std.specs.Prelude.{Bool, not, ◌&&◌, ◌||◌, List, ◌≡◌, ℕ, ◌-◌, ◌≤◌, ◌<◌, eqb, get_or, length, set}
+use Rattle.std.specs.Prelude.{Bool, List, ◌≡◌, ℕ, ◌-◌, ◌≤◌, ◌<◌, get_or, length, set}
 use Rattle.answers.specs.Check.{Check, ok, refused, refusal, ◌>>=◌}
 use Rattle.rules.specs.declared.place.Location.{Location}
 use Rattle.rules.specs.Basics.{byte}
@@ -11,7 +11,6 @@ use Rattle.rules.specs.Program.{Scope}
 use Rattle.rules.specs.Slots as rules
 use Rattle.rules.specs.Machine.{Frame, Actual, locate, Item, run, Move, move}
 use Rattle.sets.specs.declared.LocationSet.{LocationSet}
-use Rattle.sets.specs.Sets.{has}
 use Rattle.device.specs.Reader.{Owned, Rows}
 use Rattle.program.specs.In.{StatementIn}
 use Rattle.steps.specs.declared.Act.{Act}

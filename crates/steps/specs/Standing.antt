@@ -1,9 +1,9 @@
 -- What it is for the code's job to stand for a job of the rules. A relation, since a position in a file does not say which scope it is read in or
 -- how many blocks lie around it. The items to come are the statements of the ranges, innermost range first; a frame that was called comes by a
 -- call in the file, and its end is the return from that call.
-use Rattle.std.specs.Prelude.{Bool, List, [], ◌∷◌, map, ◌≡◌, ℕ, zero, suc, ◌+◌, ◌≤◌, ◌<◌, length, take}
+use Rattle.std.specs.Prelude.{List, [], ◌∷◌, map, ◌≡◌, ℕ, zero, suc, ◌+◌, ◌≤◌, ◌<◌, length, take}
 use Rattle.rules.specs.Basics.{up_to, byte}
-use Rattle.rules.specs.Syntax.{Side, device, parameter, Place, Statements, Function, function, Program}
+use Rattle.rules.specs.Syntax.{Side, device, Place, Statements, Function, function, Program}
 use Rattle.rules.specs.Program.{Scope}
 use Rattle.rules.specs.Machine as rules
 use Rattle.rules.specs.Machine.{Actual, themselves, locations, Item, return, statements_before}

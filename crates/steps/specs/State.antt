@@ -1,5 +1,5 @@
 -- A job's state as the code has it: what its slots are in the rules' terms, and what the methods do.
-use Rattle.std.specs.Prelude.{Bool, true, false, List, [], map, ℕ, ◌+◌, ◌-◌, eqb, get_or, set, replicate}
+use Rattle.std.specs.Prelude.{Bool, List, [], map, ℕ, ◌+◌, ◌-◌, eqb, get_or, set, replicate}
 use Rattle.answers.specs.Check.{Check, ok, refused, refusal}
 use Rattle.rules.specs.declared.place.Location.{Location}
 use Rattle.rules.specs.Basics.{chosen}

@@ -1,7 +1,7 @@
 -- What a step tells and does, in the document's terms.
-use Rattle.std.specs.Prelude.{◌≡◌, ℕ}
+use Rattle.std.specs.Prelude.{ℕ}
 use Rattle.answers.specs.Check.{Check, ok, refused, refusal}
-use Rattle.rules.specs.Syntax.{device, Place, location}
+use Rattle.rules.specs.Syntax.{device}
 use Rattle.rules.specs.Slots as slots
 use Rattle.rules.specs.Slots.{quiet, takes, gives, merges}
 use Rattle.rules.specs.Machine as machine

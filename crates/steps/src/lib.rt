@@ -1,5 +1,6 @@
 // The steps of a job over the bytes of its read program.
 #![tactic(auto)]
+
 ghost use Rattle.std.specs.Prelude.{◌≡◌, ◌<◌};
 ghost use Rattle.steps.specs.Stepping.{stuck_at, moved_at};
 

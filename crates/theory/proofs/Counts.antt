@@ -16,7 +16,7 @@ use Rattle.rules.specs.Commands.{Commands, ε, alloc, release, connect, either, 
 use Rattle.rules.specs.Typing.{Env, Signature, Context, signature, body_context, signature_of}
 use Rattle.rules.specs.Figures.{OpRule, T-Init, T-MInit, T-Free, T-Gate, T-Meas1, T-Meas2, T-MkRef, T-Deref, T-Assign, T-Bool}
 use Rattle.rules.specs.Figures.{StatementRule, T-Op, T-If, T-While, T-Call, StatementsRule, T-Unit, T-Seq}
-use Rattle.rules.specs.Figures.{BlockRule, T-Close, MainRule, T-Main, FunctionsRule, T-NoFun, T-Fundecl}
+use Rattle.rules.specs.Figures.{BlockRule, T-Close, T-Main, FunctionsRule, T-NoFun, T-Fundecl}
 use Rattle.rules.specs.Program.{Scope}
 use Rattle.rules.specs.Run.{record_bytes, moved_by}
 use Rattle.theory.specs.WellRead.{StatementRead, op_read, if_read, while_read, call_read, StatementsRead, done_read, next_read}

@@ -3,7 +3,7 @@
 -- it or held by one slot. So the bytes of the job on the map and the slots that hold a qubit pair off, a slot at a time.
 use mathlib.Core.Bool.{Bool, true, false, not, ◌&&◌, false≢true}
 use mathlib.Core.List.{List, [], ◌∷◌, map}
-use mathlib.Core.Logic.{◌≢◌, inl, inr, ⊎_elim}
+use mathlib.Core.Logic.{◌≢◌, ⊎_elim}
 use mathlib.Core.Path.{◌≡◌, refl, sym, ap, subst, ◌∙◌}
 use native.Mathlib.Decide.{ℕ_discrete}
 use native.Mathlib.Omega.{arith}
@@ -13,7 +13,7 @@ use lib.ListN.{get_or, set, length, length-map, length-set}
 use lib.Seq.{get_or-set_same, get_or-set_other}
 use Rattle.answers.specs.Check.{Check, ok, refused}
 use Rattle.answers.proofs.Laws.{holds_at}
-use Rattle.rules.specs.Basics.{chosen, how_many}
+use Rattle.rules.specs.Basics.{how_many}
 use Rattle.rules.specs.Device.{Device}
 use Rattle.rules.specs.Region.{Region, region_of, owns, free_in}
 use Rattle.rules.specs.Syntax.{device, Place, Program}
@@ -35,7 +35,7 @@ use Rattle.theory.proofs.Linear.{Linear, AllEnd, linear_start, linear_main, func
 use Rattle.theory.proofs.ExactTyping.{exact_typing}
 use Rattle.theory.proofs.WalkDecides.{walk_leaves}
 use Rattle.theory.proofs.ExactCheck.{judged_sound}
-use Rattle.theory.proofs.Isolation.{Byte, OwnAct, own_step, owns_owner, View, view, view_step, view_after, view_final, view_of_final}
+use Rattle.theory.proofs.Isolation.{OwnAct, own_step, owns_owner, View, view, view_step, view_after, view_final, view_of_final}
 use Rattle.theory.proofs.Isolation.{Sound, sound_started, sound_final, same_free}
 use Rattle.theory.proofs.Safety.{rest_end}
 use Rattle.theory.proofs.NeverStuck.{TypedView, typed_after, typed_started, started_free}

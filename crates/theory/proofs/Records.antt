@@ -1,13 +1,13 @@
 -- Record i of a run that is answered tells the turn of schedule byte i. The records stand four bytes each, in the turns' order, so record i is what the
 -- i-th step answers; and a step answers by its cases: no item is to come, or the first one moved, or it is stuck. A moved merge has the edges of the route
 -- that its last test found; and a stuck step has a reason (Reasons).
-use mathlib.Core.Bool.{Bool, true, false}
+use mathlib.Core.Bool.{Bool, false}
 use mathlib.Core.List.{List, [], ◌∷◌, ◌++◌, map}
 use mathlib.Core.Option.{Option, none, some}
 use mathlib.Core.Path.{◌≡◌, refl, sym, ap, ◌∙◌, subst}
 use native.Mathlib.Omega.{arith}
 use Prim.Native.Nat.{ℕ, zero, suc, ◌-◌, ◌*◌, ◌/◌, ◌%◌, ◌<◌}
-use lib.ListN.{length, take, drop}
+use lib.ListN.{length, take}
 use Rattle.answers.specs.Check.{Check, ok, refused, ◌>>=◌}
 use Rattle.answers.specs.declared.Moved.{Moved}
 use Rattle.answers.proofs.Laws.{Holds, by, holds_bind, holds_then, holds_any, holds_at}

@@ -17,7 +17,7 @@ use Rattle.rules.proofs.Basics.{length_up_to, get_d_up_to}
 use Rattle.rules.specs.Syntax.{Side, device, parameter, Place, at, Op, Statement, call, done, Block, Function}
 use Rattle.rules.specs.Words.{Text}
 use Rattle.rules.specs.Table.{simple, branches, loops, calls, Row, table, row_of, size}
-use Rattle.rules.specs.Program.{Read, Scope, known, operands, meant, statement, statements}
+use Rattle.rules.specs.Program.{Read, Scope, known, meant, statement, statements}
 use Rattle.rules.specs.Program.{read_block, function_header, program_header, functions_at, read_program}
 use Rattle.theory.specs.WellRead.{OpRead, CallRead, StatementRead, op_read, if_read, while_read, call_read, StatementsRead, done_read, next_read}
 use Rattle.theory.specs.WellRead.{BlockRead, block_read, FunctionsRead, none_read, function_read, ProgramRead, WellRead}

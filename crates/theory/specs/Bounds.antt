@@ -4,7 +4,6 @@ use Rattle.std.specs.Prelude.{List, ℕ, ◌≤◌}
 use Rattle.answers.specs.Check.{Check, ok, refused}
 use Rattle.answers.specs.declared.File.{File}
 use Rattle.answers.specs.declared.File.TheVariants.{NoFile, Device, Schedule, Listing, Program}
-use Rattle.answers.specs.declared.Moved.{Moved}
 use Rattle.answers.specs.declared.Refusal.{Refusal}
 use Rattle.rules.specs.Promises.{read_device_of, read_program_of, check_of, route_of, run_of}
 

@@ -1,10 +1,10 @@
 -- Demand 3, any interleaving: records, device and all jobs end as if each job in turn had all its steps, keeping its own outcomes in order. For any
 -- number of jobs, any programs, any schedule; two jobs are a case.
-use Rattle.std.specs.Prelude.{Bool, true, ◌||◌, List, [], ◌∷◌, ◌++◌, ◌≡◌, ℕ, eqb}
+use Rattle.std.specs.Prelude.{true, ◌||◌, List, [], ◌∷◌, ◌++◌, ◌≡◌, ℕ, eqb}
 use Rattle.rules.specs.Basics.{chosen, all, any, distinct}
 use Rattle.rules.specs.Device.{Device}
 use Rattle.rules.specs.Syntax.{Program}
-use Rattle.rules.specs.Run.{Turn, Machine, Told, started, final, records}
+use Rattle.rules.specs.Run.{Turn, Told, started, final, records}
 
 -- the turns of job j, and the records of job j
 abbrev pub turns_of : ℕ → List Turn → List Turn

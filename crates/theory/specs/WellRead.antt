@@ -2,7 +2,7 @@
 -- deeper than 8, offsets rising and below the file's length.
 use Rattle.std.specs.Prelude.{List, [], ◌∷◌, ◌++◌, ◌≡◌, ℕ, suc, ◌+◌, ◌<◌, ◌≤◌, get_or, length}
 use Rattle.answers.specs.Check.{ok}
-use Rattle.rules.specs.Syntax.{Side, device, parameter, Place, at, Op, init, free, gate, measure, merge, new_ref, get_ref, set_ref, constant}
+use Rattle.rules.specs.Syntax.{Side, Place, at, Op, init, free, gate, measure, merge, new_ref, get_ref, set_ref, constant}
 use Rattle.rules.specs.Syntax.{Statement, op, if, while, call, Statements, done, ◌⨾◌, Block, block, Function, function, Program}
 use Rattle.rules.specs.Program.{Scope, read_program}
 

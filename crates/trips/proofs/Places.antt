@@ -14,7 +14,7 @@ use Rattle.rules.specs.Table.{branches, loops, Row, row_of}
 use Rattle.rules.specs.Program.{Scope}
 use Rattle.rules.specs.Listing.{head_line, Line, indented}
 use Rattle.rules.specs.Grammar.{Grammar}
-use Rattle.rules.specs.Unlisting.{Opened, Sofar, sized, operands, lines_after}
+use Rattle.rules.specs.Unlisting.{Opened, Sofar, sized, lines_after}
 use Rattle.trips.proofs.Offered.{else_line}
 use Rattle.trips.proofs.Raw.{fork, loop, Raws, end, raws_bytes, raw_line, raws_lines, Operands, Goods, RawFunction, head_of, heads, functions_bytes}
 use Rattle.trips.proofs.Raw.{raw_functions, GoodFunctions}

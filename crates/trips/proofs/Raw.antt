@@ -14,7 +14,7 @@ use Rattle.rules.specs.Basics.{chosen}
 use Rattle.rules.specs.Syntax as syntax
 use Rattle.rules.specs.Syntax.{Side, Op, Function, Program, block, done}
 use Rattle.rules.specs.Words.{Text, decimal, place}
-use Rattle.rules.specs.Names.{program, function, main, else, at, with}
+use Rattle.rules.specs.Names.{program, main, else, at, with}
 use Rattle.rules.specs.Table.{simple, branches, loops, calls, Row, row_of, name_of}
 use Rattle.rules.specs.Program.{Scope, read_program}
 use Rattle.rules.specs.Listing.{head_line, spoken, silent, Line, indented, listed, operands_in, program_lines}

@@ -7,7 +7,7 @@ use mathlib.Core.Path.{◌≡◌, refl, sym, ap, subst, ◌∙◌}
 use native.Mathlib.Nat.{le_of_suc-le-suc, not-suc-le-zero}
 use native.Mathlib.Omega.{arith}
 use Prim.Native.Nat.{ℕ, zero, suc, ◌+◌, ◌<◌, ◌≤◌}
-use lib.Dec.{T, ltb, leb, le→leb}
+use lib.Dec.{ltb, leb, le→leb}
 use lib.ListN.{get_or, length, length-append, length-replicate, replicate}
 use Rattle.rules.specs.declared.statements.Operand.TheVariants.{Slot, Location}
 use Rattle.rules.specs.Basics.{up_to}

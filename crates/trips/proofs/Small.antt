@@ -9,7 +9,7 @@ use Rattle.rules.specs.declared.statements.Operand.{Operand}
 use Rattle.rules.specs.declared.statements.Operand.TheVariants.{Slot, Location, Gate, Basis, Value, Callee, CalleeK, CalleeM, Nothing}
 use Rattle.rules.specs.Syntax.{Function, function}
 use Rattle.rules.specs.Table.{Row, table, row_of}
-use Rattle.rules.specs.Program.{Scope, operands}
+use Rattle.rules.specs.Program.{Scope}
 use Rattle.rules.specs.Unlisting.{sized}
 use Rattle.trips.specs.Trips.{Bytes}
 use Rattle.trips.proofs.Rows.{byte_of_row}

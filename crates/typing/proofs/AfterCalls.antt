@@ -1,5 +1,5 @@
 -- The environment after a call, argument by argument from the last on: those from i on that the callee ended without are gone.
-use mathlib.Core.Bool.{Bool, true, false, true≢false}
+use mathlib.Core.Bool.{Bool, true, false}
 use mathlib.Core.List.{List, ◌∷◌, map}
 use mathlib.Core.Path.{◌≡◌, refl, sym, ap, subst, ◌∙◌}
 use native.Mathlib.Omega.{arith}
@@ -8,7 +8,7 @@ use lib.ListN.{set}
 use Rattle.rules.specs.Basics.{up_to, without, set_all, byte}
 use Rattle.rules.specs.Syntax.{Side, Place, param}
 use Rattle.rules.specs.Slots.{unbound, slot, is_qubit_at}
-use Rattle.rules.specs.Typing.{Kind, Env as Environment, Signature, after_call}
+use Rattle.rules.specs.Typing.{Env as Environment, Signature, after_call}
 use Rattle.sets.specs.Sets.{has}
 use Rattle.typing.specs.declared.env.Env.{Env}
 use Rattle.typing.specs.declared.endings.Endings.{Endings}

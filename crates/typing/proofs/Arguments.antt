@@ -1,5 +1,4 @@
 -- The arguments of a call, asked in turn: what is left to be asked decides, until one is no qubit (11) or not at its place (16).
-use mathlib.Core.Bool.{Bool}
 use mathlib.Core.List.{List}
 use mathlib.Core.Path.{◌≡◌, refl, sym, ap, subst, ◌∙◌}
 use native.Mathlib.Omega.{arith}

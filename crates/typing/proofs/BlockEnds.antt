@@ -1,15 +1,14 @@
 -- The end of a block, slot by slot: the code's test of each slot is that of the rules, and what it leaves in each is what the rules leave.
-use mathlib.Core.Bool.{Bool, true, false, not, ◌&&◌, ◌||◌, true≢false}
+use mathlib.Core.Bool.{Bool, true, false, not, ◌&&◌, ◌||◌}
 use mathlib.Core.List.{List}
 use mathlib.Core.Path.{◌≡◌, refl, sym, ap, subst, ◌∙◌}
 use native.Mathlib.Decide.{ℕ_discrete}
 use native.Mathlib.Omega.{arith}
 use Prim.Native.Nat.{ℕ, ◌+◌, ◌≤◌, ◌<◌}
-use borrow.Author.Tests.{eq-eqb, ne_eqb, le-leb, lt-leb, eqb-true, eqb-false}
+use borrow.Author.Tests.{le-leb, lt-leb}
 use lib.Dec.{eqb, leb}
-use lib.ListN.{get_or, set, length, length-set}
+use lib.ListN.{length, length-set}
 use lib.Seq.{get_or-set_same, get_or-set_other}
-use Rattle.answers.specs.Check.{ok, need, ◌>>◌}
 use Rattle.rules.specs.Basics.{chosen}
 use Rattle.rules.specs.Syntax.{Side, device}
 use Rattle.rules.specs.Slots.{unbound, qubit, bool, ref, slot, holds_no_qubit, is_classical}

@@ -5,19 +5,19 @@ use native.Mathlib.Omega.{arith}
 use Prim.Native.Nat.{ℕ, ◌+◌, ◌≤◌, ◌<◌}
 use lib.ListN.{length}
 use Rattle.answers.specs.declared.Refusal.{Refusal}
-use Rattle.answers.specs.Check.{Check, ok, need, ◌>>=◌, ◌>>◌}
+use Rattle.answers.specs.Check.{Check, ◌>>◌}
 use Rattle.program.specs.declared.blocks.Past.TheVariants.{At, Refused}
 use Rattle.program.specs.In.{BlockIn}
 use Rattle.program.proofs.In.{statement_view, block_in}
 use Rattle.rules.specs.Basics.{byte}
-use Rattle.rules.specs.Syntax.{Side, Statement, if, while, Block}
+use Rattle.rules.specs.Syntax.{Side, if, while, Block}
 use Rattle.rules.specs.Slots.{unbound, qubit, bool, ref, slot, need_bool, need_ref}
-use Rattle.rules.specs.Typing.{Kind, Typed, kind_number, same_env, type_statement, type_block}
+use Rattle.rules.specs.Typing.{Kind, Typed, kind_number, type_statement}
 use Rattle.sets.specs.declared.LocationSet.{LocationSet}
 use Rattle.typing.specs.declared.env.Env.{Env}
 use Rattle.typing.specs.declared.env.Outcome.{Outcome}
 use Rattle.typing.specs.declared.endings.Endings.{Endings}
-use Rattle.typing.specs.Stands.{EnvIs, Answers}
+use Rattle.typing.specs.Stands.{Answers}
 use Rattle.typing.specs.Cases.{BlockCase, BlockTyped, StatementCase, Joined, Again}
 use Rattle.typing.proofs.Checks.{refuse, stopped}
 use Rattle.typing.proofs.OneStatement.{answered}

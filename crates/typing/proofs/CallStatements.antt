@@ -1,24 +1,23 @@
 -- A call statement: what reading saw to, and its answer from what the call asked and from the environment after it.
 use mathlib.Core.Bool.{Bool, true, false, ◌&&◌, false≢true}
 use mathlib.Core.List.{List}
-use mathlib.Core.Path.{◌≡◌, refl, sym, ap, subst, ◌∙◌}
+use mathlib.Core.Path.{◌≡◌, refl, sym, subst, ◌∙◌}
 use native.Mathlib.Omega.{arith}
-use Prim.Native.Nat.{ℕ, zero, suc, ◌+◌, ◌*◌, ◌≤◌, ◌<◌}
+use Prim.Native.Nat.{ℕ, zero, suc, ◌+◌, ◌<◌}
 use Rattle.answers.specs.declared.Refusal.{Refusal}
 use Rattle.answers.specs.Check.{Check, ok, refused, ◌>>◌}
-use Rattle.answers.proofs.Laws.{Holds, holds_then, holds_need, holds_map, holds_any, holds_at}
+use Rattle.answers.proofs.Laws.{holds_then, holds_need, holds_map, holds_any, holds_at}
 use Rattle.program.specs.declared.blocks.Past.TheVariants.{Refused}
 use Rattle.program.proofs.In.{statement_view}
 use Rattle.rules.specs.Basics.{all, up_to, byte}
-use Rattle.rules.specs.Syntax.{Side, Place, Statement, call, function}
+use Rattle.rules.specs.Syntax.{Side, Place, call}
 use Rattle.rules.specs.Slots.{callable}
-use Rattle.rules.specs.Typing.{Env as Environment, Typed, Signature, signature, Context, kinds, after_call, type_statement}
+use Rattle.rules.specs.Typing.{Env as Environment, Signature, signature, Context, kinds, after_call, type_statement}
 use Rattle.sets.specs.declared.LocationSet.{LocationSet}
-use Rattle.sets.specs.Sets.{has}
 use Rattle.typing.specs.declared.env.Env.{Env}
 use Rattle.typing.specs.declared.env.Outcome.{Outcome}
 use Rattle.typing.specs.declared.endings.Endings.{Endings}
-use Rattle.typing.specs.Stands.{EnvIs, Within, Answers}
+use Rattle.typing.specs.Stands.{EnvIs, Answers}
 use Rattle.typing.specs.Cases.{StatementCase}
 use Rattle.typing.specs.Calls.{places_at, slots_at, CallAt, Ends}
 use Rattle.typing.proofs.Checks.{accept, refuse, gone}

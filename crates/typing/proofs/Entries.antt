@@ -1,21 +1,20 @@
 -- The environments that bodies are entered with.
 use mathlib.Core.Bool.{Bool, true, false, not, ◌&&◌, ◌||◌}
 use mathlib.Core.List.{List, [], ◌∷◌, ◌++◌, map}
-use mathlib.Core.Path.{◌≡◌, refl, sym, ap, subst, ◌∙◌}
+use mathlib.Core.Path.{◌≡◌, refl, sym, ap, ◌∙◌}
 use native.Mathlib.Decide.{ℕ_discrete, dec_lt}
 use native.Mathlib.Omega.{arith}
 use Prim.Native.Nat.{ℕ, zero, suc, ◌+◌, ◌-◌, ◌≤◌, ◌<◌}
 use borrow.Author.Tests.{eq-eqb, ne_eqb, lt-ltb, le-ltb}
 use lib.Dec.{eqb, ltb}
-use lib.ListN.{get_or, set, length, replicate, length-set, length-append, length-replicate, length-map, get_or-replicate, get_or-eq_default}
+use lib.ListN.{get_or, length, replicate, length-set, length-append, length-replicate, length-map, get_or-replicate, get_or-eq_default}
 use lib.Seq.{get_or-set_same, get_or-set_other}
 use Rattle.rules.specs.Basics.{up_to}
-use Rattle.rules.specs.Syntax.{Side, device, parameter, Place, param, Function}
+use Rattle.rules.specs.Syntax.{Side, parameter, Place, param, Function}
 use Rattle.rules.specs.Slots.{unbound, qubit, slot, entered}
-use Rattle.rules.specs.Typing.{Kind, Env as Environment, entry, start}
+use Rattle.rules.specs.Typing.{Kind, entry}
 use Rattle.sets.specs.declared.LocationSet.{LocationSet}
 use Rattle.sets.specs.Sets.{has}
-use Rattle.typing.specs.declared.slots.Slot.{Slot}
 use Rattle.typing.specs.declared.slots.Slot.TheVariants.{Unbound, Qubit}
 use Rattle.typing.specs.declared.slots.Cell.{Cell}
 use Rattle.typing.specs.declared.env.Env.{Env}

@@ -9,11 +9,10 @@ use Prim.Native.Nat.{ℕ, ◌+◌, ◌-◌, ◌≤◌, ◌<◌}
 use borrow.Author.Tests.{eq-eqb, ne_eqb}
 use lib.Dec.{eqb}
 use lib.ListN.{get_or, set, length, length-set}
-use lib.Seq.{get_or-set_same, get_or-set_other, set_out}
+use lib.Seq.{get_or-set_same, get_or-set_other}
 use Rattle.rules.specs.Syntax.{Side, Place}
 use Rattle.rules.specs.Slots.{unbound, qubit, bool, ref, slot}
 use Rattle.rules.specs.Typing.{Kind, Env as Environment, kind_number}
-use Rattle.sets.specs.declared.LocationSet.{LocationSet}
 use Rattle.sets.specs.Sets.{has}
 use Rattle.typing.specs.declared.slots.Slot.{Slot}
 use Rattle.typing.specs.declared.slots.Slot.TheVariants.{Unbound, Qubit, Bool as ABool, Reference}

@@ -1,22 +1,21 @@
 -- Two environments are equal where every slot has the same kind and every place is free in both or in neither: the code asks slot by slot, and
 -- of the places whether one is in one set alone. A place that is in one alone is a place of the body, since beyond them both lists say no.
 use mathlib.Core.Bool.{Bool, true, false, not, ◌&&◌, ◌||◌, beq, true≢false, false≢true}
-use mathlib.Core.List.{List}
-use mathlib.Core.Path.{◌≡◌, refl, sym, ap, subst, ◌∙◌}
+use mathlib.Core.Path.{◌≡◌, refl, sym, ap, ◌∙◌}
 use native.Mathlib.Decide.{dec_lt}
 use native.Mathlib.Omega.{arith}
 use Prim.Native.Nat.{ℕ, ◌≤◌, ◌<◌}
 use borrow.Author.Tests.{eq-eqb, ne_eqb}
-use lib.ListN.{get_or, length, get_or-eq_default}
+use lib.ListN.{get_or, get_or-eq_default}
 use Rattle.rules.specs.Basics.{same_list}
 use Rattle.rules.specs.Syntax.{Side}
 use Rattle.rules.specs.Slots.{unbound, slot}
-use Rattle.rules.specs.Typing.{Kind, Env as Environment, kind_number, same_kind, same_env}
+use Rattle.rules.specs.Typing.{Env as Environment, kind_number, same_kind, same_env}
 use Rattle.sets.specs.declared.LocationSet.{LocationSet}
 use Rattle.sets.specs.Sets.{has}
 use Rattle.typing.specs.declared.env.Env.{Env}
 use Rattle.typing.specs.Stands.{EnvIs}
-use Rattle.typing.proofs.Lists.{and_no, same_yes, same_no}
+use Rattle.typing.proofs.Lists.{same_yes, same_no}
 
 -- the places, as sets
 only : (a b : Bool) → ((a && not b) || (b && not a)) ≡ false → a ≡ b

@@ -1,6 +1,6 @@
 -- The functions in file order. When the first f of them are typed, typing goes on with the rest and with their signatures, and the code knows of
 -- each which arguments it ends with: one more function adds its own.
-use mathlib.Core.Bool.{Bool, true, false, ◌||◌, or-false, true≢false, cond}
+use mathlib.Core.Bool.{Bool, false, ◌||◌, or-false}
 use mathlib.Core.List.{List, [], ◌∷◌}
 use mathlib.Core.Path.{◌≡◌, refl, sym, ap, subst, ◌∙◌}
 use native.Mathlib.Decide.{ℕ_discrete}
@@ -8,18 +8,17 @@ use native.Mathlib.Numerals.{add-one}
 use native.Mathlib.Omega.{arith}
 use Prim.Native.Nat.{ℕ, suc, ◌+◌, ◌*◌, ◌≤◌, ◌<◌}
 use borrow.Author.Tests.{eq-eqb, ne_eqb, ltb-true}
-use lib.Dec.{eqb, ltb}
-use lib.ListN.{get_or, length, take, drop, drop_of_length-le}
+use lib.Dec.{ltb}
+use lib.ListN.{length, take, drop, drop_of_length-le}
 use lib.Seq.{get_or-take, length-take-le, drop-cons}
 use Rattle.answers.specs.declared.Refusal.{Refusal}
 use Rattle.answers.specs.declared.ReadAnswer.TheVariants.{Readable, Refused as NotReadable}
-use Rattle.answers.specs.Check.{Check, ok, refused, ◌>>=◌}
+use Rattle.answers.specs.Check.{◌>>=◌}
 use Rattle.program.specs.declared.blocks.Past.TheVariants.{At, Refused}
 use Rattle.program.specs.In.{BlockIn, ProgramIn, offset_of, scope_of, main_scope}
-use Rattle.rules.specs.Syntax.{parameter, Place, param, Block, block, done, Function, function, Program}
-use Rattle.rules.specs.Program.{Scope}
+use Rattle.rules.specs.Syntax.{parameter, param, block, done, Function, function, Program}
 use Rattle.rules.specs.Slots.{slot, is_qubit_at}
-use Rattle.rules.specs.Typing.{Typed, Signature, signature, entry, body_context, signature_of, type_block, type_functions}
+use Rattle.rules.specs.Typing.{Typed, Signature, signature, entry, body_context, signature_of, type_functions}
 use Rattle.sets.specs.declared.LocationSet.{LocationSet}
 use Rattle.sets.specs.Sets.{has}
 use Rattle.typing.specs.declared.env.Env.{Env}

@@ -3,17 +3,15 @@ use mathlib.Core.Bool.{Bool, true, false}
 use mathlib.Core.Path.{◌≡◌, refl, sym}
 use Prim.Native.Nat.{ℕ}
 use Rattle.answers.specs.declared.Refusal.{Refusal}
-use Rattle.answers.specs.Check.{Check, ok, need, ◌>>=◌, ◌>>◌}
 use Rattle.program.specs.declared.blocks.Past.TheVariants.{At, Refused}
 use Rattle.rules.specs.Syntax.{Side}
-use Rattle.rules.specs.Commands.{Commands}
-use Rattle.rules.specs.Typing.{Env as Environment, Typed, same_env}
+use Rattle.rules.specs.Typing.{Env as Environment, same_env}
 use Rattle.typing.specs.declared.env.Env.{Env}
 use Rattle.typing.specs.declared.env.Outcome.{Outcome}
-use Rattle.typing.specs.Stands.{EnvIs, Answers}
+use Rattle.typing.specs.Stands.{EnvIs}
 use Rattle.typing.specs.Cases.{Joined, Again}
 use Rattle.typing.proofs.Checks.{accept, gone, stopped, need_yes, need_no}
-use Rattle.typing.proofs.Outcomes.{Passed, passed, stays_refused, goes_on}
+use Rattle.typing.proofs.Outcomes.{passed, stays_refused, goes_on}
 
 -- the test, for every two environments that the code's stand for
 abbrev pub Same : Env → Env → Bool → Type 0

@@ -17,7 +17,7 @@ use Rattle.program.specs.In.{BlockIn, ProgramIn, offset_of, main_scope}
 use Rattle.rules.specs.Basics.{up_to}
 use Rattle.rules.specs.Region.{Region}
 use Rattle.rules.specs.Syntax.{Side, device, Block, block, Function, Program}
-use Rattle.rules.specs.Slots.{unbound, slot}
+use Rattle.rules.specs.Slots.{unbound}
 use Rattle.rules.specs.Typing.{Kind, Env as Environment, Signature, Context, main_context, start, closed, type_statements, type_functions, type_main}
 use Rattle.sets.specs.declared.LocationSet.{LocationSet}
 use Rattle.sets.specs.Sets.{has}

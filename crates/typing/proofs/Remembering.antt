@@ -7,7 +7,7 @@ use native.Mathlib.Omega.{arith}
 use Prim.Native.Nat.{ℕ, ◌+◌, ◌*◌, ◌≤◌, ◌<◌}
 use borrow.Author.Tests.{eq-eqb, ne_eqb}
 use lib.Dec.{eqb}
-use Rattle.rules.specs.Syntax.{Side, parameter, Place, param}
+use Rattle.rules.specs.Syntax.{parameter, param}
 use Rattle.rules.specs.Slots.{unbound, qubit, bool, ref, slot, is_qubit_at}
 use Rattle.rules.specs.Typing.{Kind, Env as Environment, kind_number}
 use Rattle.sets.specs.declared.LocationSet.{LocationSet}

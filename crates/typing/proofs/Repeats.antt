@@ -1,7 +1,7 @@
 -- A row of bytes gone through from its end, with the set of those that were met: nothing comes twice among them.
 use mathlib.Core.Bool.{Bool, true, false, not, ◌||◌}
-use mathlib.Core.List.{List, [], ◌∷◌}
-use mathlib.Core.Path.{◌≡◌, refl, sym, ap, subst, ◌∙◌}
+use mathlib.Core.List.{◌∷◌}
+use mathlib.Core.Path.{◌≡◌, sym, ap, ◌∙◌}
 use native.Mathlib.Omega.{arith}
 use Prim.Native.Nat.{ℕ, zero, suc, ◌+◌, ◌-◌, ◌≤◌, ◌<◌}
 use lib.Dec.{eqb}

@@ -1,6 +1,5 @@
 -- What an operation does, when all its checks have let through: the environment that the code goes on with stands for that of the rules.
 use mathlib.Core.Bool.{Bool, true, false, not, ◌&&◌, ◌||◌}
-use mathlib.Core.List.{List}
 use mathlib.Core.Path.{◌≡◌, refl, sym, ap, subst, ◌∙◌}
 use native.Mathlib.Omega.{arith}
 use Prim.Native.Nat.{ℕ, ◌-◌, ◌≤◌, ◌<◌}
@@ -8,15 +7,14 @@ use borrow.Author.Tests.{eq-eqb, ne_eqb}
 use lib.Dec.{eqb}
 use lib.ListN.{get_or, set}
 use Rattle.answers.specs.Check.{ok}
-use Rattle.rules.specs.Syntax.{Side, device, Place}
+use Rattle.rules.specs.Syntax.{Side, device}
 use Rattle.rules.specs.Slots.{unbound, qubit, slot}
-use Rattle.rules.specs.Typing.{Kind, Env as Environment, Typed, Context, kind_number}
+use Rattle.rules.specs.Typing.{Kind, Env as Environment, Context, kind_number}
 use Rattle.rules.specs.Commands.{Commands}
 use Rattle.sets.specs.declared.LocationSet.{LocationSet}
 use Rattle.sets.specs.Sets.{has}
 use Rattle.typing.specs.declared.slots.Slot.{Slot}
 use Rattle.typing.specs.declared.slots.Slot.TheVariants.{Unbound, Qubit}
-use Rattle.typing.specs.declared.slots.Cell.{Cell}
 use Rattle.typing.specs.declared.env.Env.{Env}
 use Rattle.typing.specs.declared.env.Outcome.{Outcome}
 use Rattle.typing.specs.Stands.{kind_of, bound, EnvIs, Within, Answers}

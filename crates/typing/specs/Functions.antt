@@ -1,5 +1,5 @@
 -- What is known of the functions: after one more, and after them all.
-use Rattle.std.specs.Prelude.{Bool, false, ◌||◌, List, ◌≡◌, ℕ, ◌+◌, ◌*◌, ◌≤◌, ◌<◌}
+use Rattle.std.specs.Prelude.{Bool, ◌||◌, List, ◌≡◌, ℕ, ◌+◌, ◌*◌, ◌≤◌, ◌<◌}
 use Rattle.answers.specs.declared.Refusal.{Refusal}
 use Rattle.answers.specs.declared.ReadAnswer.TheVariants.{Readable, Refused}
 use Rattle.answers.specs.Check.{Check, ok, refused, ◌>>=◌}

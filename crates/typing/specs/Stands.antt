@@ -1,5 +1,5 @@
 -- What the values of the code stand for in the rules: a slot, an environment, the places inside, what is known of the functions before, an outcome.
-use Rattle.std.specs.Prelude.{Bool, true, false, not, ◌&&◌, List, ◌≡◌, ℕ, ◌+◌, ◌*◌, ◌≤◌, ◌<◌, get_or, set, length}
+use Rattle.std.specs.Prelude.{true, false, not, ◌&&◌, List, ◌≡◌, ℕ, ◌+◌, ◌*◌, ◌≤◌, ◌<◌, get_or, set, length}
 use Rattle.answers.specs.declared.Refusal.{Refusal}
 use Rattle.answers.specs.Check.{Check, ok, refused}
 use Rattle.program.specs.declared.blocks.Past.TheVariants.{At, Refused}
@@ -12,7 +12,6 @@ use Rattle.sets.specs.declared.LocationSet.{LocationSet}
 use Rattle.sets.specs.Sets.{has}
 use Rattle.typing.specs.declared.slots.Slot.{Slot}
 use Rattle.typing.specs.declared.slots.Slot.TheVariants.{Unbound, Qubit, Bool as ABool, Reference}
-use Rattle.typing.specs.declared.slots.Cell.{Cell}
 use Rattle.typing.specs.declared.env.Env.{Env}
 use Rattle.typing.specs.declared.env.Outcome.{Outcome}
 use Rattle.typing.specs.declared.endings.Endings.{Endings}

@@ -1,5 +1,6 @@
 // Typing of a read program: the first refusal of its bodies, functions in file order and then main; else how many qubits main leaves live.
 #![tactic(auto)]
+
 ghost use Rattle.std.specs.Prelude.{◌≡◌};
 ghost use Rattle.device.specs.Reader.{Owned};
 ghost use Rattle.program.specs.In.{ProgramIn};

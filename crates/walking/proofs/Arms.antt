@@ -14,7 +14,7 @@ use Rattle.answers.specs.Check.{Check, ok, refused, refusal, ◌>>=◌, ◌>>◌
 use Rattle.rules.specs.Basics.{byte}
 use Rattle.rules.specs.Region.{Region}
 use Rattle.rules.specs.Path.{route, traced, fewest, reach, smallest_from}
-use Rattle.rules.specs.Syntax.{device, Place, Op, init, free, merge, Statement, op}
+use Rattle.rules.specs.Syntax.{device, Place, Op, init, free, Statement, op}
 use Rattle.rules.specs.Commands.{need_route}
 use Rattle.route.specs.Found.{edges_of}
 use Rattle.sets.specs.declared.LocationSet.{LocationSet}

@@ -15,7 +15,7 @@ use borrow.Author.Tests.{lt-ltb, le-ltb}
 use Rattle.answers.specs.Check.{Check, ok, refused, refusal, ◌>>=◌, ◌>>◌}
 use Rattle.rules.specs.Basics.{up_to, byte, word}
 use Rattle.rules.specs.Region.{Region}
-use Rattle.rules.specs.Syntax.{device, parameter, Place, param, at, Statement, if, while, call, Function, function}
+use Rattle.rules.specs.Syntax.{device, parameter, Place, param, at, Statement, Function, function}
 use Rattle.sets.specs.declared.LocationSet.{LocationSet}
 use Rattle.sets.specs.Sets.{has}
 use Rattle.rules.proofs.Basics.{get_d_up_to}

@@ -10,7 +10,7 @@ use Rattle.answers.specs.declared.Refusal.{Refusal}
 use Rattle.answers.specs.Check.{Check, ok, refused, ◌>>=◌}
 use Rattle.rules.specs.Basics.{word}
 use Rattle.rules.specs.Region.{Region}
-use Rattle.rules.specs.Syntax.{device, Place, Statements, Block, block}
+use Rattle.rules.specs.Syntax.{device, Place, Statements, Block}
 use Rattle.sets.specs.declared.LocationSet.{LocationSet}
 use Rattle.sets.specs.Sets.{has}
 use Rattle.program.specs.In.{StatementsIn}

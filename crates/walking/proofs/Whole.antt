@@ -11,7 +11,6 @@ use Prim.Native.Nat.{ℕ, zero, suc, ◌+◌, ◌≤◌, ◌<◌}
 use lib.Dec.{ltb}
 use lib.ListN.{get_or, set, length}
 use Rattle.answers.specs.Check.{Check, ok, ◌>>◌}
-use Rattle.rules.specs.Basics.{all}
 use Rattle.rules.specs.Region.{Region}
 use Rattle.rules.specs.Syntax.{Side, device, parameter, Place, at, Op, Statement, op, if, while, call, Statements, done, ◌⨾◌, Block, block, Function, function, Program}
 use Rattle.rules.specs.Slots.{unbound, qubit, bool, ref, slot}

@@ -1,5 +1,6 @@
 // The walk over the commands of a typed program: the first merge that no path joins, over the bytes of the program.
 #![tactic(auto)]
+
 ghost use Rattle.std.specs.Prelude.{◌≡◌, ℕ, ◌<◌, get_or, length};
 ghost use Rattle.answers.specs.Check.{ok, ◌>>◌ as ◌then◌};
 ghost use Rattle.answers.specs.Said.{read_said};

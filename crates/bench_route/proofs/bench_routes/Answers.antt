@@ -1,4 +1,4 @@
-use Rattle.std.proofs.Common.{◌-◌, ◌∙◌, arith}
+use Rattle.std.proofs.Common.{◌∙◌, arith}
 use Rattle.bench_route.proofs.bench_routes.Goals as goal
 
 pub loop-i-preserved : goal.loop-i-preserved

@@ -1,5 +1,4 @@
 use native.Mathlib.Omega.{arith}
-use Prim.Native.Nat.{◌-◌}
 use Rattle.counting.proofs.Exits.{fewer}
 use Rattle.counting.proofs.Whole.{placed, main_below, before_start, before_step, program_exit}
 use Rattle.counting.proofs.count_program.Goals as goal

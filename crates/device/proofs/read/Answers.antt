@@ -1,15 +1,9 @@
 -- Each exit before the body is a law of the row of checks; what comes after the header is the body's.
 use mathlib.Core.Bool.{true}
-use mathlib.Core.List.{List}
 use mathlib.Core.Path.{◌≡◌, sym, ap, ◌∙◌}
-use Prim.Native.Nat.{ℕ}
-use Rattle.answers.specs.Check.{Check, ok, refused}
-use Rattle.answers.specs.declared.Refusal.{Refusal}
+use Rattle.answers.specs.Check.{refused}
 use Rattle.rules.specs.Basics.{word, has_mark}
-use Rattle.rules.specs.Device.{device_header, device_header_said}
-use Rattle.rules.specs.declared.device.DeviceHeader.{DeviceHeader}
-use Rattle.device.specs.Parts.{body_read}
-use Rattle.device.specs.Reader.{device_read}
+use Rattle.rules.specs.Device.{device_header_said}
 use Rattle.device.proofs.HeaderLaws.{read_short, read_mark, read_version, read_header, read_past, made_few}
 use Rattle.device.proofs.read.Goals as goal
 
@@ -24,7 +18,7 @@ returns-then-not-has_mark c =
 pub returns-then-word_at-ne-VERSION : goal.returns-then-word_at-ne-VERSION
 returns-then-word_at-ne-VERSION c =
     let marked : has_mark c.args.s.now 0x47 ≡ true =
-        sym c.has_mark.ensures ∙ c.if-not-has_mark.false in
+    sym c.has_mark.ensures ∙ c.if-not-has_mark.false in
     let d = c in
     let w = c.word_at.ensures.0 in
     ap refused c.new-then-word_at-ne-VERSION.ensures ∙ read_version _ d.if-s-lt-BYTES.false marked (λ e. c.if-word_at-ne-VERSION.true (w ∙ e))

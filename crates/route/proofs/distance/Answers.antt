@@ -35,9 +35,9 @@ returns-then-contains c =
 pub loop-other-init : goal.loop-other-init
 loop-other-init c =
     let ends : c.args.a ≡ c.args.b → ⊥ =
-        c.if-a-b.false in
+    c.if-a-b.false in
     let inner : Inner (has c.args.free) c.args.a c.args.b (has c.remove-left.result) =
-        inner_of c.remove.result c.remove-left.result c.remove.ensures c.remove-left.ensures in
+    inner_of c.remove.result c.remove-left.result c.remove.ensures c.remove-left.ensures in
     let d = c in
     let i = inner in
     let t = c.row-other in
@@ -56,12 +56,12 @@ overflow_add-k c = omega (arith, c.loop-other.invariant.0)
 pub returns-then-turn : goal.returns-then-turn
 returns-then-turn c =
     let ends : c.args.a ≡ c.args.b → ⊥ =
-        c.if-a-b.false in
+    c.if-a-b.false in
     let inner : Inner (has c.args.free) c.args.a c.args.b (has c.remove-left.result) =
-        inner_of c.remove.result c.remove-left.result c.remove.ensures c.remove-left.ensures in
+    inner_of c.remove.result c.remove-left.result c.remove.ensures c.remove-left.ensures in
     let turned : Turned c.args.rows.now (level c.loop-other.joined c.loop-other.left) (has c.loop-other.other) (has c.loop-other.left) 256
     c.advance-turn.result.left c.advance-turn.result.joined c.advance-turn.result.any c.advance-turn.result.met =
-        c.advance-turn.ensures (level c.loop-other.joined c.loop-other.left) (λ y. refl) in
+    c.advance-turn.ensures (level c.loop-other.joined c.loop-other.left) (λ y. refl) in
     let v = c in
     let l = v.loop-other in
     let d = v in
@@ -75,12 +75,12 @@ returns-then-turn c =
 pub returns-then-turn-eq0 : goal.returns-then-turn-eq0
 returns-then-turn-eq0 c =
     let ends : c.args.a ≡ c.args.b → ⊥ =
-        c.if-a-b.false in
+    c.if-a-b.false in
     let inner : Inner (has c.args.free) c.args.a c.args.b (has c.remove-left.result) =
-        inner_of c.remove.result c.remove-left.result c.remove.ensures c.remove-left.ensures in
+    inner_of c.remove.result c.remove-left.result c.remove.ensures c.remove-left.ensures in
     let turned : Turned c.args.rows.now (level c.loop-other.joined c.loop-other.left) (has c.loop-other.other) (has c.loop-other.left) 256
     c.advance-turn.result.left c.advance-turn.result.joined c.advance-turn.result.any c.advance-turn.result.met =
-        c.advance-turn.ensures (level c.loop-other.joined c.loop-other.left) (λ y. refl) in
+    c.advance-turn.ensures (level c.loop-other.joined c.loop-other.left) (λ y. refl) in
     let v = c in
     let l = v.loop-other in
     let d = v in
@@ -109,7 +109,7 @@ pub loop-other-preserved : goal.loop-other-preserved
 loop-other-preserved c =
     let turned : Turned c.args.rows.now (level c.loop-other.joined c.loop-other.left) (has c.loop-other.other) (has c.loop-other.left) 256
     c.advance-turn.result.left c.advance-turn.result.joined c.advance-turn.result.any c.advance-turn.result.met =
-        c.advance-turn.ensures (level c.loop-other.joined c.loop-other.left) (λ y. refl) in
+    c.advance-turn.ensures (level c.loop-other.joined c.loop-other.left) (λ y. refl) in
     let v = c in
     let l = v.loop-other in
     let z = shrinks c.args.rows.now l.joined l.other l.left c.advance-turn.result turned c.if-turn.false c.if-turn-eq0.false in

@@ -16,17 +16,17 @@ none-on e n h = le-ltb e e (omega arith) ∙ sym (le-ltb e n h)
 pub returns-then-end-text : goal.returns-then-end-text
 returns-then-end-text c =
     record {
-  whole = one_on _ _ c.if-end-text.true;
-  from = search rules;
-  near = search rules;
-  within = search rules;
-}
+      whole = one_on _ _ c.if-end-text.true;
+      from = search rules;
+      near = search rules;
+      within = search rules;
+    }
 
 pub returns : goal.returns
 returns c =
     record {
-  whole = none-on _ _ c.if-end-text.false;
-  from = search rules;
-  near = search rules;
-  within = search rules;
-}
+      whole = none-on _ _ c.if-end-text.false;
+      from = search rules;
+      near = search rules;
+      within = search rules;
+    }

@@ -1,6 +1,5 @@
 use mathlib.Core.Path.{refl}
 use native.Mathlib.Omega.{arith}
-use Prim.Native.Nat.{◌-◌}
 use Rattle.unlisting.proofs.Following.{followed_none, refused_line, refused_last, line_took, line_on, refused_end, end_yes}
 use borrow.Author.Rules.{rules}
 use Rattle.unlisting.proofs.read_lines.Goals as goal
@@ -18,18 +17,24 @@ returns-in-Not c =
     let at_line = c in
     let at-stop = at_line in
     let at_end = at-stop in
-    let F = at_end.loop-at.invariant.2 in record { result_value = (refused_line _ _ _ _ _ F (search rules) _ _ (search rules) (search rules) at_end.line_end-end.ensures.line_end at-stop.line_stop-stop.ensures _ _
-    at_line.read_line-line.ensures c.in-Not.is _ c.refused.ensures c.args.out.now).0; by_index = (refused_line _ _ _ _ _ F (search rules) _ _ (search rules) (search rules) at_end.line_end-end.ensures.line_end at-stop.line_stop-stop.ensures _ _
-    at_line.read_line-line.ensures c.in-Not.is _ c.refused.ensures _).1 }
+    let F = at_end.loop-at.invariant.2 in record {
+      result_value = (refused_line _ _ _ _ _ F (search rules) _ _ (search rules) (search rules) at_end.line_end-end.ensures.line_end at-stop.line_stop-stop.ensures _ _
+          at_line.read_line-line.ensures c.in-Not.is _ c.refused.ensures c.args.out.now).0;
+      by_index = (refused_line _ _ _ _ _ F (search rules) _ _ (search rules) (search rules) at_end.line_end-end.ensures.line_end at-stop.line_stop-stop.ensures _ _
+          at_line.read_line-line.ensures c.in-Not.is _ c.refused.ensures _).1;
+    }
 
 pub returns-in-Begun : goal.returns-in-Begun
 returns-in-Begun c =
     let at_line = c in
     let at-stop = at_line in
     let at_end = at-stop in
-    let F = at_end.loop-at.invariant.2 in record { result_value = (refused_last _ _ _ _ _ F (search rules) _ _ (search rules) (search rules) at_end.line_end-end.ensures.line_end at-stop.line_stop-stop.ensures _ _
-    at_line.read_line-line.ensures c.in-Begun.is _ c.refused-in-Begun.ensures c.args.out.now).0; by_index = (refused_last _ _ _ _ _ F (search rules) _ _ (search rules) (search rules) at_end.line_end-end.ensures.line_end at-stop.line_stop-stop.ensures _ _
-    at_line.read_line-line.ensures c.in-Begun.is _ c.refused-in-Begun.ensures _).1 }
+    let F = at_end.loop-at.invariant.2 in record {
+      result_value = (refused_last _ _ _ _ _ F (search rules) _ _ (search rules) (search rules) at_end.line_end-end.ensures.line_end at-stop.line_stop-stop.ensures _ _
+          at_line.read_line-line.ensures c.in-Begun.is _ c.refused-in-Begun.ensures c.args.out.now).0;
+      by_index = (refused_last _ _ _ _ _ F (search rules) _ _ (search rules) (search rules) at_end.line_end-end.ensures.line_end at-stop.line_stop-stop.ensures _ _
+          at_line.read_line-line.ensures c.in-Begun.is _ c.refused-in-Begun.ensures _).1;
+    }
 
 pub loop-at-smaller : goal.loop-at-smaller
 loop-at-smaller c =

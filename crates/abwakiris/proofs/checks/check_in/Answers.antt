@@ -18,7 +18,7 @@ returns-in-Refused c =
 pub judge-requires : goal.judge-requires
 judge-requires c =
     let program_read : (p : syntax.Program) × (read_program c.args.program.now ≡ ok p) =
-        program_gives c.args.program.now c.args.job (rw c.in_default.is at c.read_program-read.ensures.answers) in
+    program_gives c.args.program.now c.args.job (rw c.in_default.is at c.read_program-read.ensures.answers) in
     let t = c in
     let p = program_read in
     (p.0, p.1, t.read_program-read.ensures.tables p.0 p.1)
@@ -26,7 +26,7 @@ judge-requires c =
 pub returns-in-Accepted : goal.returns-in-Accepted
 returns-in-Accepted c =
     let program_read : (p : syntax.Program) × (read_program c.args.program.now ≡ ok p) =
-        program_gives c.args.program.now c.args.job (rw c.in_default.is at c.read_program-read.ensures.answers) in
+    program_gives c.args.program.now c.args.job (rw c.in_default.is at c.read_program-read.ensures.answers) in
     λ D d.
     let t = c in
     let a = t.args in
@@ -41,7 +41,7 @@ returns-in-Accepted c =
 pub returns-in-Refused-judge : goal.returns-in-Refused-judge
 returns-in-Refused-judge c =
     let program_read : (p : syntax.Program) × (read_program c.args.program.now ≡ ok p) =
-        program_gives c.args.program.now c.args.job (rw c.in_default.is at c.read_program-read.ensures.answers) in
+    program_gives c.args.program.now c.args.job (rw c.in_default.is at c.read_program-read.ensures.answers) in
     λ D d.
     let t = c in
     let a = t.args in

@@ -22,7 +22,7 @@ returns-in-Refused c =
 pub returns-in-Refused-second_answer : goal.returns-in-Refused-second_answer
 returns-in-Refused-second_answer c =
     let first_read : (p : syntax.Program) × (read_program c.args.first.now ≡ ok p) =
-        program_gives c.args.first.now 1 (rw c.in_default.is at c.read_program-one.ensures.answers) in
+    program_gives c.args.first.now 1 (rw c.in_default.is at c.read_program-one.ensures.answers) in
     let t = c in
     let a = t.args in
     let d = t.requires in
@@ -34,9 +34,9 @@ returns-in-Refused-second_answer c =
 pub returns-in-Refused-may : goal.returns-in-Refused-may
 returns-in-Refused-may c =
     let first_read : (p : syntax.Program) × (read_program c.args.first.now ≡ ok p) =
-        program_gives c.args.first.now 1 (rw c.in_default.is at c.read_program-one.ensures.answers) in
+    program_gives c.args.first.now 1 (rw c.in_default.is at c.read_program-one.ensures.answers) in
     let second-read : (p : syntax.Program) × (read_program c.args.second.now ≡ ok p) =
-        program_gives c.args.second.now 2 (rw c.in_default-second_answer.is at c.read_program-two.ensures.answers) in
+    program_gives c.args.second.now 2 (rw c.in_default-second_answer.is at c.read_program-two.ensures.answers) in
     let u = c in
     let a = u.args in
     let d = u.requires in
@@ -49,15 +49,15 @@ returns-in-Refused-may c =
 pub returns-then-records-schedule : goal.returns-then-records-schedule
 returns-then-records-schedule c =
     let first_read : (p : syntax.Program) × (read_program c.args.first.now ≡ ok p) =
-        program_gives c.args.first.now 1 (rw c.in_default.is at c.read_program-one.ensures.answers) in
+    program_gives c.args.first.now 1 (rw c.in_default.is at c.read_program-one.ensures.answers) in
     let second-read : (p : syntax.Program) × (read_program c.args.second.now ≡ ok p) =
-        program_gives c.args.second.now 2 (rw c.in_default-second_answer.is at c.read_program-two.ensures.answers) in
+    program_gives c.args.second.now 2 (rw c.in_default-second_answer.is at c.read_program-two.ensures.answers) in
     let all_read : Inputs c.args.device.now c.args.first.now c.args.second.now c.args.schedule.now =
-        let d = c.requires in
-        let p = first_read in
-        let q = second-read in
-        let s = may_run c.args.schedule.now (rw c.in_default-may.is at c.read_schedule-may.ensures) in
-        record { D = d.0; p = p.0; q = q.0; reads = d.1.reads; first = p.1; second = q.1; may_run = s } in
+    let d = c.requires in
+    let p = first_read in
+    let q = second-read in
+    let s = may_run c.args.schedule.now (rw c.in_default-may.is at c.read_schedule-may.ensures) in
+    record { D = d.0; p = p.0; q = q.0; reads = d.1.reads; first = p.1; second = q.1; may_run = s } in
     let t = c in
     let a = t.args in
     ap (λ x. ended (Refused x) a.records.now a.map.now) c.new.ensures
@@ -67,15 +67,15 @@ returns-then-records-schedule c =
 pub returns-then-map-h : goal.returns-then-map-h
 returns-then-map-h c =
     let first_read : (p : syntax.Program) × (read_program c.args.first.now ≡ ok p) =
-        program_gives c.args.first.now 1 (rw c.in_default.is at c.read_program-one.ensures.answers) in
+    program_gives c.args.first.now 1 (rw c.in_default.is at c.read_program-one.ensures.answers) in
     let second-read : (p : syntax.Program) × (read_program c.args.second.now ≡ ok p) =
-        program_gives c.args.second.now 2 (rw c.in_default-second_answer.is at c.read_program-two.ensures.answers) in
+    program_gives c.args.second.now 2 (rw c.in_default-second_answer.is at c.read_program-two.ensures.answers) in
     let all_read : Inputs c.args.device.now c.args.first.now c.args.second.now c.args.schedule.now =
-        let d = c.requires in
-        let p = first_read in
-        let q = second-read in
-        let s = may_run c.args.schedule.now (rw c.in_default-may.is at c.read_schedule-may.ensures) in
-        record { D = d.0; p = p.0; q = q.0; reads = d.1.reads; first = p.1; second = q.1; may_run = s } in
+    let d = c.requires in
+    let p = first_read in
+    let q = second-read in
+    let s = may_run c.args.schedule.now (rw c.in_default-may.is at c.read_schedule-may.ensures) in
+    record { D = d.0; p = p.0; q = q.0; reads = d.1.reads; first = p.1; second = q.1; may_run = s } in
     let t = c in
     let a = t.args in
     ap (λ x. ended (Refused x) a.records.now a.map.now) c.new-then-map-h.ensures
@@ -85,15 +85,15 @@ returns-then-map-h c =
 pub run-requires : goal.run-requires
 run-requires c =
     let first_read : (p : syntax.Program) × (read_program c.args.first.now ≡ ok p) =
-        program_gives c.args.first.now 1 (rw c.in_default.is at c.read_program-one.ensures.answers) in
+    program_gives c.args.first.now 1 (rw c.in_default.is at c.read_program-one.ensures.answers) in
     let second-read : (p : syntax.Program) × (read_program c.args.second.now ≡ ok p) =
-        program_gives c.args.second.now 2 (rw c.in_default-second_answer.is at c.read_program-two.ensures.answers) in
+    program_gives c.args.second.now 2 (rw c.in_default-second_answer.is at c.read_program-two.ensures.answers) in
     let all_read : Inputs c.args.device.now c.args.first.now c.args.second.now c.args.schedule.now =
-        let d = c.requires in
-        let p = first_read in
-        let q = second-read in
-        let s = may_run c.args.schedule.now (rw c.in_default-may.is at c.read_schedule-may.ensures) in
-        record { D = d.0; p = p.0; q = q.0; reads = d.1.reads; first = p.1; second = q.1; may_run = s } in
+    let d = c.requires in
+    let p = first_read in
+    let q = second-read in
+    let s = may_run c.args.schedule.now (rw c.in_default-may.is at c.read_schedule-may.ensures) in
+    record { D = d.0; p = p.0; q = q.0; reads = d.1.reads; first = p.1; second = q.1; may_run = s } in
     let t = c in
     let i = all_read in
     let one = t.read_program-one.ensures.tables in
@@ -114,15 +114,15 @@ run-requires c =
 pub returns : goal.returns
 returns c =
     let first_read : (p : syntax.Program) × (read_program c.args.first.now ≡ ok p) =
-        program_gives c.args.first.now 1 (rw c.in_default.is at c.read_program-one.ensures.answers) in
+    program_gives c.args.first.now 1 (rw c.in_default.is at c.read_program-one.ensures.answers) in
     let second-read : (p : syntax.Program) × (read_program c.args.second.now ≡ ok p) =
-        program_gives c.args.second.now 2 (rw c.in_default-second_answer.is at c.read_program-two.ensures.answers) in
+    program_gives c.args.second.now 2 (rw c.in_default-second_answer.is at c.read_program-two.ensures.answers) in
     let all_read : Inputs c.args.device.now c.args.first.now c.args.second.now c.args.schedule.now =
-        let d = c.requires in
-        let p = first_read in
-        let q = second-read in
-        let s = may_run c.args.schedule.now (rw c.in_default-may.is at c.read_schedule-may.ensures) in
-        record { D = d.0; p = p.0; q = q.0; reads = d.1.reads; first = p.1; second = q.1; may_run = s } in
+    let d = c.requires in
+    let p = first_read in
+    let q = second-read in
+    let s = may_run c.args.schedule.now (rw c.in_default-may.is at c.read_schedule-may.ensures) in
+    record { D = d.0; p = p.0; q = q.0; reads = d.1.reads; first = p.1; second = q.1; may_run = s } in
     let t = c in
     let a = t.args in
     let d = t.requires.1 in

@@ -1,5 +1,5 @@
 use native.Mathlib.Omega.{arith}
-use Prim.Native.Nat.{◌-◌, ◌<◌}
+use Prim.Native.Nat.{◌<◌}
 use Rattle.counting.proofs.Apart.{block_apart, byte_apart, if_apart, while_apart, call_apart, op_apart}
 use Rattle.counting.proofs.Along.{along_start, along_next, along_step, along_end}
 use Rattle.counting.proofs.Exits.{fewer, if_exit, while_exit, call_exit, op_exit, known_exit, counted_exit}

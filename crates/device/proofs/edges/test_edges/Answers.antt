@@ -1,6 +1,6 @@
 use mathlib.Core.Path.{sym, ◌∙◌}
 use native.Mathlib.Omega.{arith}
-use Prim.Native.Nat.{◌+◌, ◌-◌}
+use Prim.Native.Nat.{◌+◌}
 use Rattle.device.proofs.EdgeLaws.{edge_start, edge_bad, edge_good, edge_done}
 use Rattle.device.proofs.edges.test_edges.Goals as goal
 

@@ -1,5 +1,4 @@
 use native.Mathlib.Omega.{arith}
-use Prim.Native.Nat.{◌-◌}
 use Rattle.device.proofs.FreeLaws.{thin_none, thin_more, thin_all}
 use Rattle.device.proofs.free.free_in.Goals as goal
 

@@ -1,5 +1,4 @@
 use native.Mathlib.Omega.{arith}
-use Prim.Native.Nat.{◌-◌}
 use Rattle.device.proofs.OwnerLaws.{owner_start, owner_bad, owner_good, owner_done}
 use Rattle.device.proofs.owners.test_owners.Goals as goal
 

@@ -1,7 +1,6 @@
 use mathlib.Core.Bool.{◌&&◌, ◌||◌}
 use mathlib.Core.Path.{ap₂, ◌∙◌}
 use native.Mathlib.Omega.{arith}
-use Prim.Native.Nat.{◌-◌}
 use lib.Dec.{eqb}
 use Rattle.device.specs.Parts.{owned_by}
 use Rattle.device.proofs.DeviceLaws.{known}

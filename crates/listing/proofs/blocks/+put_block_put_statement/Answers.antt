@@ -1,6 +1,5 @@
 use mathlib.Core.Path.{refl}
 use native.Mathlib.Omega.{arith}
-use Prim.Native.Nat.{◌-◌}
 use Rattle.listing.proofs.LineLaws.{inside}
 use Rattle.listing.proofs.Apart.{block_fits, statement_fits, call_fits, if_here, else_here, while_here}
 use Rattle.listing.proofs.Along.{along_start, along_next, along_step, along_end}

@@ -1,5 +1,4 @@
 use native.Mathlib.Omega.{arith}
-use Prim.Native.Nat.{◌-◌}
 use Rattle.listing.proofs.Putting.{puts_length}
 use Rattle.listing.proofs.Written.{spaces_none, spaces_next, spaces_all}
 use Rattle.listing.proofs.lines.put_indent.Goals as goal

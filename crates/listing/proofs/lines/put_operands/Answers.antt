@@ -1,6 +1,5 @@
 use mathlib.Core.Path.{refl}
 use native.Mathlib.Omega.{arith}
-use Prim.Native.Nat.{◌-◌}
 use Rattle.listing.proofs.Left.{left_start, left_next, left_none}
 use Rattle.listing.proofs.LineLaws.{inside, operands_next, operands_none}
 use Rattle.listing.proofs.Putting.{puts_length}

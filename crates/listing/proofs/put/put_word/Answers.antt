@@ -1,5 +1,4 @@
 use native.Mathlib.Omega.{arith}
-use Prim.Native.Nat.{◌-◌}
 use Rattle.rules.specs.Table.{word_of}
 use Rattle.listing.proofs.Putting.{puts_length, letters_none, letters_next, letters_all}
 use Rattle.listing.proofs.put.put_word.Goals as goal

@@ -1,5 +1,4 @@
 use native.Mathlib.Omega.{arith}
-use Prim.Native.Nat.{◌-◌}
 use Rattle.listing.proofs.Left.{left_start, left_next, left_none}
 use Rattle.listing.proofs.Putting.{puts_length}
 use Rattle.listing.proofs.Spaces.{numbers_all, numbers_next, numbers_none}

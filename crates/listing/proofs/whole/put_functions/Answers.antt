@@ -1,6 +1,5 @@
 use mathlib.Core.Path.{refl}
 use native.Mathlib.Omega.{arith}
-use Prim.Native.Nat.{◌-◌}
 use Rattle.listing.proofs.Programs.{few, function_here, function_room, function_short, functions_start, functions_step, functions_all}
 use borrow.Author.Rules.{rules}
 use Rattle.listing.proofs.whole.put_functions.Goals as goal

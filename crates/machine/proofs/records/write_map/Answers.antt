@@ -1,6 +1,6 @@
 use mathlib.Core.Path.{refl, sym, ap, ◌∙◌}
 use native.Mathlib.Omega.{arith}
-use Prim.Native.Nat.{ℕ, ◌+◌, ◌-◌}
+use Prim.Native.Nat.{ℕ, ◌+◌}
 use lib.ListN.{take, drop, set, length-set}
 use lib.Seq.{sets, length-take-le}
 use Rattle.machine.proofs.Writing.{one_more, all_written, taken_at}

@@ -1,5 +1,4 @@
 use native.Mathlib.Omega.{arith}
-use Prim.Native.Nat.{◌-◌}
 use Rattle.machine.proofs.Dealing.{under_start, under_on, under_done}
 use Rattle.machine.proofs.run.deal.Goals as goal
 

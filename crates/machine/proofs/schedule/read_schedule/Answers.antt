@@ -1,6 +1,5 @@
 use mathlib.Core.Path.{sym, ap, ◌∙◌}
 use native.Mathlib.Omega.{arith}
-use Prim.Native.Nat.{◌-◌}
 use Rattle.answers.specs.Check.{refused, in_file}
 use Rattle.answers.specs.declared.File.TheVariants.{Schedule}
 use Rattle.machine.proofs.Scheduling.{too_long, from_start, from_none, from_more, from_end}

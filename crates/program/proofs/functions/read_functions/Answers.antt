@@ -1,5 +1,4 @@
 use native.Mathlib.Omega.{arith}
-use Prim.Native.Nat.{◌-◌}
 use Rattle.program.proofs.PastLaws.{said_at, said_no, between_past, between_none, between_at}
 use Rattle.program.proofs.FunctionLaws.{left_start, left_end, left_refused, left_more}
 use borrow.Author.Rules.{rules}

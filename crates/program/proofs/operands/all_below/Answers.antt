@@ -1,6 +1,5 @@
 use native.Mathlib.Omega.{arith}
 use mathlib.Core.Path.{refl, sym, ◌∙◌}
-use Prim.Native.Nat.{◌-◌}
 use Rattle.program.proofs.PastLaws.{said_refused}
 use Rattle.program.proofs.OperandLaws.{below_end, below_bad, below_more}
 use borrow.Author.Rules.{rules}

@@ -1,6 +1,6 @@
 use native.Mathlib.Omega.{arith}
 use mathlib.Core.Path.{sym, ap, ◌∙◌}
-use Prim.Native.Nat.{ℕ, ◌+◌, ◌-◌}
+use Prim.Native.Nat.{ℕ, ◌+◌}
 use Rattle.answers.specs.Check.{ok}
 use Rattle.program.specs.Reader.{BehindFixed}
 use Rattle.program.proofs.PastLaws.{said_refused, between_refused, between_at}

@@ -1,5 +1,4 @@
 use native.Mathlib.Omega.{arith}
-use Prim.Native.Nat.{◌-◌}
 use Rattle.reading.proofs.Indenting.{passed_none, passed_more, indents_nothing, indents_other, indents_no_start, indents_begun}
 use Rattle.reading.proofs.Indenting.{indents_dead, indents_at, blank_at, onto_at, onto_not, onto_begun, blank_not, blank_begun}
 use borrow.Author.Rules.{rules}

@@ -1,7 +1,5 @@
 use mathlib.Core.Path.{sym, ◌∙◌}
-use Prim.Native.Nat.{◌-◌}
 use borrow.Author.Count.{below_more}
-use Rattle.rules.specs.Words.{opens}
 use Rattle.reading.specs.Hearing.{NumberOnto}
 use Rattle.reading.proofs.Expecting.{next_unfinished, next_to}
 use Rattle.reading.proofs.Counting.{numbers_nothing, numbers_begun, numbers_other, numbers_is, numbers_not}

@@ -1,5 +1,4 @@
 use mathlib.Core.Path.{sym, ◌∙◌}
-use Prim.Native.Nat.{◌-◌}
 use borrow.Author.Count.{below_more}
 use Rattle.reading.proofs.Opening.{part_longer, part_other, part_opens}
 use native.Mathlib.Omega.{arith}

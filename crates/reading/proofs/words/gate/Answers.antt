@@ -1,5 +1,4 @@
 use mathlib.Core.Path.{◌≡◌, sym, ◌∙◌}
-use Prim.Native.Nat.{◌-◌}
 use borrow.Author.Count.{below_more}
 use Rattle.reading.proofs.Placing.{gate_valued, basis_valued}
 use native.Mathlib.Omega.{arith}

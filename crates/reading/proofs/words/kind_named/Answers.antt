@@ -1,5 +1,4 @@
 use mathlib.Core.Path.{◌≡◌, sym, ◌∙◌}
-use Prim.Native.Nat.{◌-◌}
 use borrow.Author.Count.{below_more}
 use Rattle.reading.proofs.Placing.{name_named, no_name_named}
 use native.Mathlib.Omega.{arith}

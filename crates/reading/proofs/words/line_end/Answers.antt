@@ -1,4 +1,3 @@
-use Prim.Native.Nat.{◌-◌}
 use borrow.Author.Count.{below_more}
 use Rattle.reading.proofs.Splitting.{line_to_newline, line_to_end}
 use native.Mathlib.Omega.{arith}

@@ -1,4 +1,3 @@
-use Prim.Native.Nat.{◌-◌}
 use borrow.Author.Count.{below_more}
 use Rattle.reading.proofs.Splitting.{word_to_space, word_to_end}
 use native.Mathlib.Omega.{arith}

@@ -6,7 +6,7 @@ use borrow.Author.Tests.{eq-eqb, ne_eqb}
 use lib.Dec.{eqb}
 use lib.ListN.{length}
 use Rattle.sets.specs.Sets.{has, row_of}
-use Rattle.sets.proofs.Bools.{clash, both_and, not_of}
+use Rattle.sets.proofs.Bools.{clash, both_and}
 use Rattle.route.specs.Sweeps.{Spread}
 use Rattle.route.proofs.Hunt.{whole, inner_whole, spread_apart, hunt_start, hunt_next, hunt_less, hunt_some, first_in}
 use Rattle.route.proofs.Hunt.{hunt_none, hunt_found, ends_hop}
@@ -37,19 +37,19 @@ returns-then-contains c =
 pub loop-first-init : goal.loop-first-init
 loop-first-init c =
     let ends : c.args.a ≡ c.args.b → ⊥ =
-        c.if-a-b.false in
+    c.if-a-b.false in
     let level : Spread c.args.rows.now (λ z. eqb z c.args.b) (c.args.b + 1) (has c.remove-open.result)
     c.args.hop.now c.reach-f.result.left c.reach-f.result.next c.reach-f.new.hop =
-        let b : ℕ = c.args.b in
+    let b : ℕ = c.args.b in
     c.reach-f.ensures.on (λ z. eqb z b) _ _ 0 (eq-eqb b b refl) (omega arith) (λ z l h. ne_eqb z b (λ e. absurd (omega arith)))
     (spread_start (λ y. refl) c.empty-none.ensures) in
     let level : Spread c.args.rows.now (λ z. eqb z c.args.b) (c.args.b + 1) (has c.remove-open.result)
     c.args.hop.now c.reach-f.result.left c.reach-f.result.next c.reach-f.new.hop =
-        let b : ℕ = c.args.b in
+    let b : ℕ = c.args.b in
     c.reach-f.ensures.on (λ z. eqb z b) _ _ 0 (eq-eqb b b refl) (omega arith) (λ z l h. ne_eqb z b (λ e. absurd (omega arith)))
     (spread_start (λ y. refl) c.empty-none.ensures) in
     let inner : Inner (has c.args.free) c.args.a c.args.b (whole c.reach-f.result.left c.reach-f.result.next) =
-        let r = c.remove in
+    let r = c.remove in
     let s = c.remove-open in
     inner_whole (inner_of r.result s.result r.ensures s.ensures) level in
     let d = c in
@@ -71,11 +71,11 @@ pub returns-then-is_empty : goal.returns-then-is_empty
 returns-then-is_empty c =
     let level : Spread c.args.rows.now (λ z. eqb z c.args.b) (c.args.b + 1) (has c.remove-open.result)
     c.args.hop.now c.reach-f.result.left c.reach-f.result.next c.reach-f.new.hop =
-        let b : ℕ = c.args.b in
+    let b : ℕ = c.args.b in
     c.reach-f.ensures.on (λ z. eqb z b) _ _ 0 (eq-eqb b b refl) (omega arith) (λ z l h. ne_eqb z b (λ e. absurd (omega arith)))
     (spread_start (λ y. refl) c.empty-none.ensures) in
     let inner : Inner (has c.args.free) c.args.a c.args.b (whole c.reach-f.result.left c.reach-f.result.next) =
-        let r = c.remove in
+    let r = c.remove in
     let s = c.remove-open in
     inner_whole (inner_of r.result s.result r.ensures s.ensures) level in
     let l = c.loop-first in record {
@@ -89,7 +89,7 @@ overflow_add-k c = omega (arith, c.loop-first.invariant.1)
 pub overflow_cast-hop-then-not-is_empty : goal.overflow_cast-hop-then-not-is_empty
 overflow_cast-hop-then-not-is_empty c =
     let meets : c.first_from.result < 256 =
-        let t = c.is_empty-in-loop-first.ensures.by_index c.if-not-is_empty.true in
+    let t = c.is_empty-in-loop-first.ensures.by_index c.if-not-is_empty.true in
     first_in _ _ t.0 t.1 c.first_from.ensures in
     record { fits = meets }
 
@@ -99,18 +99,18 @@ bounds-hop-a-then-not-is_empty c = omega (arith, c.requires.a_bound.0)
 pub returns-then-not-is_empty : goal.returns-then-not-is_empty
 returns-then-not-is_empty c =
     let ends : c.args.a ≡ c.args.b → ⊥ =
-        c.if-a-b.false in
+    c.if-a-b.false in
     let level : Spread c.args.rows.now (λ z. eqb z c.args.b) (c.args.b + 1) (has c.remove-open.result)
     c.args.hop.now c.reach-f.result.left c.reach-f.result.next c.reach-f.new.hop =
-        let b : ℕ = c.args.b in
+    let b : ℕ = c.args.b in
     c.reach-f.ensures.on (λ z. eqb z b) _ _ 0 (eq-eqb b b refl) (omega arith) (λ z l h. ne_eqb z b (λ e. absurd (omega arith)))
     (spread_start (λ y. refl) c.empty-none.ensures) in
     let inner : Inner (has c.args.free) c.args.a c.args.b (whole c.reach-f.result.left c.reach-f.result.next) =
-        let r = c.remove in
+    let r = c.remove in
     let s = c.remove-open in
     inner_whole (inner_of r.result s.result r.ensures s.ensures) level in
     let meets : c.first_from.result < 256 =
-        let t = c.is_empty-in-loop-first.ensures.by_index c.if-not-is_empty.true in
+    let t = c.is_empty-in-loop-first.ensures.by_index c.if-not-is_empty.true in
     first_in _ _ t.0 t.1 c.first_from.ensures in
     let l = c.loop-first in
     let d = c in
@@ -127,7 +127,7 @@ returns-then-not-is_empty c =
 pub loop-first-smaller : goal.loop-first-smaller
 loop-first-smaller c =
     let shrinks : count (whole c.further-f.result.left c.further-f.result.next) 256 < count (whole c.loop-first.f.left c.loop-first.f.next) 256 =
-        let l = c.loop-first in
+    let l = c.loop-first in
     let t = c.is_empty.ensures.by_index c.if-is_empty.false in
     hunt_less l.f.left l.f.next c.further-f.ensures.on l.invariant.2 t.0 t.1 in
     shrinks
@@ -135,7 +135,7 @@ loop-first-smaller c =
 pub loop-first-preserved : goal.loop-first-preserved
 loop-first-preserved c =
     let shrinks : count (whole c.further-f.result.left c.further-f.result.next) 256 < count (whole c.loop-first.f.left c.loop-first.f.next) 256 =
-        let l = c.loop-first in
+    let l = c.loop-first in
     let t = c.is_empty.ensures.by_index c.if-is_empty.false in
     hunt_less l.f.left l.f.next c.further-f.ensures.on l.invariant.2 t.0 t.1 in
     let l = c.loop-first in

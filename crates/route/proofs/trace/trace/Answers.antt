@@ -1,5 +1,4 @@
 use native.Mathlib.Omega.{arith}
-use Prim.Native.Nat.{◌-◌}
 use Rattle.route.proofs.Written.{writing_start, writing_length, writing_more, writing_end}
 use Rattle.route.proofs.trace.trace.Goals as goal
 

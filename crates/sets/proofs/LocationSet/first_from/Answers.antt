@@ -1,5 +1,5 @@
 use native.Mathlib.Omega.{arith}
-use Prim.Native.Nat.{◌/◌, ◌-◌}
+use Prim.Native.Nat.{◌/◌}
 use lib.ListN.{get_or}
 use mir.Syntax.{w64}
 use mir.Val.{Fits}

@@ -1,5 +1,4 @@
 use native.Mathlib.Omega.{arith}
-use Prim.Native.Nat.{◌-◌}
 use Rattle.reading.specs.Cursor.{part}
 use Rattle.standing.proofs.Counted.{none_first, none_next, name_offered, name_found, name_not_begun, name_dead, name_none}
 use borrow.Author.Rules.{rules}

@@ -1,6 +1,5 @@
 use mathlib.Core.Path.{ap, ◌∙◌}
 use native.Mathlib.Omega.{arith}
-use Prim.Native.Nat.{◌-◌}
 use Rattle.rules.specs.Listing.{silent}
 use Rattle.reading.specs.Cursor.{part}
 use Rattle.standing.proofs.Counted.{none_yet, none_more, callee_few, first_now, first_before}

@@ -1,6 +1,5 @@
 use mathlib.Core.Path.{refl, ◌∙◌}
 use native.Mathlib.Omega.{arith}
-use Prim.Native.Nat.{◌-◌}
 use Rattle.standing.proofs.Counted.{worded_silent, worded_some, worded_none, worded_end, rest_none, rest_call, rest_other}
 use borrow.Author.Rules.{rules}
 use Rattle.standing.proofs.rows.rest_lives.Goals as goal

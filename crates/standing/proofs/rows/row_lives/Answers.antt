@@ -1,6 +1,5 @@
 use mathlib.Core.Path.{refl, sym, ◌∙◌}
 use native.Mathlib.Omega.{arith}
-use Prim.Native.Nat.{◌-◌}
 use Rattle.standing.specs.Numbers.{rest_lives}
 use Rattle.standing.proofs.Counted.{none_yet, none_more, callee_few, row_unfit, row_found, row_none}
 use borrow.Author.Rules.{rules}

@@ -1,6 +1,5 @@
 use mathlib.Core.Path.{sym, ◌∙◌}
 use native.Mathlib.Omega.{arith}
-use Prim.Native.Nat.{◌-◌}
 use Rattle.standing.specs.Numbers.{row_lives}
 use Rattle.standing.proofs.Counted.{none_first, none_next, statement_found, statement_none}
 use borrow.Author.Rules.{rules}

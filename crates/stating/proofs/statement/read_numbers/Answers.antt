@@ -1,6 +1,5 @@
 use mathlib.Core.Path.{subst}
 use native.Mathlib.Omega.{arith}
-use Prim.Native.Nat.{◌-◌}
 use Rattle.reading.specs.Hearing.{Numbers, Onto, NumberOnto}
 use Rattle.stating.proofs.Listed.{numbers_length, numbers_none, numbers_next, numbers_not, numbers_begun, numbers_all}
 use Rattle.stating.proofs.statement.read_numbers.Goals as goal

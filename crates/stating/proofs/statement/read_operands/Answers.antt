@@ -1,12 +1,11 @@
-use mathlib.Core.Bool.{Bool, true, false}
 use mathlib.Core.Path.{◌≡◌, sym, subst, ◌∙◌}
 use native.Mathlib.Omega.{arith}
-use Prim.Native.Nat.{◌-◌, ◌<◌, ◌≤◌}
+use Prim.Native.Nat.{◌<◌, ◌≤◌}
 use lib.ListN.{length}
 use Rattle.reading.specs.Hearing.{NextWord, Onto}
 use Rattle.standing.proofs.Counted.{first_now, first_before}
 use Rattle.standing.proofs.Meaning.{means_small}
-use Rattle.stating.proofs.Operating.{written_first, silent_call, Facing, facing, operands_none, operands_length, first_small}
+use Rattle.stating.proofs.Operating.{written_first, silent_call, facing, operands_none, operands_length, first_small}
 use Rattle.stating.proofs.Operating.{operands_not, operands_begun, operands_unbegun, operands_above, operands_word}
 use Rattle.stating.proofs.Operating.{operands_silent, operands_as, operands_all}
 use Rattle.stating.proofs.statement.read_operands.Goals as goal
@@ -18,9 +17,9 @@ loop-n-init c = (omega arith, omega arith, omega arith, omega arith, operands_no
 pub unwritten-requires : goal.unwritten-requires
 unwritten-requires c =
     let few : c.args.c.callees ≤ 15 =
-        let mean = c.requires.1.1 in omega (arith, mean.callees, mean.heads.few) in
+    let mean = c.requires.1.1 in omega (arith, mean.callees, mean.heads.few) in
     let small : c.args.b ≡ 12 → c.loop-n.first < 16 =
-        first_small _ _ _ _ _ _ _ _ _ _ _ c.loop-n.invariant.4 few in
+    first_small _ _ _ _ _ _ _ _ _ _ _ c.loop-n.invariant.4 few in
     let asked = c in
     let start = asked in
     let face = facing _ _ _ _ _ _ asked.fixed_size-size.ensures.value asked.loop-n-test.true asked.operand_kind-kind.ensures asked.is_silent.ensures c.if-is_silent.true in
@@ -30,7 +29,7 @@ unwritten-requires c =
 pub shape_of-out-in-Nothing : goal.shape_of-out-in-Nothing
 shape_of-out-in-Nothing c =
     let kept : length c.loop-n.out ≡ length c.args.out.now =
-        operands_length _ _ _ _ _ _ _ _ _ _ _ c.loop-n.invariant.4 c.args.out.now c.args.c.used c.args.b
+    operands_length _ _ _ _ _ _ _ _ _ _ _ c.loop-n.invariant.4 c.args.out.now c.args.c.used c.args.b
     c.put.ensures in
     kept
 
@@ -38,9 +37,9 @@ pub returns-in-Nothing : goal.returns-in-Nothing
 unfolding Onto
 returns-in-Nothing c =
     let few : c.args.c.callees ≤ 15 =
-        let mean = c.requires.1.1 in omega (arith, mean.callees, mean.heads.few) in
+    let mean = c.requires.1.1 in omega (arith, mean.callees, mean.heads.few) in
     let small : c.args.b ≡ 12 → c.loop-n.first < 16 =
-        first_small _ _ _ _ _ _ _ _ _ _ _ c.loop-n.invariant.4 few in
+    first_small _ _ _ _ _ _ _ _ _ _ _ c.loop-n.invariant.4 few in
     let next = c in
     let asked = next in record {
       reads_operands = operands_not _ _ _ _ _ _ _ _ _ _ _ asked.loop-n.invariant.4 _ _ _ _ (facing _ _ _ _ _ _ asked.fixed_size-size.ensures.value asked.loop-n-test.true asked.operand_kind-kind.ensures asked.is_silent.ensures next.if-is_silent.false) c.in-Nothing.is
@@ -74,7 +73,7 @@ operand_begins-requires c =
 pub shape_of-out-then-operand_begins : goal.shape_of-out-then-operand_begins
 shape_of-out-then-operand_begins c =
     let kept : length c.loop-n.out ≡ length c.args.out.now =
-        operands_length _ _ _ _ _ _ _ _ _ _ _ c.loop-n.invariant.4 c.args.out.now c.args.c.used c.args.b
+    operands_length _ _ _ _ _ _ _ _ _ _ _ c.loop-n.invariant.4 c.args.out.now c.args.c.used c.args.b
     c.put.ensures in
     kept
 
@@ -82,9 +81,9 @@ pub returns-then-operand_begins : goal.returns-then-operand_begins
 unfolding Onto
 returns-then-operand_begins c =
     let few : c.args.c.callees ≤ 15 =
-        let mean = c.requires.1.1 in omega (arith, mean.callees, mean.heads.few) in
+    let mean = c.requires.1.1 in omega (arith, mean.callees, mean.heads.few) in
     let small : c.args.b ≡ 12 → c.loop-n.first < 16 =
-        first_small _ _ _ _ _ _ _ _ _ _ _ c.loop-n.invariant.4 few in
+    first_small _ _ _ _ _ _ _ _ _ _ _ c.loop-n.invariant.4 few in
     let told = c in
     let next = told in
     let asked = next in record {
@@ -96,7 +95,7 @@ returns-then-operand_begins c =
 pub shape_of-out-in-Unfinished : goal.shape_of-out-in-Unfinished
 shape_of-out-in-Unfinished c =
     let kept : length c.loop-n.out ≡ length c.args.out.now =
-        operands_length _ _ _ _ _ _ _ _ _ _ _ c.loop-n.invariant.4 c.args.out.now c.args.c.used c.args.b
+    operands_length _ _ _ _ _ _ _ _ _ _ _ c.loop-n.invariant.4 c.args.out.now c.args.c.used c.args.b
     c.put.ensures in
     kept
 
@@ -104,9 +103,9 @@ pub returns-in-Unfinished : goal.returns-in-Unfinished
 unfolding Onto
 returns-in-Unfinished c =
     let few : c.args.c.callees ≤ 15 =
-        let mean = c.requires.1.1 in omega (arith, mean.callees, mean.heads.few) in
+    let mean = c.requires.1.1 in omega (arith, mean.callees, mean.heads.few) in
     let small : c.args.b ≡ 12 → c.loop-n.first < 16 =
-        first_small _ _ _ _ _ _ _ _ _ _ _ c.loop-n.invariant.4 few in
+    first_small _ _ _ _ _ _ _ _ _ _ _ c.loop-n.invariant.4 few in
     let told = c in
     let next = told in
     let asked = next in record {
@@ -126,7 +125,7 @@ value-v-requires c =
 pub shape_of-out-then-count-v : goal.shape_of-out-then-count-v
 shape_of-out-then-count-v c =
     let kept : length c.loop-n.out ≡ length c.args.out.now =
-        operands_length _ _ _ _ _ _ _ _ _ _ _ c.loop-n.invariant.4 c.args.out.now c.args.c.used c.args.b
+    operands_length _ _ _ _ _ _ _ _ _ _ _ c.loop-n.invariant.4 c.args.out.now c.args.c.used c.args.b
     c.put.ensures in
     kept
 
@@ -134,9 +133,9 @@ pub returns-then-count-v : goal.returns-then-count-v
 unfolding Onto
 returns-then-count-v c =
     let few : c.args.c.callees ≤ 15 =
-        let mean = c.requires.1.1 in omega (arith, mean.callees, mean.heads.few) in
+    let mean = c.requires.1.1 in omega (arith, mean.callees, mean.heads.few) in
     let small : c.args.b ≡ 12 → c.loop-n.first < 16 =
-        first_small _ _ _ _ _ _ _ _ _ _ _ c.loop-n.invariant.4 few in
+    first_small _ _ _ _ _ _ _ _ _ _ _ c.loop-n.invariant.4 few in
     let to = c in
     let next = to in
     let asked = next in record {
@@ -165,26 +164,30 @@ loop-n-preserved c =
       | then-is_silent w ↦
           let face = facing _ _ _ _ _ _ size.value inside asked.operand_kind-kind.ensures asked.is_silent.ensures w.if-is_silent.true in
           let next = operands_silent _ _ _ _ _ _ _ _ _ _ _ read _ _ _ start.requires.2 start.requires.3 (omega (arith, size, inside)) face
-              w.unwritten.ensures (w.out-is ∙ w.put-then-is_silent.ensures) in
+          w.unwritten.ensures (w.out-is ∙ w.put-then-is_silent.ensures) in
           (omega (arith, w.at-is), omega (arith, w.at-is), omega arith, omega (arith, inside), operands_as _ _ _ _ _ _ _ _ _ _ _ next _ _ w.at-is w.first-is)
       | else-is_silent+in-To+else-count-v w ↦
           let face = facing _ _ _ _ _ _ size.value inside asked.operand_kind-kind.ensures asked.is_silent.ensures w.if-is_silent.false in
           let word = subst (NextWord _ _ _ _) w.in-To.is w.next_word.ensures in
           let next = operands_word _ _ _ _ _ _ _ _ _ _ _ read _ _ _ _ _ _ _ face w.in-To.is w.next_word.ensures w.value-v.ensures
-              w.count.ensures.0 w.if-count-v.false
-              (elim w.if-n-eq1.branch [
-                | then-n-eq1 x ↦ first_now _ _ _ x.if-n-eq1.true x.first-is
-                | else-n-eq1 x ↦ first_before _ _ _ x.if-n-eq1.false x.first-is
-              ])
-              (w.out-is ∙ w.put-in-To.ensures) in
-          (omega (arith, w.at-is, word.2), omega (arith, w.at-is, word.4), omega arith, omega (arith, inside),
-              operands_as _ _ _ _ _ _ _ _ _ _ _ next _ _ w.at-is w.first-is)
+          w.count.ensures.0 w.if-count-v.false
+          (elim w.if-n-eq1.branch [
+            | then-n-eq1 x ↦ first_now _ _ _ x.if-n-eq1.true x.first-is
+            | else-n-eq1 x ↦ first_before _ _ _ x.if-n-eq1.false x.first-is
+          ])
+          (w.out-is ∙ w.put-in-To.ensures) in (
+            omega (arith, w.at-is, word.2),
+            omega (arith, w.at-is, word.4),
+            omega arith,
+            omega (arith, inside),
+            operands_as _ _ _ _ _ _ _ _ _ _ _ next _ _ w.at-is w.first-is,
+          )
     ]
 
 pub shape_of-out : goal.shape_of-out
 shape_of-out c =
     let kept : length c.loop-n.out ≡ length c.args.out.now =
-        operands_length _ _ _ _ _ _ _ _ _ _ _ c.loop-n.invariant.4 c.args.out.now c.args.c.used c.args.b
+    operands_length _ _ _ _ _ _ _ _ _ _ _ c.loop-n.invariant.4 c.args.out.now c.args.c.used c.args.b
     c.put.ensures in
     kept
 
@@ -192,9 +195,9 @@ pub returns : goal.returns
 unfolding Onto
 returns c =
     let few : c.args.c.callees ≤ 15 =
-        let mean = c.requires.1.1 in omega (arith, mean.callees, mean.heads.few) in
+    let mean = c.requires.1.1 in omega (arith, mean.callees, mean.heads.few) in
     let small : c.args.b ≡ 12 → c.loop-n.first < 16 =
-        first_small _ _ _ _ _ _ _ _ _ _ _ c.loop-n.invariant.4 few in
+    first_small _ _ _ _ _ _ _ _ _ _ _ c.loop-n.invariant.4 few in
     let l = c in
     let size = l.fixed_size-size.ensures in record {
       reads_operands = operands_all _ _ _ _ _ _ _ _ _ _ _ l.loop-n.invariant.4 _ l.put.ensures (omega (arith, size)) (omega (arith, size))

@@ -63,7 +63,7 @@ pub behind_operands-requires : goal.behind_operands-requires
 unfolding Onto
 behind_operands-requires c =
     let fit : c.fits.result ≡ true =
-        c.if-not-fits.false in
+    c.if-not-fits.false in
     let read = c in
     let fits = read in
     let start = fits in
@@ -91,7 +91,7 @@ returns-else-name_begins c =
 pub returns-in-Not : goal.returns-in-Not
 returns-in-Not c =
     let fit : c.fits.result ≡ true =
-        c.if-not-fits.false in
+    c.if-not-fits.false in
     let read = c in
     let fits = read in
     line_operands_not _ _ _ _ _ _ _ fits.next_word.ensures _ _ fits.in-To.is fits.kind_named-b.ensures _
@@ -101,7 +101,7 @@ returns-in-Not c =
 pub returns-in-Begun : goal.returns-in-Begun
 returns-in-Begun c =
     let fit : c.fits.result ≡ true =
-        c.if-not-fits.false in
+    c.if-not-fits.false in
     let read = c in
     let fits = read in
     line_operands_begun _ _ _ _ _ _ _ fits.next_word.ensures _ _ fits.in-To.is fits.kind_named-b.ensures _
@@ -111,7 +111,7 @@ returns-in-Begun c =
 pub returns-in-At : goal.returns-in-At
 returns-in-At c =
     let fit : c.fits.result ≡ true =
-        c.if-not-fits.false in
+    c.if-not-fits.false in
     let read = c in
     let fits = read in
     line_statement _ _ _ _ _ _ _ fits.next_word.ensures _ _ fits.in-To.is fits.kind_named-b.ensures _

@@ -1,6 +1,5 @@
 use native.Mathlib.Omega.{arith}
 use mathlib.Core.Path.{refl}
-use Prim.Native.Nat.{◌-◌}
 use Rattle.steps.proofs.Lists.{given_no, given_yes, given_end}
 use Rattle.steps.proofs.asks.all_free.Goals as goal
 

@@ -1,6 +1,5 @@
 use native.Mathlib.Omega.{arith}
 use mathlib.Core.Path.{sym, ◌∙◌}
-use Prim.Native.Nat.{◌-◌}
 use Rattle.rules.specs.Basics.{byte, up_to}
 use Rattle.steps.proofs.Lists.{length_up_to, get_d_up_to, given_length, given_at}
 use Rattle.steps.proofs.Asking.{left_all, left_more, left_refused, left_end}

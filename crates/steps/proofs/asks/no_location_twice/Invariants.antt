@@ -1,5 +1,5 @@
 -- From the last place to the first.
-use Prim.Native.Nat.{◌-◌, ◌≤◌}
+use Prim.Native.Nat.{◌≤◌}
 use Rattle.steps.specs.Calling.{given, numbers}
 use Rattle.steps.proofs.Lists.{Seen}
 use Rattle.steps.proofs.asks.no_location_twice.Given as goal

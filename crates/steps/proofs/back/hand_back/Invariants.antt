@@ -1,5 +1,5 @@
 -- From the last argument to the first.
-use Prim.Native.Nat.{◌-◌, ◌≤◌}
+use Prim.Native.Nat.{◌≤◌}
 use Rattle.steps.proofs.Returning.{Back}
 use Rattle.steps.proofs.back.hand_back.Given as goal
 

@@ -1,5 +1,4 @@
 use native.Mathlib.Omega.{arith}
-use Prim.Native.Nat.{◌-◌}
 use Rattle.steps.proofs.Entering.{bound_none, bound_more, bound_all}
 use Rattle.steps.proofs.call.callee.Goals as goal
 

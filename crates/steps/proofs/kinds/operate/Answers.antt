@@ -84,28 +84,28 @@ init-requires c = let f = init_there c.requires _ c.byte_of-b.ensures (omega (ar
 pub operand-requires-in_default : goal.operand-requires-in_default
 operand-requires-in_default c =
     let low : (c.byte_of-b.result < 1) ⊎ (2 < c.byte_of-b.result) =
-        elim c.in_default.branch [
-          | in_default-via-then-b-lt1 w ↦ inl (omega arith)
-          | in_default-via-else-b-lt1+else-b-lt3 w ↦ inr (omega arith)
-        ] in
+    elim c.in_default.branch [
+      | in_default-via-then-b-lt1 w ↦ inl (omega arith)
+      | in_default-via-else-b-lt1+else-b-lt3 w ↦ inr (omega arith)
+    ] in
     let f = constant_there c.requires _ c.byte_of-b.ensures c.in_default-1.rest low in omega (arith, f.0)
 
 pub byte_of-requires-in_default : goal.byte_of-requires-in_default
 byte_of-requires-in_default c =
     let low : (c.byte_of-b.result < 1) ⊎ (2 < c.byte_of-b.result) =
-        elim c.in_default.branch [
-          | in_default-via-then-b-lt1 w ↦ inl (omega arith)
-          | in_default-via-else-b-lt1+else-b-lt3 w ↦ inr (omega arith)
-        ] in
+    elim c.in_default.branch [
+      | in_default-via-then-b-lt1 w ↦ inl (omega arith)
+      | in_default-via-else-b-lt1+else-b-lt3 w ↦ inr (omega arith)
+    ] in
     let f = constant_there c.requires _ c.byte_of-b.ensures c.in_default-1.rest low in omega (arith, f.0)
 
 pub constant-requires : goal.constant-requires
 constant-requires c =
     let low : (c.byte_of-b.result < 1) ⊎ (2 < c.byte_of-b.result) =
-        elim c.in_default.branch [
-          | in_default-via-then-b-lt1 w ↦ inl (omega arith)
-          | in_default-via-else-b-lt1+else-b-lt3 w ↦ inr (omega arith)
-        ] in
+    elim c.in_default.branch [
+      | in_default-via-then-b-lt1 w ↦ inl (omega arith)
+      | in_default-via-else-b-lt1+else-b-lt3 w ↦ inr (omega arith)
+    ] in
     let f = constant_there c.requires _ c.byte_of-b.ensures c.in_default-1.rest low in omega (arith, f.1, c.operand-in_default.ensures.0)
 
 pub returns-in-3 : goal.returns-in-3
@@ -135,8 +135,8 @@ returns-in-1-to-2 c = init_goes _ _ _ _ _ _ _ _ _ c.byte_of-b.ensures _ c.operan
 pub returns-in_default : goal.returns-in_default
 returns-in_default c =
     let low : (c.byte_of-b.result < 1) ⊎ (2 < c.byte_of-b.result) =
-        elim c.in_default.branch [
-          | in_default-via-then-b-lt1 w ↦ inl (omega arith)
-          | in_default-via-else-b-lt1+else-b-lt3 w ↦ inr (omega arith)
-        ] in
+    elim c.in_default.branch [
+      | in_default-via-then-b-lt1 w ↦ inl (omega arith)
+      | in_default-via-else-b-lt1+else-b-lt3 w ↦ inr (omega arith)
+    ] in
     constant_goes _ _ _ _ _ _ _ _ _ c.byte_of-b.ensures _ c.operand-in_default.ensures.0 _ c.byte_of-in_default.ensures (last_byte c.requires _ c.byte_of-b.ensures c.in_default-1.rest low) c.constant.ensures

@@ -1,6 +1,5 @@
-use Prim.Native.Nat.{◌+◌, ◌-◌, ◌<◌}
+use Prim.Native.Nat.{◌+◌, ◌<◌}
 use native.Mathlib.Omega.{arith}
-use borrow.Fn.PlainCycle.{is}
 use Rattle.program.proofs.In.{statement_byte}
 use Rattle.typing.proofs.BlockLoops.{block_end, start, ends, statement_case, stops, moves, onward, closes, unclosed}
 use Rattle.typing.proofs.Branches.{an_if, then_case, else_case, middle_moves, if_no, if_stops, if_joins, a_while, body_case, while_no, while_again}

@@ -38,8 +38,7 @@ pub end-e-requires : goal.end-e-requires
 end-e-requires c = (argument_slot c.requires c.operand-k.ensures.0 c.operand-m.ensures.0 (c.loop-i.i - 1) _ (omega arith) c.operand.ensures.0, omega arith)
 
 pub loop-i-preserved : goal.loop-i-preserved
-loop-i-preserved c =
-    (
+loop-i-preserved c = (
   omega arith,
   λ d n Γ g is q.
       let here = c.loop-i.invariant.1 d n Γ g is q in

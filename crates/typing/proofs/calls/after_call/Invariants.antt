@@ -1,5 +1,5 @@
 -- The arguments from i on are dealt with.
-use Prim.Native.Nat.{ℕ, ◌-◌, ◌≤◌}
+use Prim.Native.Nat.{ℕ, ◌≤◌}
 use Rattle.rules.specs.Basics.{byte}
 use Rattle.rules.specs.Syntax.{Side, param}
 use Rattle.rules.specs.Slots.{slot, is_qubit_at}

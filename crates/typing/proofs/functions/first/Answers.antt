@@ -1,4 +1,3 @@
-use Prim.Native.Nat.{◌-◌}
 use native.Mathlib.Omega.{arith}
 use Rattle.typing.proofs.Entries.{first_none, first_one, first_all}
 use Rattle.typing.proofs.functions.first.Goals as goal

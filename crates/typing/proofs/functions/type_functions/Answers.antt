@@ -1,4 +1,3 @@
-use Prim.Native.Nat.{◌-◌}
 use mathlib.Core.Path.{◌∙◌}
 use native.Mathlib.Omega.{arith}
 use Rattle.typing.proofs.FunctionTypes.{upto_none, upto_one, upto_all, body_case, function_refused}

@@ -1,5 +1,5 @@
 -- Nothing comes twice among the later bytes, and the set holds them.
-use Prim.Native.Nat.{◌-◌, ◌≤◌}
+use Prim.Native.Nat.{◌≤◌}
 use Rattle.rules.specs.Basics.{byte}
 use Rattle.typing.proofs.Repeats.{Later}
 use Rattle.typing.proofs.rows.no_repeat.Given as goal

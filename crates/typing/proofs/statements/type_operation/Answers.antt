@@ -113,28 +113,28 @@ init-requires c = let v = made (statement_view c.requires.statement_case.1.stand
 pub overflow_add-at-in_default : goal.overflow_add-at-in_default
 overflow_add-at-in_default c =
     let low : (byte c.args.s.now c.args.at < 1) ⊎ (3 ≤ byte c.args.s.now c.args.at) =
-        elim c.in_default.branch [
-          | in_default-via-then-kind-lt1 w ↦ inl (omega arith)
-          | in_default-via-else-kind-lt1+else-kind-lt3 w ↦ inr (omega arith)
-        ] in
+    elim c.in_default.branch [
+      | in_default-via-then-kind-lt1 w ↦ inl (omega arith)
+      | in_default-via-else-kind-lt1+else-kind-lt3 w ↦ inr (omega arith)
+    ] in
     let v = shape_at 13 (statement_view c.requires.statement_case.1.stands) (let y = statement_byte c.requires.statement_case.1.stands in thirteen _ y.0 y.1 low c.in_default-1.rest.0.0.0.0.0.0.1 c.in_default-1.rest.0.0.0.0.0.1 c.in_default-1.rest.0.0.0.0.1 c.in_default-1.rest.0.0.0.1 c.in_default-1.rest.0.0.1 c.in_default-1.rest.0.1 c.in_default-1.rest.1 c.requires.fact.0 c.requires.fact.1 c.requires.fact.2) in omega arith
 
 pub operand-requires-in_default : goal.operand-requires-in_default
 operand-requires-in_default c =
     let low : (byte c.args.s.now c.args.at < 1) ⊎ (3 ≤ byte c.args.s.now c.args.at) =
-        elim c.in_default.branch [
-          | in_default-via-then-kind-lt1 w ↦ inl (omega arith)
-          | in_default-via-else-kind-lt1+else-kind-lt3 w ↦ inr (omega arith)
-        ] in
+    elim c.in_default.branch [
+      | in_default-via-then-kind-lt1 w ↦ inl (omega arith)
+      | in_default-via-else-kind-lt1+else-kind-lt3 w ↦ inr (omega arith)
+    ] in
     let v = shape_at 13 (statement_view c.requires.statement_case.1.stands) (let y = statement_byte c.requires.statement_case.1.stands in thirteen _ y.0 y.1 low c.in_default-1.rest.0.0.0.0.0.0.1 c.in_default-1.rest.0.0.0.0.0.1 c.in_default-1.rest.0.0.0.0.1 c.in_default-1.rest.0.0.0.1 c.in_default-1.rest.0.0.1 c.in_default-1.rest.0.1 c.in_default-1.rest.1 c.requires.fact.0 c.requires.fact.1 c.requires.fact.2) in omega arith
 
 pub constant-requires : goal.constant-requires
 constant-requires c =
     let low : (byte c.args.s.now c.args.at < 1) ⊎ (3 ≤ byte c.args.s.now c.args.at) =
-        elim c.in_default.branch [
-          | in_default-via-then-kind-lt1 w ↦ inl (omega arith)
-          | in_default-via-else-kind-lt1+else-kind-lt3 w ↦ inr (omega arith)
-        ] in
+    elim c.in_default.branch [
+      | in_default-via-then-kind-lt1 w ↦ inl (omega arith)
+      | in_default-via-else-kind-lt1+else-kind-lt3 w ↦ inr (omega arith)
+    ] in
     let v = shape_at 13 (statement_view c.requires.statement_case.1.stands) (let y = statement_byte c.requires.statement_case.1.stands in thirteen _ y.0 y.1 low c.in_default-1.rest.0.0.0.0.0.0.1 c.in_default-1.rest.0.0.0.0.0.1 c.in_default-1.rest.0.0.0.0.1 c.in_default-1.rest.0.0.0.1 c.in_default-1.rest.0.0.1 c.in_default-1.rest.0.1 c.in_default-1.rest.1 c.requires.fact.0 c.requires.fact.1 c.requires.fact.2) in omega arith
 
 pub returns-in-3 : goal.returns-in-3
@@ -164,8 +164,8 @@ returns-in-1-to-2 c = λ e t. let v = made (statement_view t.stands) c.in-1-to-2
 pub returns-in_default : goal.returns-in_default
 returns-in_default c =
     let low : (byte c.args.s.now c.args.at < 1) ⊎ (3 ≤ byte c.args.s.now c.args.at) =
-        elim c.in_default.branch [
-          | in_default-via-then-kind-lt1 w ↦ inl (omega arith)
-          | in_default-via-else-kind-lt1+else-kind-lt3 w ↦ inr (omega arith)
-        ] in
+    elim c.in_default.branch [
+      | in_default-via-then-kind-lt1 w ↦ inl (omega arith)
+      | in_default-via-else-kind-lt1+else-kind-lt3 w ↦ inr (omega arith)
+    ] in
     λ e t. let v = shape_at 13 (statement_view t.stands) (let y = statement_byte c.requires.statement_case.1.stands in thirteen _ y.0 y.1 low c.in_default-1.rest.0.0.0.0.0.0.1 c.in_default-1.rest.0.0.0.0.0.1 c.in_default-1.rest.0.0.0.0.1 c.in_default-1.rest.0.0.0.1 c.in_default-1.rest.0.0.1 c.in_default-1.rest.0.1 c.in_default-1.rest.1 c.requires.fact.0 c.requires.fact.1 c.requires.fact.2) in performed t (λ d. constant c.operand-in_default.result (eqb (byte c.args.s.now (c.args.at + 2)) 1)) (c.constant.ensures (eqb (byte c.args.s.now (c.args.at + 2)) 1)) (rw c.operand-in_default.ensures.0 v.2) v.3

@@ -1,6 +1,6 @@
 -- The table from the last byte to the first: the entries from i on are right.
 use mathlib.Core.Path.{◌≡◌}
-use Prim.Native.Nat.{◌-◌, ◌≤◌}
+use Prim.Native.Nat.{◌≤◌}
 use lib.ListN.{length}
 use Rattle.walking.proofs.QuietLaws.{Marked}
 use Rattle.walking.proofs.quiet.mark_quiet.Given as goal

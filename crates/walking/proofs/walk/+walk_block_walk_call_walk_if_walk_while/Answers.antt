@@ -1,8 +1,6 @@
 use native.Mathlib.Omega.{arith}
 use mathlib.Core.Bool.{true, false}
-use mathlib.Core.Logic.{⊎_elim}
 use mathlib.Core.Path.{◌≡◌, refl, sym, ◌∙◌}
-use Prim.Native.Nat.{◌-◌}
 use lib.ListN.{length, length-set}
 use Rattle.program.proofs.In.{statement_view}
 use Rattle.walking.specs.Stands.{names_of, set_of, leaves, StatementWalked}
@@ -13,9 +11,6 @@ use Rattle.walking.proofs.Arms.{on_init, on_free, on_merge, on_quiet, no_path_of
 use Rattle.walking.proofs.Inner.{then_block, else_block, loop_block, if_walked, if_refused, while_walked, callee_known, callee_block, call_walked, walked_as}
 use Rattle.walking.proofs.Ends.{if_ends}
 use Rattle.walking.proofs.QuietRuns.{rest_run, run_bounds, turn_bounds}
-use Prim.Native.Nat.{ℕ}
-use borrow.Fn.PlainCycle.{is}
-use Rattle.walking.proofs.walk.+walk_block_walk_call_walk_if_walk_while.{statement}
 use Rattle.walking.proofs.walk.+walk_block_walk_call_walk_if_walk_while.Goals as goal
 use Rattle.walking.proofs.walk.+walk_block_walk_call_walk_if_walk_while.Goals.{walk_block-then-op-eq10, walk_block-else-op-eq10+then-op-eq11}
 use Rattle.walking.proofs.walk.+walk_block_walk_call_walk_if_walk_while.Goals.{walk_block-else-op-eq10+else-op-eq11}
@@ -167,15 +162,15 @@ pub walk_block-returns-then-fault-ne0 : goal.walk_block-returns-then-fault-ne0
 walk_block-returns-then-fault-ne0 t c =
     let T = turn c.requires.block_at c.block_end-stop.ensures c.loop-p.invariant.1 c.loop-p-test.true c.loop-p.invariant.3 in
     let j : StatementWalked c.args.s.now c.args.bodies.now c.args.quiet.now c.args.rows.now c.args.g (names_of c.args.in_main c.args.names.now) c.loop-p.p
-        c.loop-p.frame (set_of c.loop-p.free) (leaves c.if-op-eq10.fault c.if-op-eq10.free) × (length c.if-op-eq10.free ≡ 4) =
-        -- however it came about, the inner statement is walked
-        let same = walked_as c.args.s.now c.args.bodies.now c.args.quiet.now c.args.rows.now c.args.g (names_of c.args.in_main c.args.names.now) c.loop-p.p
-        c.loop-p.frame (set_of c.loop-p.free) c.if-op-eq10.fault c.if-op-eq10.free in
-        elim c.if-op-eq10.branch [
-          | walk_block-then-op-eq10 w ↦ same _ _ w.free-is w.fault-is w.walk_if-fault.ensures.long w.walk_if-fault.ensures.walks
-          | walk_block-else-op-eq10+then-op-eq11 w ↦ same _ _ w.free-is w.fault-is c.loop-p.invariant.4 w.walk_while.ensures
-          | walk_block-else-op-eq10+else-op-eq11 w ↦ same _ _ w.free-is w.fault-is w.walk_call.ensures.long (w.walk_call.ensures.walks c.loop-p.frame)
-        ] in record {
+    c.loop-p.frame (set_of c.loop-p.free) (leaves c.if-op-eq10.fault c.if-op-eq10.free) × (length c.if-op-eq10.free ≡ 4) =
+    -- however it came about, the inner statement is walked
+    let same = walked_as c.args.s.now c.args.bodies.now c.args.quiet.now c.args.rows.now c.args.g (names_of c.args.in_main c.args.names.now) c.loop-p.p
+    c.loop-p.frame (set_of c.loop-p.free) c.if-op-eq10.fault c.if-op-eq10.free in
+    elim c.if-op-eq10.branch [
+      | walk_block-then-op-eq10 w ↦ same _ _ w.free-is w.fault-is w.walk_if-fault.ensures.long w.walk_if-fault.ensures.walks
+      | walk_block-else-op-eq10+then-op-eq11 w ↦ same _ _ w.free-is w.fault-is c.loop-p.invariant.4 w.walk_while.ensures
+      | walk_block-else-op-eq10+else-op-eq11 w ↦ same _ _ w.free-is w.fault-is w.walk_call.ensures.long (w.walk_call.ensures.walks c.loop-p.frame)
+    ] in record {
       long = j.1;
       walks = λ b R W σ o. fault_said_lem _ _ c.if-fault-ne0.true ∙ block_refused c.loop-p.invariant.3 c.block_end-stop.ensures b R W σ o _ T.inside λ t R W σ o.
           kept_refused c.loop-p.frame (leaves c.if-op-eq10.fault c.if-op-eq10.free) (j.0 t R W σ o) c.if-fault-ne0.true;
@@ -253,15 +248,15 @@ pub walk_block-loop-p-preserved-else-fault-ne0 : goal.walk_block-loop-p-preserve
 walk_block-loop-p-preserved-else-fault-ne0 t c =
     let T = turn c.requires.block_at c.block_end-stop.ensures c.loop-p.invariant.1 c.loop-p-test.true c.loop-p.invariant.3 in
     let j : StatementWalked c.args.s.now c.args.bodies.now c.args.quiet.now c.args.rows.now c.args.g (names_of c.args.in_main c.args.names.now) c.loop-p.p
-        c.loop-p.frame (set_of c.loop-p.free) (leaves c.if-op-eq10.fault c.if-op-eq10.free) × (length c.if-op-eq10.free ≡ 4) =
-        -- however it came about, the inner statement is walked
-        let same = walked_as c.args.s.now c.args.bodies.now c.args.quiet.now c.args.rows.now c.args.g (names_of c.args.in_main c.args.names.now) c.loop-p.p
-        c.loop-p.frame (set_of c.loop-p.free) c.if-op-eq10.fault c.if-op-eq10.free in
-        elim c.if-op-eq10.branch [
-          | walk_block-then-op-eq10 w ↦ same _ _ w.free-is w.fault-is w.walk_if-fault.ensures.long w.walk_if-fault.ensures.walks
-          | walk_block-else-op-eq10+then-op-eq11 w ↦ same _ _ w.free-is w.fault-is c.loop-p.invariant.4 w.walk_while.ensures
-          | walk_block-else-op-eq10+else-op-eq11 w ↦ same _ _ w.free-is w.fault-is w.walk_call.ensures.long (w.walk_call.ensures.walks c.loop-p.frame)
-        ] in
+    c.loop-p.frame (set_of c.loop-p.free) (leaves c.if-op-eq10.fault c.if-op-eq10.free) × (length c.if-op-eq10.free ≡ 4) =
+    -- however it came about, the inner statement is walked
+    let same = walked_as c.args.s.now c.args.bodies.now c.args.quiet.now c.args.rows.now c.args.g (names_of c.args.in_main c.args.names.now) c.loop-p.p
+    c.loop-p.frame (set_of c.loop-p.free) c.if-op-eq10.fault c.if-op-eq10.free in
+    elim c.if-op-eq10.branch [
+      | walk_block-then-op-eq10 w ↦ same _ _ w.free-is w.fault-is w.walk_if-fault.ensures.long w.walk_if-fault.ensures.walks
+      | walk_block-else-op-eq10+then-op-eq11 w ↦ same _ _ w.free-is w.fault-is c.loop-p.invariant.4 w.walk_while.ensures
+      | walk_block-else-op-eq10+else-op-eq11 w ↦ same _ _ w.free-is w.fault-is w.walk_call.ensures.long (w.walk_call.ensures.walks c.loop-p.frame)
+    ] in
     let e = c.statement_end.ensures _ _ _ _ _ T.here.stands in
     let A = turn_bounds c.requires.block_at c.block_end-stop.ensures T e c.skip-next.ensures in (
       omega (arith, A.1, c.loop-p.invariant.0),
@@ -346,7 +341,7 @@ walk_call-returns t c =
     record {
       long = c.walk_block.ensures.long;
       walks = λ fr. call_walked fr (set_of c.args.free.now) c.requires.statement_at.1 _ _ c.wide-f.ensures.0 c.wide.ensures.0 _ c.enter.new.frame (leaves c.walk_block.result _) refl
-      c.enter.ensures.named c.enter.ensures.passed (λ i l. c.enter.ensures.rest i l ∙ none_placed 32 i) c.walk_block.ensures.walks;
+          c.enter.ensures.named c.enter.ensures.passed (λ i l. c.enter.ensures.rest i l ∙ none_placed 32 i) c.walk_block.ensures.walks;
     }
 
 pub walk_if-overflow_add-at : goal.walk_if-overflow_add-at

@@ -1,4 +1,3 @@
-use Prim.Native.Nat.{◌-◌}
 use native.Mathlib.Omega.{arith}
 use Rattle.rules.specs.Syntax.{parameter}
 use Rattle.typing.proofs.Remembering.{remembers_none, remembers_one, remembers_all}

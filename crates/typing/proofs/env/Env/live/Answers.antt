@@ -1,5 +1,4 @@
-use Prim.Native.Nat.{◌-◌, ◌<◌}
-use mathlib.Core.Logic.{inl, inr}
+use Prim.Native.Nat.{◌<◌}
 use native.Mathlib.Omega.{arith}
 use Rattle.typing.proofs.LiveSlots.{counts_start, counts_one, counts_none, counts_all}
 use Rattle.typing.proofs.env.Env.live.Goals as goal

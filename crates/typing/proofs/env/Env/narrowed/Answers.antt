@@ -1,4 +1,3 @@
-use Prim.Native.Nat.{◌-◌}
 use native.Mathlib.Omega.{arith}
 use Rattle.typing.proofs.BlockEnds.{narrowing_none, narrowing_one, narrowing_all}
 use Rattle.typing.proofs.env.Env.narrowed.Goals as goal

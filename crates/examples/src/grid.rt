@@ -1,5 +1,6 @@
 // The grid examples of the rules: 2 rows of 3 locations, 0 1 2 over 3 4 5, all owned by job 1.
 use crate::say;
+use std::io;
 
 const GRID: [u8; 29] = *b"QLG\x00\x01\x00\x06\x00\x07\
     \x01\x01\x01\x01\x01\x01\
@@ -20,33 +21,35 @@ const TAKEN: [u8; 34] = *b"QLS\x00\x01\x00\x00\x1a\
     \x01\x00\x00\x01\x01\x02\x01\x02\x01\x01\x03\x04\
     \x06\x04\x00\x00\x00\x01\x03\x00\x03\x01\x03\x02\x03\x03";
 
-pub fn examples() {
-    say::read_device(b"the grid", &GRID);
-    check(b"A", &A, 1);
-    check(b"A without its last free", &LIVE, 1);
-    check(b"A with both corridors taken", &TAKEN, 1);
-    runs();
-    run_taken();
-    run_live();
-    check(b"all doubling functions and a loop", &DOUBLING_ALL, 1);
-    check(b"the last doubling function twice", &DOUBLING_TWICE, 1);
+pub fn examples(rt: &impl Print) -> io::Result<()> {
+    say::read_device(rt, b"the grid", &GRID)?;
+    check(rt, b"A", &A, 1)?;
+    check(rt, b"A without its last free", &LIVE, 1)?;
+    check(rt, b"A with both corridors taken", &TAKEN, 1)?;
+    runs(rt)?;
+    run_taken(rt)?;
+    run_live(rt)?;
+    check(rt, b"all doubling functions and a loop", &DOUBLING_ALL, 1)?;
+    check(rt, b"the last doubling function twice", &DOUBLING_TWICE, 1)
 }
 
-fn runs() {
+fn runs(rt: &impl Print) -> io::Result<()> {
     let mut records = [0xaa; 16];
     run_a(
+        rt,
         b"A beside the empty program",
         b"\x10\x10\x20\x10",
         &mut records,
-    );
+    )
 }
 
 // The merge is stuck, and stays so.
-fn run_taken() {
+fn run_taken(rt: &impl Print) -> io::Result<()> {
     let mut records = [0xaa; 24];
     let mut map = [0xaa; 6];
     let schedule = b"\x10\x10\x10\x10\x10\x10";
     say::run(
+        rt,
         b"A with both corridors taken",
         &GRID,
         &TAKEN,
@@ -54,15 +57,16 @@ fn run_taken() {
         schedule,
         &mut records,
         &mut map,
-    );
+    )
 }
 
 // At the end, which the last record tells, the job occupies the one location that its check answered to be left live.
-fn run_live() {
+fn run_live(rt: &impl Print) -> io::Result<()> {
     let mut records = [0xaa; 20];
     let mut map = [0xaa; 6];
     let schedule = b"\x10\x10\x10\x10\x10";
     say::run(
+        rt,
         b"A without its last free",
         &GRID,
         &LIVE,
@@ -70,26 +74,33 @@ fn run_live() {
         schedule,
         &mut records,
         &mut map,
-    );
+    )
 }
 
-pub fn third_job() {
-    check(b"A for job 3", &A, 3);
+pub fn third_job(rt: &impl Print) -> io::Result<()> {
+    check(rt, b"A for job 3", &A, 3)
 }
 
-pub fn check(what: &[u8], program: &[u8], job: u64) {
-    say::check(what, &GRID, program, job);
+pub fn check(rt: &impl Print, what: &[u8], program: &[u8], job: u64) -> io::Result<()> {
+    say::check(rt, what, &GRID, program, job)
 }
 
 // For job 1.
-pub fn route(what: &[u8], occupancy: &[u8], first: u64, second: u64, buffer: &mut [u8]) {
-    say::route(what, &GRID, 1, occupancy, first, second, buffer);
+pub fn route(
+    rt: &impl Print,
+    what: &[u8],
+    occupancy: &[u8],
+    first: u64,
+    second: u64,
+    buffer: &mut [u8],
+) -> io::Result<()> {
+    say::route(rt, what, &GRID, 1, occupancy, first, second, buffer)
 }
 
 // Beside the empty program.
-pub fn run_a(what: &[u8], schedule: &[u8], records: &mut [u8]) {
+pub fn run_a(rt: &impl Print, what: &[u8], schedule: &[u8], records: &mut [u8]) -> io::Result<()> {
     let mut map = [0xaa; 6];
-    say::run(what, &GRID, &A, &EMPTY, schedule, records, &mut map);
+    say::run(rt, what, &GRID, &A, &EMPTY, schedule, records, &mut map)
 }
 
 // Function 0 is one init and one free at its parameter; each other calls the one before it twice. Main calls all 15, and has one empty loop.

@@ -1,7 +1,7 @@
 -- A bundle fits exactly when the three tests of its definition hold; each exit of the split is one of them.
 use mathlib.Core.Bool.{Bool, true, false, ◌&&◌}
 use mathlib.Core.List.{List}
-use mathlib.Core.Path.{◌≡◌, refl, sym, ap, ◌∙◌}
+use mathlib.Core.Path.{◌≡◌, refl, sym}
 use native.Mathlib.Omega.{arith}
 use Prim.Native.Nat.{ℕ, ◌+◌, ◌≤◌, ◌<◌}
 use borrow.Author.Tests.{le-leb, lt-leb, eq-eqb, ne_eqb, eqb-true}
@@ -9,7 +9,6 @@ use lib.Dec.{eqb, leb}
 use lib.ListN.{length}
 use Rattle.rules.specs.Basics.{chosen, word}
 use Rattle.print_check.specs.Printed.{fits, bundle_of}
-use Rattle.print_check.specs.declared.bundle.Bundle.{Bundle}
 use Rattle.print_check.specs.declared.bundle.Bundle.TheVariants.{Files, Bad}
 
 and_false : (a : Bool) → (a && false) ≡ false
@@ -81,3 +80,6 @@ module _ (s : List ℕ) where
           let ep : p ≡ word s (2 + word s 0) = cc in
           rw (ed, ep) (filled s (word s 0) (word s (2 + word s 0)) q)
       go false q e = let z : ◌≡◌ {A = ℕ} 0 1 = cc in omega arith
+
+-- what `split` needs at its exits
+pub ruleset exits = (bad_long, bad_short, bad_device, bad_program, files)

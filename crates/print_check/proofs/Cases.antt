@@ -1,6 +1,6 @@
 -- What is printed at the edges: no byte, 8,192 bytes of which a device has none, and any bundle of more bytes.
 use mathlib.Core.List.{List, [], ◌∷◌}
-use mathlib.Core.Path.{◌≡◌, refl, sym, ◌∙◌}
+use mathlib.Core.Path.{◌≡◌, refl, sym}
 use Prim.Native.Nat.{ℕ, ◌<◌}
 use lib.ListN.{length, replicate}
 use Rattle.answers.specs.Check.{◌>>=◌, ◌>>◌}

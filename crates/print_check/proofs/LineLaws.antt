@@ -1,20 +1,15 @@
 -- A line is its parts put one after the other.
 use mathlib.Core.List.{List, [], ◌∷◌, ◌++◌}
-use mathlib.Core.Path.{◌≡◌, refl, sym, ap, ◌∙◌}
+use mathlib.Core.Path.{◌≡◌, ap, ◌∙◌}
 use native.Mathlib.Omega.{arith}
-use Prim.Native.Nat.{ℕ, ◌+◌, ◌-◌, ◌≤◌}
-use lib.ListN.{length, take, drop}
-use lib.Seq.{length-take-le}
-use Rattle.io.specs.Counts.{IsPrefixLen}
+use Prim.Native.Nat.{ℕ, ◌+◌, ◌-◌}
+use lib.ListN.{take, drop}
 use Rattle.answers.specs.Check.{Check}
 use Rattle.answers.specs.declared.Counted.{Counted}
 use Rattle.rules.specs.Promises.{check_of}
 use Rattle.print_check.specs.Printed.{bundle_of, decimal, numbers_line, verdict_of, printed_for, printed}
 use Rattle.print_check.specs.declared.bundle.Bundle.TheVariants.{Files, Bad}
 use Rattle.print_check.specs.Text.{Put}
-
-pub counts : (n : ℕ) (s : List ℕ) → n ≤ length s → IsPrefixLen n s
-counts n s h = (h, sym (length-take-le n s h))
 
 module _ {o₀ o₁ o₂ o₃ o₄ o₅ : List ℕ} {a b c d r : ℕ} where
   pub numbers_line_lem : (word : List ℕ) (n p : ℕ) → Put o₀ 0 word a o₁ → Put o₁ a (decimal n) b o₂ → Put o₂ b (0x20 ∷ []) c o₃

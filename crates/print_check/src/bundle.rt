@@ -10,6 +10,7 @@ pub enum Bundle {
     Bad,
 }
 
+#[tactic(auto, using(crate::proofs::BundleLaws::exits))]
 pub fn split(bytes: &[u8]) -> Bundle
     ensures { result ≡ bundle_of bytes.now }
 {

@@ -1,11 +1,12 @@
 // A line of text in a buffer. 64 bytes hold the longest.
 ghost use Rattle.std.specs.Prelude.{◌≡◌, ◌+◌, ◌≤◌, length, take};
-ghost use Rattle.io.specs.Counts.{IsPrefixLen};
+ghost use Rattle.std.specs.Counts.{IsPrefixLen};
 ghost use Rattle.answers.specs.Said.{check_said};
 ghost use Rattle.print_check.specs.Printed.{decimal, numbers_line, verdict_of};
 ghost use Rattle.print_check.specs.Text.{Put};
 
 use answers::CheckAnswer;
+use itoa::Buffer;
 
 // Puts the verdict at the start of out, and answers its length.
 pub fn put_verdict(answer: CheckAnswer, out: &mut [u8]) -> usize
@@ -39,9 +40,8 @@ fn put_number(n: u64, at: usize, out: &mut [u8]) -> usize
     ensures put { Put out.old at (decimal n) result out.new }
     ensures upper_bound { result ≤ at + 20 }
 {
-    let mut digits = [0u8; 20];
-    let k = io::decimal(n, &mut digits);
-    put(&digits[..k], at, out)
+    let mut digits = Buffer::new();
+    put(digits.format(n).as_bytes(), at, out)
 }
 
 // Puts text into the buffer, from `at` on, and answers where it ends.

@@ -1,5 +1,5 @@
 //! Where the archive libabwakiris.a is: in the folder that ABWAKIRIS_LIB_DIR names, else in target/staticlib at the top of the repository, where
-//! `rt staticlib abwakiris` writes it.
+//! `tools/archive` writes it.
 
 use std::ffi::OsString;
 use std::path::{Path, PathBuf};
@@ -15,7 +15,7 @@ pub fn link(package: &Path, top: &Path) {
         println!("cargo:rustc-link-search=native={}", folder.display());
         println!("cargo:rustc-link-lib=static=abwakiris");
     } else {
-        let how = "run `rt staticlib abwakiris` at the top of the repository, or name the archive's folder in ABWAKIRIS_LIB_DIR";
+        let how = "run `bash tools/archive` at the top of the repository, or name the archive's folder in ABWAKIRIS_LIB_DIR";
         println!("cargo:warning=there is no {}: {how}", archive.display());
         println!("cargo:warning=without it `cargo check` and `cargo doc` work, but a program or a test is not linked: the symbols abwakiris_.. are undefined");
     }

@@ -20,7 +20,7 @@ use std::fs;
 use std::io::Write;
 use std::process::{Command, Stdio};
 
-const PRINT_CHECK: &str = "target/bin/print_check";
+const PRINT_CHECK: &str = "crates/print_check/out/print_check";
 
 /// Without the library there is no printing program either.
 const HAS_PROGRAM: bool = cfg!(not(selftest));

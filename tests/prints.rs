@@ -14,7 +14,7 @@ use std::io::Write;
 use std::process::{Child, Command, Stdio};
 use std::time::Duration;
 
-const PROGRAM: &str = "target/bin/print_check";
+const PROGRAM: &str = "crates/print_check/out/print_check";
 const INPUT: &str = "target/tests/print-input";
 
 /// Without the library there is no printing program either.

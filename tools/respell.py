@@ -23,7 +23,7 @@ FIELDS = re.compile(r"^ +(?:pub )?([^\s:(){},.;]+(?: [^\s:(){},.;]+)*) : ", re.M
 LEMMAS = {n: n + "_lem" for n in ("all_stay", "block_size", "in_order", "some_below")}
 LEMMAS["in-main"] = "in_main_lem"
 # Names of one file alone that would otherwise be taken for a definition's.
-HERE = {"crates/theory/proofs/Safety.antt": {"is_free": "is_free_there"}}
+HERE = {"crates/theory/proofs/Safety.antt": {"is_free": "is_free_there"}, "crates/steps/proofs/Entering.antt": {"is-call": "is_call_lem"}}
 
 
 def respelled(name):
@@ -46,6 +46,12 @@ def files(top, ends):
 def read(path):
     with open(path, encoding="utf-8", newline="") as f:
         return f.read()
+
+
+def here(path, top, text):
+    for a, b in HERE.get(os.path.relpath(path, top), {}).items():
+        text = re.sub(rf"(?<![\w-]){a}(?![\w-])", b, text)
+    return text
 
 
 def shared(path):
@@ -112,14 +118,21 @@ def main(argv):
     top = rest[0] if rest else os.path.dirname(os.path.dirname(os.path.abspath(__file__)))
     names = declared(top)
     table = {n: respelled(n) for n in names if respelled(n) != n}
-    taken = {b for a, b in table.items() if "-" not in a} | names
-    table = {a: b + "_lem" if "-" in a and b in taken else b for a, b in table.items()}
+    # In one file a lemma and what it is about may get one name: then the lemma's, the one with a dash, gets `_lem` everywhere.
+    texts = {p: here(p, top, re.sub(r"--[^\n]*", "", read(p))) for p in files(os.path.join(top, "crates"), ".antt")}
+    for path in filter(shared, texts):
+        text = texts[path]
+        there, by = set(re.findall(TOKEN, text)) - imported(text), {}
+        for n in there:
+            by.setdefault(table.get(n, n), []).append(n)
+        for it in by.values():
+            for n in it:
+                if len(it) > 1 and "-" in n and n in table:
+                    table[n] = respelled(n) + "_lem"
     table.update(LEMMAS)
     fallen = []
-    for path in filter(shared, files(os.path.join(top, "crates"), ".antt")):  # a source file may have a definition under the name of its function
-        text = re.sub(r"--[^\n]*|//[^\n]*", "", read(path))
-        for a, b in HERE.get(os.path.relpath(path, top), {}).items():
-            text = re.sub(rf"\b{a}\b", b, text)
+    for path in filter(shared, texts):  # a source file may have a definition under the name of its function
+        text = texts[path]
         keep, words, there = imported(text), set(re.findall(TOKEN, text)), {}
         for a in sorted(words & set(table) - keep):
             there.setdefault(table[a], []).append(a)
@@ -136,15 +149,14 @@ def main(argv):
     for path in files(top, (".antt", ".rt", ".edit", ".md")):
         inside = path.startswith(os.path.join(top, "crates") + "/") or path.startswith(os.path.join(top, "tests") + "/")
         text = read(path)
-        for a, b in HERE.get(os.path.relpath(path, top), {}).items():
-            text = re.sub(rf"\b{a}\b", b, text)
+        text = here(path, top, text)
         if path.endswith(".antt"):
             new = turned(text, table, imported(text))
         elif path.endswith(".rt"):
             new = clauses(text, table, imported(text))
         elif path.endswith(".edit") and inside:
             new = "\n".join(turned(l, table, set(), None) if l.startswith(("old:", "new:")) else l for l in text.split("\n"))
-        elif path.endswith(".md"):
+        elif path.endswith(".md") and "/landings/" not in path:
             new = re.sub(r"`[^`\n]*`", lambda m: re.sub(TOKEN, lambda t: table.get(t.group(0), t.group(0)) if not (t.group(0)[0].islower() and "-" in t.group(0) and " " in m.group(0)) else t.group(0), m.group(0)), text)
         else:
             new = text

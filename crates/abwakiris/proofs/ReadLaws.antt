@@ -25,9 +25,9 @@ unfolding ◌>>=◌
 handed_on f (ok a) k v e = ap (taken v) e
 handed_on f (refused r) k v e = ap (taken v) e
 
-pub device_said_lem : (s : List ℕ) {said : Check DeviceHeader} → said ≡ within Device (device_read s) → taken (λ h. h.locations) said ≡ read_device_of s
+pub device_said : (s : List ℕ) {said : Check DeviceHeader} → said ≡ within Device (device_read s) → taken (λ h. h.locations) said ≡ read_device_of s
 unfolding device_read
-device_said_lem s e = handed_on Device (read_device s) _ (λ h. h.locations) e
+device_said s e = handed_on Device (read_device s) _ (λ h. h.locations) e
 
 -- to forget what was read and then name the file, or the other way round
 pub program_said : (s : List ℕ) → ◌≡◌ {A = Check (Unit {0})} (within (Program 0) (read_program s >> ok tt)) (read_program_of s)

@@ -51,7 +51,7 @@ record Small (r : Refusal) : Type 0 where
   pub named : job_named r.file ≤ 2
 
 given_small : (r : Refusal) → Given r → Small r
-given_small r g = record { from_1 = g.from_1; to_255 = omega (arith, g.to_26); in_32_bits = omega (arith, g.in_file_lem); named = g.named }
+given_small r g = record { from_1 = g.from_1; to_255 = omega (arith, g.to_26); in_32_bits = omega (arith, g.in_file); named = g.named }
 
 listing_small : (r : Refusal) → GivenListing r → Small r
 listing_small r g = record { from_1 = g.from_1; to_255 = omega (arith, g.to_27); in_32_bits = omega (arith, g.in_text); named = g.named }

@@ -13,7 +13,7 @@ use Rattle.rules.specs.Syntax.{Side, Statement, Statements, done, ◌⨾◌, Blo
 use Rattle.rules.specs.Table.{size_of}
 use Rattle.rules.specs.Program.{Scope}
 use Rattle.theory.specs.Counts.{statement_size, block_size}
-use Rattle.program.specs.In.{View, is_init_lem, is_magic, is_free, is_gate, is_measure, is_merge_lem, is_new, is_get, is_set, is_if, is_while, is_call_lem, is_bool_lem}
+use Rattle.program.specs.In.{View, is_init, is_magic, is_free, is_gate, is_measure, is_merge, is_new, is_get, is_set, is_if, is_while, is_call, is_bool}
 use Rattle.program.proofs.In.{block_in, statements_end, statements_next, statement_view, statement_byte}
 use Rattle.counting.specs.Below.{StatementBelow, BlockBelow, StatementsBelow}
 use Rattle.counting.specs.Found.{own_count}
@@ -65,25 +65,25 @@ module _ {d : Side} {s : List ℕ} {g at : ℕ} where
       (f ∙ ap (λ (k : ℕ). at + size_of k) (sym e))
       λ φ. h φ ∙ c ∙ ap own_count (sym e)
 
-  kind_of_lem : {t : Statement d} {q : ℕ} (S : Scope) (depths : ℕ) → length S.earlier ≤ g → View s S depths at t q → Kind s g at t q
+  kind_of : {t : Statement d} {q : ℕ} (S : Scope) (depths : ℕ) → length S.earlier ≤ g → View s S depths at t q → Kind s g at t q
   unfolding own_count
-  kind_of_lem S n l (is_init_lem e a b c) = plain 1 1 e tt refl refl λ φ. refl
-  kind_of_lem S n l (is_magic e a b c) = plain 2 1 e tt refl refl λ φ. refl
-  kind_of_lem S n l (is_free e a b) = plain 3 1 e tt refl refl λ φ. refl
-  kind_of_lem S n l (is_gate e a b c) = plain 4 0 e tt refl refl λ φ. refl
-  kind_of_lem S n l (is_measure e a b c f) = plain 5 0 e tt refl refl λ φ. refl
-  kind_of_lem S n l (is_merge_lem e a b c f h i) = plain 6 1 e tt refl refl λ φ. refl
-  kind_of_lem S n l (is_new e a b c) = plain 7 0 e tt refl refl λ φ. refl
-  kind_of_lem S n l (is_get e a b c) = plain 8 0 e tt refl refl λ φ. refl
-  kind_of_lem S n l (is_set e a b c) = plain 9 0 e tt refl refl λ φ. refl
-  kind_of_lem S n l (is_if {b = b} {c = c} {p = p} e a y v w) =
+  kind_of S n l (is_init e a b c) = plain 1 1 e tt refl refl λ φ. refl
+  kind_of S n l (is_magic e a b c) = plain 2 1 e tt refl refl λ φ. refl
+  kind_of S n l (is_free e a b) = plain 3 1 e tt refl refl λ φ. refl
+  kind_of S n l (is_gate e a b c) = plain 4 0 e tt refl refl λ φ. refl
+  kind_of S n l (is_measure e a b c f) = plain 5 0 e tt refl refl λ φ. refl
+  kind_of S n l (is_merge e a b c f h i) = plain 6 1 e tt refl refl λ φ. refl
+  kind_of S n l (is_new e a b c) = plain 7 0 e tt refl refl λ φ. refl
+  kind_of S n l (is_get e a b c) = plain 8 0 e tt refl refl λ φ. refl
+  kind_of S n l (is_set e a b c) = plain 9 0 e tt refl refl λ φ. refl
+  kind_of S n l (is_if {b = b} {c = c} {p = p} e a y v w) =
       branches e b c p (record { scope = S; depths = n; callees = l; stands = v }) (record { scope = S; depths = n; callees = l; stands = w }) λ φ. refl
-  kind_of_lem S n l (is_while {b = b} e a y v) = loops e b (record { scope = S; depths = n; callees = l; stands = v }) λ φ. refl
-  kind_of_lem S n l (is_call_lem e a f k m i j) = calls e (omega (arith, f, l)) refl λ φ. refl
-  kind_of_lem S n l (is_bool_lem e a b c) = plain 13 0 e tt refl refl λ φ. refl
+  kind_of S n l (is_while {b = b} e a y v) = loops e b (record { scope = S; depths = n; callees = l; stands = v }) λ φ. refl
+  kind_of S n l (is_call e a f k m i j) = calls e (omega (arith, f, l)) refl λ φ. refl
+  kind_of S n l (is_bool e a b c) = plain 13 0 e tt refl refl λ φ. refl
 
   kind : {t : Statement d} {q : ℕ} → StatementBelow s g at t q → Kind s g at t q
-  kind h = kind_of_lem h.scope h.depths h.callees (statement_view h.stands)
+  kind h = kind_of h.scope h.depths h.callees (statement_view h.stands)
 
   module _ {t : Statement d} {q : ℕ} (h : StatementBelow s g at t q) where
     pub if_apart : byte s at ≡ 10

@@ -111,10 +111,10 @@ module _ (R : Region) (p : Program) where
       few : c.main ≤ 65535 → leb (size_of j.typed.commands) 65535 ≡ true
       few h = le-leb _ _ (rw (count_is h) at h)
 
-      pub no_path_lem : c.main ≤ 65535 → (x : Refusal) → ◌≡◌ {A = Check (Unit {0})} (refused x) (walk R R.owned j.typed.commands >> ok tt)
+      pub no_path : c.main ≤ 65535 → (x : Refusal) → ◌≡◌ {A = Check (Unit {0})} (refused x) (walk R R.owned j.typed.commands >> ok tt)
           → refused x ≡ judged R p
       unfolding ◌>>◌ ◌>>=◌
-      no_path_lem h x e = go (walk R R.owned j.typed.commands) refl e
+      no_path h x e = go (walk R R.owned j.typed.commands) refl e
         where
           go : (m : Check (List Bool)) → walk R R.owned j.typed.commands ≡ m → ◌≡◌ {A = Check (Unit {0})} (refused x) (m >> ok tt)
               → refused x ≡ judged R p

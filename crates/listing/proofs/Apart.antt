@@ -12,7 +12,7 @@ use Rattle.rules.specs.Syntax.{Side, Op, Statement, op, if, while, call, Block}
 use Rattle.rules.specs.Table.{size_of}
 use Rattle.rules.specs.Program.{Scope}
 use Rattle.program.specs.In.{BlockIn, StatementIn, call_places, call_slots}
-use Rattle.program.specs.In.{View, is_init_lem, is_magic, is_free, is_gate, is_measure, is_merge_lem, is_new, is_get, is_set, is_if, is_while, is_call_lem, is_bool_lem}
+use Rattle.program.specs.In.{View, is_init, is_magic, is_free, is_gate, is_measure, is_merge, is_new, is_get, is_set, is_if, is_while, is_call, is_bool}
 use Rattle.program.proofs.In.{block_in, statement_view, statement_byte}
 use Rattle.listing.specs.declared.blocks.Ends.{Ends}
 use Rattle.listing.specs.Blocks.{BlockHere, StatementHere, BlockPut}
@@ -41,23 +41,23 @@ module _ {d : Side} {s : List ℕ} {S : Scope} {depths i : ℕ} where
       (ap (λ (k : ℕ). i + size_of k) (sym e))
       l
 
-  kind_of_lem : {t : Statement d} {q : ℕ} → View s S depths i t q → Kind s S depths i t q
-  kind_of_lem (is_init_lem e l a b) = plain 1 e tt l
-  kind_of_lem (is_magic e l a b) = plain 2 e tt l
-  kind_of_lem (is_free e l a) = plain 3 e tt l
-  kind_of_lem (is_gate e l a b) = plain 4 e tt l
-  kind_of_lem (is_measure e l a b c) = plain 5 e tt l
-  kind_of_lem (is_merge_lem e l a b c f g) = plain 6 e tt l
-  kind_of_lem (is_new e l a b) = plain 7 e tt l
-  kind_of_lem (is_get e l a b) = plain 8 e tt l
-  kind_of_lem (is_set e l a b) = plain 9 e tt l
-  kind_of_lem (is_if e l a b c) = branches e l b c
-  kind_of_lem (is_while e l a b) = loops e l b
-  kind_of_lem (is_call_lem e l a b c f g) = calls e l
-  kind_of_lem (is_bool_lem e l a b) = plain 13 e tt l
+  kind_of : {t : Statement d} {q : ℕ} → View s S depths i t q → Kind s S depths i t q
+  kind_of (is_init e l a b) = plain 1 e tt l
+  kind_of (is_magic e l a b) = plain 2 e tt l
+  kind_of (is_free e l a) = plain 3 e tt l
+  kind_of (is_gate e l a b) = plain 4 e tt l
+  kind_of (is_measure e l a b c) = plain 5 e tt l
+  kind_of (is_merge e l a b c f g) = plain 6 e tt l
+  kind_of (is_new e l a b) = plain 7 e tt l
+  kind_of (is_get e l a b) = plain 8 e tt l
+  kind_of (is_set e l a b) = plain 9 e tt l
+  kind_of (is_if e l a b c) = branches e l b c
+  kind_of (is_while e l a b) = loops e l b
+  kind_of (is_call e l a b c f g) = calls e l
+  kind_of (is_bool e l a b) = plain 13 e tt l
 
   pub kind : {t : Statement d} {q : ℕ} → StatementIn s S depths i t q → Kind s S depths i t q
-  kind h = kind_of_lem (statement_view h)
+  kind h = kind_of (statement_view h)
 
   -- the fixed part of a statement lies in the file
   fixed_of : {t : Statement d} {q : ℕ} → Kind s S depths i t q → i + size_of (byte s i) ≤ length s

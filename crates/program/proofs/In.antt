@@ -20,7 +20,7 @@ use Rattle.rules.specs.Table.{simple, branches, loops, calls, Row, table, row_of
 use Rattle.rules.specs.Program.{Read, Scope, known, meant, statement, statements, read_block}
 use Rattle.rules.specs.Program.{function_header, program_header, functions_at, read_program}
 use Rattle.program.specs.In.{BlockIn, StatementIn, StatementsIn, ProgramIn, offset_of, main_scope}
-use Rattle.program.specs.In.{View, is_init_lem, is_magic, is_free, is_gate, is_measure, is_merge_lem, is_new, is_get, is_set, is_if, is_while, is_call_lem, is_bool_lem}
+use Rattle.program.specs.In.{View, is_init, is_magic, is_free, is_gate, is_measure, is_merge, is_new, is_get, is_set, is_if, is_while, is_call, is_bool}
 use Rattle.rules.proofs.Fitting.{AllFit, operands_fit, split_fit, each_fits}
 use Rattle.rules.proofs.Tests.{eqb_true, below, at_most, not_below, and_left, and_right}
 
@@ -57,13 +57,13 @@ block_read s d S depths at limit w =
     (holds_with (block_taken s d S depths at limit w))
 
 -- Operands. k places and m slots from operand 4 on: each is in range where it stands
-call_places_lem : (s : List ℕ) (S : Scope) (i k m : ℕ) → AllFit s S i 4 (replicate k Location ++ replicate m Slot)
+call_places : (s : List ℕ) (S : Scope) (i k m : ℕ) → AllFit s S i 4 (replicate k Location ++ replicate m Slot)
     → (j : ℕ) → j < k → byte s (i + 4 + j) < S.places
-call_places_lem s S i k m h j l = each_fits s S i 4 k Location (split_fit s S i 4 (replicate k Location) (replicate m Slot) h).0 j l
+call_places s S i k m h j l = each_fits s S i 4 k Location (split_fit s S i 4 (replicate k Location) (replicate m Slot) h).0 j l
 
-call_slots_lem : (s : List ℕ) (S : Scope) (i k m : ℕ) → AllFit s S i 4 (replicate k Location ++ replicate m Slot)
+call_slots : (s : List ℕ) (S : Scope) (i k m : ℕ) → AllFit s S i 4 (replicate k Location ++ replicate m Slot)
     → (j : ℕ) → j < m → byte s (i + 4 + k + j) < 32
-call_slots_lem s S i k m h j l =
+call_slots s S i k m h j l =
     let p : ℕ = 4 + length (replicate k Location) in
     let e : i + p + j ≡ i + 4 + k + j = omega (arith, length-replicate k Location) in
     let slots : AllFit s S i p (replicate m Slot) = (split_fit s S i 4 (replicate k Location) (replicate m Slot) h).1 in
@@ -84,9 +84,9 @@ data SeenRow (b : ℕ) : Row → Type 0 where
   seen_calls : {w : Text} → b ≡ 12 → SeenRow b (record { name = w; operands = Callee ∷ CalleeK ∷ CalleeM ∷ []; meaning = calls })
 
 -- the same as a function, so that the row that is asked for says which operation it is
-simple_row_lem : {w : Text} {b : ℕ} {os : List Operand} {f : (d : Side) → (ℕ → ℕ) → Op d} → Shows b os f
+simple_row : {w : Text} {b : ℕ} {os : List Operand} {f : (d : Side) → (ℕ → ℕ) → Op d} → Shows b os f
     → SeenRow b (record { name = w; operands = os; meaning = simple f })
-simple_row_lem h = seen_simple h
+simple_row h = seen_simple h
 
 -- the rows of a list, from statement byte b on
 data AllSeen : ℕ → List Row → Type 0 where
@@ -100,19 +100,19 @@ g then gs = a_row g gs
 -- the table's rows, in its order
 table_seen : AllSeen 1 table
 table_seen =
-    simple_row_lem (λ s S n i d e l h. is_init_lem e l h.0 h.1.0)
-    then simple_row_lem (λ s S n i d e l h. is_magic e l h.0 h.1.0)
-    then simple_row_lem (λ s S n i d e l h. is_free e l h.0)
-    then simple_row_lem (λ s S n i d e l h. is_gate e l h.0 h.1.0)
-    then simple_row_lem (λ s S n i d e l h. is_measure e l h.0 h.1.0 h.1.1.0)
-    then simple_row_lem (λ s S n i d e l h. is_merge_lem e l h.0 h.1.0 h.1.1.0 h.1.1.1.0 h.1.1.1.1.0)
-    then simple_row_lem (λ s S n i d e l h. is_new e l h.0 h.1.0)
-    then simple_row_lem (λ s S n i d e l h. is_get e l h.0 h.1.0)
-    then simple_row_lem (λ s S n i d e l h. is_set e l h.0 h.1.0)
+    simple_row (λ s S n i d e l h. is_init e l h.0 h.1.0)
+    then simple_row (λ s S n i d e l h. is_magic e l h.0 h.1.0)
+    then simple_row (λ s S n i d e l h. is_free e l h.0)
+    then simple_row (λ s S n i d e l h. is_gate e l h.0 h.1.0)
+    then simple_row (λ s S n i d e l h. is_measure e l h.0 h.1.0 h.1.1.0)
+    then simple_row (λ s S n i d e l h. is_merge e l h.0 h.1.0 h.1.1.0 h.1.1.1.0 h.1.1.1.1.0)
+    then simple_row (λ s S n i d e l h. is_new e l h.0 h.1.0)
+    then simple_row (λ s S n i d e l h. is_get e l h.0 h.1.0)
+    then simple_row (λ s S n i d e l h. is_set e l h.0 h.1.0)
     then seen_branches refl
     then seen_loops refl
     then seen_calls refl
-    then simple_row_lem (λ s S n i d e l h. is_bool_lem e l h.0 h.1.0)
+    then simple_row (λ s S n i d e l h. is_bool e l h.0 h.1.0)
     then no_row
 
 -- a byte's row, where it has one, is one of them
@@ -152,7 +152,7 @@ module _ (s : List ℕ) (d : Side) (S : Scope) (depths : ℕ) where
       holds_then (holds_need (leb (at + 4 + k + m) end) 8 at) λ u a.
       holds_then (operands_fit s S at 4 (replicate k Location ++ replicate m Slot)) λ v t.
       let q : at + 4 + k + m ≤ end = at_most (at + 4 + k + m) end a in
-      by (is_call_lem e (omega arith) h.0 h.1.0 h.1.1.0 (call_places_lem s S at k m t) (call_slots_lem s S at k m t), omega arith, q)
+      by (is_call e (omega arith) h.0 h.1.0 h.1.1.0 (call_places s S at k m t) (call_slots s S at k m t), omega arith, q)
 
   statement_seen : (at end : ℕ) → end ≤ length s → Holds (Seen at end) (statement s d S (read_block s d S depths) at end)
   statement_seen at end w =
@@ -209,19 +209,19 @@ statement_view h = (taken h).0
 
 -- the byte of a statement is one of the thirteen
 view_byte : {d : Side} {s : List ℕ} {S : Scope} {depths at p : ℕ} {t : Statement d} → View s S depths at t p → (0 < byte s at) × (byte s at < 14)
-view_byte (is_init_lem e l a b) = (omega arith, omega arith)
+view_byte (is_init e l a b) = (omega arith, omega arith)
 view_byte (is_magic e l a b) = (omega arith, omega arith)
 view_byte (is_free e l a) = (omega arith, omega arith)
 view_byte (is_gate e l a b) = (omega arith, omega arith)
 view_byte (is_measure e l a b c) = (omega arith, omega arith)
-view_byte (is_merge_lem e l a b c f g) = (omega arith, omega arith)
+view_byte (is_merge e l a b c f g) = (omega arith, omega arith)
 view_byte (is_new e l a b) = (omega arith, omega arith)
 view_byte (is_get e l a b) = (omega arith, omega arith)
 view_byte (is_set e l a b) = (omega arith, omega arith)
 view_byte (is_if e l a b c) = (omega arith, omega arith)
 view_byte (is_while e l a b) = (omega arith, omega arith)
-view_byte (is_call_lem e l a b c f g) = (omega arith, omega arith)
-view_byte (is_bool_lem e l a b) = (omega arith, omega arith)
+view_byte (is_call e l a b c f g) = (omega arith, omega arith)
+view_byte (is_bool e l a b) = (omega arith, omega arith)
 
 pub statement_byte : {d : Side} {s : List ℕ} {S : Scope} {depths at p : ℕ} {t : Statement d} → StatementIn s S depths at t p
     → (0 < byte s at) × (byte s at < 14) × (at < p) × (p ≤ length s)

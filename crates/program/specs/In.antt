@@ -61,7 +61,7 @@ call_slots s at = up_to (at + 4 + byte s (at + 2)) (byte s (at + 3)) λ i. byte 
 
 -- a statement taken apart by its byte: what it is, where it ends, and what its operands are bounded by
 pub data View {d : Side} (s : List ℕ) (S : Scope) (depths at : ℕ) : Statement d → ℕ → Type 0 where
-  is_init_lem : byte s at ≡ 1 → at + 3 ≤ length s → byte s (at + 1) < 32 → byte s (at + 2) < S.places
+  is_init : byte s at ≡ 1 → at + 3 ≤ length s → byte s (at + 1) < 32 → byte s (at + 2) < S.places
       → View s S depths at (op at (init plain (byte s (at + 1)) (record { no = byte s (at + 2) }))) (at + 3)
   is_magic : byte s at ≡ 2 → at + 3 ≤ length s → byte s (at + 1) < 32 → byte s (at + 2) < S.places
       → View s S depths at (op at (init magic (byte s (at + 1)) (record { no = byte s (at + 2) }))) (at + 3)
@@ -70,7 +70,7 @@ pub data View {d : Side} (s : List ℕ) (S : Scope) (depths at : ℕ) : Statemen
       → View s S depths at (op at (gate (byte s (at + 1)) (byte s (at + 2)))) (at + 3)
   is_measure : byte s at ≡ 5 → at + 4 ≤ length s → byte s (at + 1) < 32 → byte s (at + 2) < 2 → byte s (at + 3) < 32
       → View s S depths at (op at (measure (byte s (at + 1)) (byte s (at + 2)) (byte s (at + 3)))) (at + 4)
-  is_merge_lem : byte s at ≡ 6 → at + 6 ≤ length s → byte s (at + 1) < 32 → byte s (at + 2) < 2 → byte s (at + 3) < 32
+  is_merge : byte s at ≡ 6 → at + 6 ≤ length s → byte s (at + 1) < 32 → byte s (at + 2) < 2 → byte s (at + 3) < 32
       → byte s (at + 4) < 2 → byte s (at + 5) < 32
       → View s S depths at (op at (merge (byte s (at + 1)) (byte s (at + 2)) (byte s (at + 3)) (byte s (at + 4)) (byte s (at + 5)))) (at + 6)
   is_new : byte s at ≡ 7 → at + 3 ≤ length s → byte s (at + 1) < 32 → byte s (at + 2) < 32
@@ -83,10 +83,10 @@ pub data View {d : Side} (s : List ℕ) (S : Scope) (depths at : ℕ) : Statemen
       → BlockIn s S depths (at + 2) b p → BlockIn s S depths p c q → View s S depths at (if at (byte s (at + 1)) b c) q
   is_while : {b : Block d} {p : ℕ} → byte s at ≡ 11 → at + 2 ≤ length s → byte s (at + 1) < 32
       → BlockIn s S depths (at + 2) b p → View s S depths at (while at (byte s (at + 1)) b) p
-  is_call_lem : byte s at ≡ 12 → at + 4 + byte s (at + 2) + byte s (at + 3) ≤ length s → byte s (at + 1) < length S.earlier
+  is_call : byte s at ≡ 12 → at + 4 + byte s (at + 2) + byte s (at + 3) ≤ length s → byte s (at + 1) < length S.earlier
       → byte s (at + 2) ≡ (function S.earlier (byte s (at + 1))).k → byte s (at + 3) ≡ (function S.earlier (byte s (at + 1))).m
       → ((i : ℕ) → i < byte s (at + 2) → byte s (at + 4 + i) < S.places)
       → ((i : ℕ) → i < byte s (at + 3) → byte s (at + 4 + byte s (at + 2) + i) < 32)
       → View s S depths at (call at (byte s (at + 1)) (call_places s at) (call_slots s at)) (at + 4 + byte s (at + 2) + byte s (at + 3))
-  is_bool_lem : byte s at ≡ 13 → at + 3 ≤ length s → byte s (at + 1) < 32 → byte s (at + 2) < 2
+  is_bool : byte s at ≡ 13 → at + 3 ≤ length s → byte s (at + 1) < 32 → byte s (at + 2) < 2
       → View s S depths at (op at (constant (byte s (at + 1)) (lib.Dec.eqb (byte s (at + 2)) 1))) (at + 3)

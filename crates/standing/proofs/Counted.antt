@@ -153,8 +153,8 @@ module _ (c : Standing) where
     pub call_no_locations : r ≡ true → k ≡ 0 → true ≡ call_lives c f
     call_no_locations h e = unneeded r k (ltb 0 c.places) h e ∙ call_is
 
-    pub call_places_lem : r ≡ true → (k ≡ 0 → ⊥) → ltb 0 c.places ≡ call_lives c f
-    call_places_lem h e = needed r k (ltb 0 c.places) h e ∙ call_is
+    pub call_places : r ≡ true → (k ≡ 0 → ⊥) → ltb 0 c.places ≡ call_lives c f
+    call_places h e = needed r k (ltb 0 c.places) h e ∙ call_is
 
   -- Each operand from number i on has a word, or is not written.
   abbrev worded : Operand → Bool

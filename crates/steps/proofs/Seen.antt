@@ -12,7 +12,7 @@ use Rattle.rules.specs.Syntax.{Side, Preparation, plain, magic, init, free, gate
 use Rattle.rules.specs.Table.{size_of}
 use Rattle.rules.specs.Program.{Scope}
 use Rattle.rules.specs.Machine.{offset_of}
-use Rattle.program.specs.In.{BlockIn, StatementIn, View, is_init_lem, is_magic, is_free, is_gate, is_measure, is_merge_lem, is_new, is_get, is_set, is_if, is_while, is_call_lem, is_bool_lem}
+use Rattle.program.specs.In.{BlockIn, StatementIn, View, is_init, is_magic, is_free, is_gate, is_measure, is_merge, is_new, is_get, is_set, is_if, is_while, is_call, is_bool}
 use Rattle.program.proofs.In.{statement_view, statement_byte}
 
 abbrev pick : Bool → Type 0 → Type 0 → Type 0
@@ -74,19 +74,19 @@ module _ {d : Side} (s : List ℕ) (S : Scope) (depths at : ℕ) (t : Statement 
       (pick (eqb b 10) IsIf (pick (eqb b 11) IsWhile (pick (eqb b 12) IsCall IsConstant))))))))))
 
 seen : {d : Side} {s : List ℕ} {S : Scope} {depths at p : ℕ} {t : Statement d} → View s S depths at t p → Is s S depths at t p (byte s at)
-seen {s = s} {S} {depths} {at} {p} {t} (is_init_lem e l a b) = subst (λ (n : ℕ). Is s S depths at t p n) (sym e) (l, a, b, plain, refl)
+seen {s = s} {S} {depths} {at} {p} {t} (is_init e l a b) = subst (λ (n : ℕ). Is s S depths at t p n) (sym e) (l, a, b, plain, refl)
 seen {s = s} {S} {depths} {at} {p} {t} (is_magic e l a b) = subst (λ (n : ℕ). Is s S depths at t p n) (sym e) (l, a, b, magic, refl)
 seen {s = s} {S} {depths} {at} {p} {t} (is_free e l a) = subst (λ (n : ℕ). Is s S depths at t p n) (sym e) (l, a, refl)
 seen {s = s} {S} {depths} {at} {p} {t} (is_gate e l a b) = subst (λ (n : ℕ). Is s S depths at t p n) (sym e) (l, b, refl)
 seen {s = s} {S} {depths} {at} {p} {t} (is_measure e l a b c) = subst (λ (n : ℕ). Is s S depths at t p n) (sym e) (l, a, c, refl)
-seen {s = s} {S} {depths} {at} {p} {t} (is_merge_lem e l a b c f g) = subst (λ (n : ℕ). Is s S depths at t p n) (sym e) (l, a, c, g, refl)
+seen {s = s} {S} {depths} {at} {p} {t} (is_merge e l a b c f g) = subst (λ (n : ℕ). Is s S depths at t p n) (sym e) (l, a, c, g, refl)
 seen {s = s} {S} {depths} {at} {p} {t} (is_new e l a b) = subst (λ (n : ℕ). Is s S depths at t p n) (sym e) (l, a, b, refl)
 seen {s = s} {S} {depths} {at} {p} {t} (is_get e l a b) = subst (λ (n : ℕ). Is s S depths at t p n) (sym e) (l, a, b, refl)
 seen {s = s} {S} {depths} {at} {p} {t} (is_set e l a b) = subst (λ (n : ℕ). Is s S depths at t p n) (sym e) (l, a, b, refl)
 seen {s = s} {S} {depths} {at} {p} {t} (is_if {b = b} {c = c} {p = m} e l a f g) = subst (λ (n : ℕ). Is s S depths at t p n) (sym e) (l, a, b, c, m, f, g, refl)
 seen {s = s} {S} {depths} {at} {p} {t} (is_while {b = b} e l a f) = subst (λ (n : ℕ). Is s S depths at t p n) (sym e) (l, a, b, f, refl)
-seen {s = s} {S} {depths} {at} {p} {t} (is_call_lem e l a b c f g) = subst (λ (n : ℕ). Is s S depths at t p n) (sym e) (l, a, b, c, f, g, refl, refl)
-seen {s = s} {S} {depths} {at} {p} {t} (is_bool_lem e l a b) = subst (λ (n : ℕ). Is s S depths at t p n) (sym e) (l, a, refl)
+seen {s = s} {S} {depths} {at} {p} {t} (is_call e l a b c f g) = subst (λ (n : ℕ). Is s S depths at t p n) (sym e) (l, a, b, c, f, g, refl, refl)
+seen {s = s} {S} {depths} {at} {p} {t} (is_bool e l a b) = subst (λ (n : ℕ). Is s S depths at t p n) (sym e) (l, a, refl)
 
 module _ {d : Side} {s : List ℕ} {S : Scope} {depths at p : ℕ} {t : Statement d} (h : StatementIn s S depths at t p) where
   -- the case of a byte that is known
@@ -131,19 +131,19 @@ module _ {d : Side} {s : List ℕ} {S : Scope} {depths at p : ℕ} {t : Statemen
 
 -- an operation ends where the table says
 view_ends : {d : Side} {s : List ℕ} {S : Scope} {depths at p : ℕ} {t : Statement d} → View s S depths at t p → (byte s at ≡ 10 → ⊥) → (byte s at ≡ 11 → ⊥) → (byte s at ≡ 12 → ⊥) → p ≡ at + size_of (byte s at)
-view_ends {s = s} {at = at} (is_init_lem e l a b) f g h = ap (λ (n : ℕ). at + size_of n) (sym e)
+view_ends {s = s} {at = at} (is_init e l a b) f g h = ap (λ (n : ℕ). at + size_of n) (sym e)
 view_ends {s = s} {at = at} (is_magic e l a b) f g h = ap (λ (n : ℕ). at + size_of n) (sym e)
 view_ends {s = s} {at = at} (is_free e l a) f g h = ap (λ (n : ℕ). at + size_of n) (sym e)
 view_ends {s = s} {at = at} (is_gate e l a b) f g h = ap (λ (n : ℕ). at + size_of n) (sym e)
 view_ends {s = s} {at = at} (is_measure e l a b c) f g h = ap (λ (n : ℕ). at + size_of n) (sym e)
-view_ends {s = s} {at = at} (is_merge_lem e l a b c i j) f g h = ap (λ (n : ℕ). at + size_of n) (sym e)
+view_ends {s = s} {at = at} (is_merge e l a b c i j) f g h = ap (λ (n : ℕ). at + size_of n) (sym e)
 view_ends {s = s} {at = at} (is_new e l a b) f g h = ap (λ (n : ℕ). at + size_of n) (sym e)
 view_ends {s = s} {at = at} (is_get e l a b) f g h = ap (λ (n : ℕ). at + size_of n) (sym e)
 view_ends {s = s} {at = at} (is_set e l a b) f g h = ap (λ (n : ℕ). at + size_of n) (sym e)
 view_ends {s = s} {at = at} (is_if e l a b c) f g h = absurd (f e)
 view_ends {s = s} {at = at} (is_while e l a b) f g h = absurd (g e)
-view_ends {s = s} {at = at} (is_call_lem e l a b c i j) f g h = absurd (h e)
-view_ends {s = s} {at = at} (is_bool_lem e l a b) f g h = ap (λ (n : ℕ). at + size_of n) (sym e)
+view_ends {s = s} {at = at} (is_call e l a b c i j) f g h = absurd (h e)
+view_ends {s = s} {at = at} (is_bool e l a b) f g h = ap (λ (n : ℕ). at + size_of n) (sym e)
 
 pub ends_seen : {d : Side} {s : List ℕ} {S : Scope} {depths at p : ℕ} {t : Statement d} → StatementIn s S depths at t p → (byte s at ≡ 10 → ⊥) → (byte s at ≡ 11 → ⊥) → (byte s at ≡ 12 → ⊥)
     → (p ≡ at + size_of (byte s at)) × (p ≤ length s)
@@ -151,19 +151,19 @@ ends_seen h f g k = (view_ends (statement_view h) f g k, (statement_byte h).3)
 
 -- a statement has the offset where it stands
 view_offset : {d : Side} {s : List ℕ} {S : Scope} {depths at p : ℕ} {t : Statement d} → View s S depths at t p → offset_of t ≡ at
-view_offset (is_init_lem e l a b) = refl
+view_offset (is_init e l a b) = refl
 view_offset (is_magic e l a b) = refl
 view_offset (is_free e l a) = refl
 view_offset (is_gate e l a b) = refl
 view_offset (is_measure e l a b c) = refl
-view_offset (is_merge_lem e l a b c f g) = refl
+view_offset (is_merge e l a b c f g) = refl
 view_offset (is_new e l a b) = refl
 view_offset (is_get e l a b) = refl
 view_offset (is_set e l a b) = refl
 view_offset (is_if e l a b c) = refl
 view_offset (is_while e l a b) = refl
-view_offset (is_call_lem e l a b c f g) = refl
-view_offset (is_bool_lem e l a b) = refl
+view_offset (is_call e l a b c f g) = refl
+view_offset (is_bool e l a b) = refl
 
 pub offset_seen : {d : Side} {s : List ℕ} {S : Scope} {depths at p : ℕ} {t : Statement d} → StatementIn s S depths at t p → offset_of t ≡ at
 offset_seen h = view_offset (statement_view h)

@@ -32,7 +32,7 @@ pub given : (n o : ℕ) → numbered n ≡ true → o ≤ 4096 → Given (refusa
 given n o h l = record {
   from_1 = at_most 1 n (and_left (leb 1 n) (leb n 26) h);
   to_26 = at_most n 26 (and_right (leb 1 n) (leb n 26) h);
-  in_file_lem = l;
+  in_file = l;
   named = omega arith;
 }
 
@@ -47,7 +47,7 @@ known_within (refuses h) = refuses h
 
 pub file_within : {A : Type 0} {P : A → Type 0} {m : Check A} (f : File) → job_named f ≤ 2 → Within P m → Within P (within f m)
 file_within f l (value h) = value h
-file_within f l (refuses h) = refuses (record { from_1 = h.from_1; to_26 = h.to_26; in_file_lem = h.in_file_lem; named = l })
+file_within f l (refuses h) = refuses (record { from_1 = h.from_1; to_26 = h.to_26; in_file = h.in_file; named = l })
 
 pub choice_within : {A : Type 0} {P : A → Type 0} (b : Bool) {x y : Check A}
     → Within P x → Within P y → Within P (elim b [ false ↦ x | true ↦ y ])

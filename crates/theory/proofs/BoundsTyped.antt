@@ -33,7 +33,7 @@ asked l gives_value = value tt
 asked {o = o} l (reason {n = n} h) =
     let above = reason_above h in
     let few = reason_few h in
-    refuses {r = refusal n o} (record { from_1 = omega arith; to_26 = omega arith; in_file_lem = l; named = omega arith })
+    refuses {r = refusal n o} (record { from_1 = omega arith; to_26 = omega arith; in_file = l; named = omega arith })
 
 abbrev CommandsPlaced : {s : Side} → Commands s → Type 0
 CommandsPlaced ε = Unit {0}

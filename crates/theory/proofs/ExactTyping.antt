@@ -30,7 +30,7 @@ use Rattle.theory.specs.WellRead.{BlockRead, block_read, FunctionsRead, none_rea
 use Rattle.theory.specs.Exact.{Derives, ExactTyping, EndsAlike}
 use Rattle.rules.proofs.Tests.{eqb_true, eqb_same, eqb_other, eqb_false, and_left, and_right}
 use Rattle.theory.proofs.Base.{get_d_set_cases}
-use Rattle.theory.proofs.Places.{stored_other, place_path, numbers, qubit_held, argument_at_lem, all_of_at}
+use Rattle.theory.proofs.Places.{stored_other, place_path, numbers, qubit_held, argument_at, all_of_at}
 use Rattle.theory.proofs.Places.{kind_sound, kind_refl, slot_narrowed, all_stay_at, narrow_cases}
 use Rattle.theory.proofs.Linear.{Linear, Ends, AllEnd, linear_statement, linear_entry, linear_start, function_ends, functions_end}
 use Rattle.theory.proofs.Linear.{Matches, no_match, more_match, functions_match, callable_agrees}
@@ -339,7 +339,7 @@ mutual
   statement_stays C (while i y b) (T-While p j) x r h = refl
   statement_stays C (call i f ls xs) (T-Call {Γ = Γ} J) x r h =
       stored_other (up_to 0 (signature C.functions f).m λ n. kind_at ls (slot (signature C.functions f).ends.slots n)) xs Γ.slots x unbound
-      (λ n k e. false≢true (sym (ap is_classical (argument_at_lem xs ls n J.arguments k)) ∙ ap (λ (z : ℕ). is_classical (slot Γ.slots z)) e ∙ h))
+      (λ n k e. false≢true (sym (ap is_classical (argument_at xs ls n J.arguments k)) ∙ ap (λ (z : ℕ). is_classical (slot Γ.slots z)) e ∙ h))
 
   statements_stay : {s : Side} (C : Context s) (ts : Statements s) {Γ Δ : Env s} {c : Commands s} → StatementsRule C Γ ts Δ c → (x : ℕ) → x < 32
       → is_classical (slot Γ.slots x) ≡ true → slot Δ.slots x ≡ slot Γ.slots x

@@ -34,7 +34,7 @@ use Rattle.rules.proofs.Tests.{eqb_same, below, is_below}
 use Rattle.theory.proofs.Base.{true_in_range, get_d_set_stays, get_d_set_default, get_d_replicate_default}
 use Rattle.theory.proofs.Places.{find, length_stored, stored_other, stored_at, stored_agrees, place_path, numbers, length_numbers, number_at}
 use Rattle.theory.proofs.Places.{all_at, drop_at, find_place, map_without, stored_place, stored_other_place, unbound_qubit, same_qubit}
-use Rattle.theory.proofs.Places.{qubit_in_range, old_qubit, new_qubit, kept_qubit, Once, once_held, argument_at_lem, arguments_length}
+use Rattle.theory.proofs.Places.{qubit_in_range, old_qubit, new_qubit, kept_qubit, Once, once_held, argument_at, arguments_length}
 use Rattle.theory.proofs.Places.{signature_newest, signature_older, AllOf, all_of_at, length_entry, entry_taken, entry_rest, length_entered, entry_at}
 use Rattle.theory.proofs.Places.{entry_qubit, length_narrowed, narrowed_qubit, narrowed_keeps, stays_qubit, narrowed_home}
 
@@ -141,7 +141,7 @@ module _ {s : Side} where
     inside = λ x l h. I.inside x l (old x l h);
     taken = λ x l h. I.taken x l (old x l h);
     once = λ y z k m h h' e. I.once y z k m (old y k h) (old z m h') e;
-    covered = λ l i. ⊎_elim inl (λ c. inr (c.0, narrowed_keeps Γ.slots Δ.slots c.0 l (in_range_lem c.0 l c.1) c.1)) (I.covered l i);
+    covered = λ l i. ⊎_elim inl (λ c. inr (c.0, narrowed_keeps Γ.slots Δ.slots c.0 l (in_range c.0 l c.1) c.1)) (I.covered l i);
     sized = I.sized;
     slots32 = length_narrowed Γ.slots Δ.slots;
   }
@@ -149,8 +149,8 @@ module _ {s : Side} where
       old : (x : ℕ) (l : Place s) → slot (narrowed Γ.slots Δ.slots) x ≡ qubit l → slot Δ.slots x ≡ qubit l
       old x l h = narrowed_qubit Γ.slots Δ.slots x l h
 
-      in_range_lem : (x : ℕ) (l : Place s) → slot Δ.slots x ≡ qubit l → x < 32
-      in_range_lem x l h = let r = qubit_in_range Δ.slots x l h in let e = I.slots32 in omega arith
+      in_range : (x : ℕ) (l : Place s) → slot Δ.slots x ≡ qubit l → x < 32
+      in_range x l h = let r = qubit_in_range Δ.slots x l h in let e = I.slots32 in omega arith
 
 -- A call: what it leaves in a slot and at a place that it names, and in the others.
 module _ {s : Side} (C : Context s) (Γ : Env s) (g : Signature) (ls : List (Place s)) (xs : List ℕ) (N : Ends g) (k : length ls ≡ g.k)
@@ -166,7 +166,7 @@ module _ {s : Side} (C : Context s) (Γ : Env s) (g : Signature) (ls : List (Pla
   pub call_slot : (i : ℕ) → i < g.m → slot (substituted g ls xs Γ).slots (get_or xs i 0) ≡ kind_at ls (slot g.ends.slots i)
   call_slot i h =
       let n : length left ≡ g.m = length_up_to 0 g.m _ in
-      let r : get_or xs i 0 < length Γ.slots = qubit_in_range Γ.slots (get_or xs i 0) (at ls i) (argument_at_lem xs ls i a (omega arith)) in
+      let r : get_or xs i 0 < length Γ.slots = qubit_in_range Γ.slots (get_or xs i 0) (at ls i) (argument_at xs ls i a (omega arith)) in
       stored_at left xs Γ.slots i unbound w (omega arith) (omega arith) r ∙ left_at i h
 
   pub call_other_slot : (y : ℕ) → ((i : ℕ) → i < length xs → get_or xs i 0 ≢ y) → slot (substituted g ls xs Γ).slots y ≡ slot Γ.slots y
@@ -193,7 +193,7 @@ module _ {s : Side} (C : Context s) (Γ : Env s) (g : Signature) (ls : List (Pla
       (λ c. let r : slot (substituted g ls xs Γ).slots (get_or xs c.0 0) ≡ qubit l =
       ap (λ (z : ℕ). slot (substituted g ls xs Γ).slots z) c.2 ∙ e in
       let q : at ls c.0 ≡ l = (call_kept c.0 l (omega (arith, c.1)) r).1 in
-      ap (λ (z : ℕ). slot Γ.slots z) (sym c.2) ∙ argument_at_lem xs ls c.0 a c.1 ∙ ap (λ (p : Place s). qubit p) q)
+      ap (λ (z : ℕ). slot Γ.slots z) (sym c.2) ∙ argument_at xs ls c.0 a c.1 ∙ ap (λ (p : Place s). qubit p) q)
       (λ c. sym (call_other_slot y c) ∙ e)
       (find xs y)
 
@@ -213,7 +213,7 @@ module _ {s : Side} (C : Context s) (Γ : Env s) (g : Signature) (ls : List (Pla
       named : (y : ℕ) (l : Place s) → slot (substituted g ls xs Γ).slots y ≡ qubit l → (i : ℕ) → i < g.k → at ls i ≡ l → Dec (i < g.m)
           → get_or g.ends.free i false ≡ false
       named y l h i j e (yes d) =
-          let given : slot Γ.slots (get_or xs i 0) ≡ qubit (at ls i) = argument_at_lem xs ls i a (omega arith) in
+          let given : slot Γ.slots (get_or xs i 0) ≡ qubit (at ls i) = argument_at xs ls i a (omega arith) in
           let same : get_or xs i 0 ≡ y = I.once (get_or xs i 0) y (at ls i) l given (call_old y l h) (ap (λ (p : Place s). p.no) e) in
           N.kept_taken i d (call_kept i l d (ap (λ (z : ℕ). slot (substituted g ls xs Γ).slots z) same ∙ h)).0
       named y l h i j e (no d) =
@@ -248,7 +248,7 @@ module _ {s : Side} (C : Context s) (Γ : Env s) (g : Signature) (ls : List (Pla
           inr (
             r.0,
             call_other_slot r.0 (λ i j e. let there = ap (λ (z : ℕ). slot Γ.slots z) e ∙ r.1 in
-                c i (omega (arith, arguments_length a)) (ap (λ (p : Place s). p.no) (same_qubit _ (at ls i) l (argument_at_lem xs ls i a j) there))) ∙ r.1,
+                c i (omega (arith, arguments_length a)) (ap (λ (p : Place s). p.no) (same_qubit _ (at ls i) l (argument_at xs ls i a j) there))) ∙ r.1,
           )
 
   abbrev stay : List Bool
@@ -271,7 +271,7 @@ module _ {s : Side} (C : Context s) (Γ : Env s) (g : Signature) (ls : List (Pla
       slots_agree =
           let n : length left ≡ g.m = length_up_to 0 g.m _ in
           stored_agrees unbound unbound stay left xs Γ.slots w (omega arith) λ i h. ⊎_elim
-          (λ c. inl (stays i (omega arith) c, left_at i (omega arith) ∙ ap (λ (v : Kind parameter). kind_at ls v) c ∙ sym (argument_at_lem xs ls i a h)))
+          (λ c. inl (stays i (omega arith) c, left_at i (omega arith) ∙ ap (λ (v : Kind parameter). kind_at ls v) c ∙ sym (argument_at xs ls i a h)))
           (λ c. inr (goes i (omega arith) c, left_at i (omega arith) ∙ ap (λ (v : Kind parameter). kind_at ls v) c))
           (N.argument i (omega arith))
 
@@ -285,7 +285,7 @@ module _ {s : Side} (C : Context s) (Γ : Env s) (g : Signature) (ls : List (Pla
           past i h = let e : length stay ≡ g.m = length_up_to 0 g.m _ in get_or-eq_default stay true (omega arith)
 
           given_taken : (i : ℕ) → i < g.m → get_or Γ.free (at ls i).no false ≡ false
-          given_taken i h = I.taken (get_or xs i 0) (at ls i) (argument_at_lem xs ls i a (omega arith))
+          given_taken i h = I.taken (get_or xs i 0) (at ls i) (argument_at xs ls i a (omega arith))
 
           by_number : (i : ℕ) → get_or Γ.free (at ls i).no false ≡ get_or Γ.free (get_or (numbers ls) i 0) false
           by_number i = ap (λ (n : ℕ). get_or Γ.free n false) (sym (number_at ls i))

@@ -30,8 +30,8 @@ use Rattle.theory.proofs.Isolation.{OwnAct, own_step, View, view, view_step, vie
 use Rattle.theory.proofs.Isolation.{SoundView, sound_view, sound_view_after, records_of_lem}
 
 -- 1. The first state of a derived program is typed.
-function_at_lem : (fs : List Function) (n : ℕ) (g : Function) (gs : List Function) → drop n fs ≡ g ∷ gs → function fs n ≡ g
-function_at_lem fs n g gs h = ap (λ i. function fs i) (sym (add-zero n)) ∙ sym (get_or-drop n fs 0 _) ∙ ap (λ r. function r 0) h
+function_at : (fs : List Function) (n : ℕ) (g : Function) (gs : List Function) → drop n fs ≡ g ∷ gs → function fs n ≡ g
+function_at fs n g gs h = ap (λ i. function fs i) (sym (add-zero n)) ∙ sym (get_or-drop n fs 0 _) ∙ ap (λ r. function r 0) h
 
 drop_tail : (fs : List Function) (n : ℕ) (g : Function) (gs : List Function) → drop n fs ≡ g ∷ gs → drop (suc n) fs ≡ gs
 drop_tail fs n g gs h = let e : suc n ≡ n + 1 = omega arith in ap (λ i. drop i fs) e ∙ sym (drop-drop 1 n fs) ∙ ap (λ r. drop 1 r) h
@@ -50,7 +50,7 @@ module _ (R : Region) (fs : List Function) (last-free : List Bool) where
       → Known R fs (length R.owned) last-free gs → Known R fs (length R.owned) last-free hs
   known_all T-NoFun h m K = K
   known_all (T-Fundecl {g = g} {fs = rest} {gs = gs} j r) h m K =
-      known_all r (drop_tail fs (length gs) g rest h) m.1 (known_more K (function_at_lem fs (length gs) g rest h) m.0 j)
+      known_all r (drop_tail fs (length gs) g rest h) m.1 (known_more K (function_at fs (length gs) g rest h) m.0 j)
 
 first_typed : (R : Region) (p : Program) (Δ : Env device) (c : Commands device) → Roomy p.functions → (A : ProgramRule R p Δ c)
     → Inv R p.functions (length R.owned) A.left R.owned (fresh p)
@@ -86,19 +86,19 @@ module _ (R : Region) (j : ℕ) where
   free_other : (occ : List ℕ) (k x l : ℕ) → l ≢ k → free_in R occ l ≡ true → free_in R (set occ k x) l ≡ true
   free_other occ k x l n h = ap (λ y. owns R l && eqb y 0) (get_or-set_other occ k l x 0 n) ∙ h
 
-  free_after_lem : (a : Act device) (L : List Bool) (occ : List ℕ) → OwnAct (owns R) a → FreeOn L occ → FreeOn (after_act a L) (written j a occ)
-  free_after_lem quiet L occ own F l h = F l h
-  free_after_lem (takes q k) L occ own F l h = go (ℕ_discrete l k.no)
+  free_after : (a : Act device) (L : List Bool) (occ : List ℕ) → OwnAct (owns R) a → FreeOn L occ → FreeOn (after_act a L) (written j a occ)
+  free_after quiet L occ own F l h = F l h
+  free_after (takes q k) L occ own F l h = go (ℕ_discrete l k.no)
     where
       go : Dec (l ≡ k.no) → free_in R (set occ k.no j) l ≡ true
       go (no n) = free_other occ k.no j l n (F l (sym (get_or-set_other L k.no l false false n) ∙ h))
       go (yes e) = absurd (false≢true (sym (get_d_set_default L k.no false) ∙ rw e at h))
-  free_after_lem (gives k) L occ own F l h = go (ℕ_discrete l k.no)
+  free_after (gives k) L occ own F l h = go (ℕ_discrete l k.no)
     where
       go : Dec (l ≡ k.no) → free_in R (set occ k.no 0) l ≡ true
       go (no n) = free_other occ k.no 0 l n (F l (sym (get_or-set_other L k.no l true false n) ∙ h))
       go (yes e) = rw (e, own, get_d_set_default occ k.no 0)
-  free_after_lem (merges b k e k') L occ own F l h = F l h
+  free_after (merges b k e k') L occ own F l h = F l h
 
 -- 3. Over any schedule
 module _ (D : Device) (programs : ℕ → Program) (j len : ℕ) (last-free : List Bool) where
@@ -117,7 +117,7 @@ module _ (D : Device) (programs : ℕ → Program) (j len : ℕ) (last-free : Li
       → TypedView (view_after D programs j v W) (after_act (view_step D programs j v W).act L)
   typed_after v W L T = record {
     inv = (fine_view v W L T).inv;
-    frees = free_after_lem (region_of D j) j (view_step D programs j v W).act L W.mine
+    frees = free_after (region_of D j) j (view_step D programs j v W).act L W.mine
         (own_step (region_of D j) (programs j).functions v (free_in (region_of D j) W.mine) W.job T.sound.own).1 T.frees;
     sound = sound_view_after D programs j v W T.sound;
   }

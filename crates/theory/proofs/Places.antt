@@ -235,12 +235,12 @@ module _ {s : Side} {B : Type 0} where
 
 -- the arguments of a call
 module _ {s : Side} where
-  pub argument_at_lem : {Γ : Env s} (xs : List ℕ) (ls : List (Place s)) (i : ℕ) → Arguments Γ xs ls → i < length xs
+  pub argument_at : {Γ : Env s} (xs : List ℕ) (ls : List (Place s)) (i : ℕ) → Arguments Γ xs ls → i < length xs
       → slot Γ.slots (get_or xs i 0) ≡ qubit (at ls i)
-  argument_at_lem [] ls i a h = absurd (omega arith)
-  argument_at_lem {Γ = Γ} (x ∷ xs) [] i a h = elim a [ ]
-  argument_at_lem (x ∷ xs) (l ∷ ls) zero (and p r) h = p
-  argument_at_lem (x ∷ xs) (l ∷ ls) (suc i) (and p r) h = argument_at_lem xs ls i r (omega arith)
+  argument_at [] ls i a h = absurd (omega arith)
+  argument_at {Γ = Γ} (x ∷ xs) [] i a h = elim a [ ]
+  argument_at (x ∷ xs) (l ∷ ls) zero (and p r) h = p
+  argument_at (x ∷ xs) (l ∷ ls) (suc i) (and p r) h = argument_at xs ls i r (omega arith)
 
   pub arguments_length : {Γ : Env s} {xs : List ℕ} {ls : List (Place s)} → Arguments Γ xs ls → length xs ≤ length ls
   arguments_length no_more = omega arith

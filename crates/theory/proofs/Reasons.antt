@@ -56,8 +56,8 @@ twice = inl (omega arith, omega arith)
 elsewhere : Reason 16
 elsewhere = inl (omega arith, omega arith)
 
-no_path_lem : Reason 21
-no_path_lem = inr refl
+no_path : Reason 21
+no_path = inr refl
 
 then_row : {A B : Type 0} {o : ℕ} {m : Check A} {n : Check B} → Reasoned o m → Reasoned o n → Reasoned o (m >> n)
 unfolding ◌>>◌
@@ -105,7 +105,7 @@ module _ {t : Side} {B : Type 0} where
   ref_row (ref b) o = gives_value
 
 route_row : (p : Option (List ℕ)) (o : ℕ) → Reasoned o (need_route p o)
-route_row none o = refuses 21 o no_path_lem
+route_row none o = refuses 21 o no_path
 route_row (some p) o = gives_value
 
 module _ {s t : Side} {B : Type 0} (W : Setting s t B) (o : ℕ) (φ : List (Slot t B)) where

@@ -56,7 +56,7 @@ module _ (R : Region) (fs : List Function) (v : Bool) (is_open : ℕ → Bool) w
   -- a merge has the edges of the route between its ends, and any other act none
   data Edges : Act trees.device → ℕ → Type 0 where
     no_merge : {a : Act trees.device} → is_merge a ≡ false → Edges a 0
-    of_route_lem : {b e n : ℕ} {l k : Place trees.device} {p : List ℕ} → Route R is_open l.no k.no p → length p ≡ suc n → Edges (merges b l e k) n
+    of_route : {b e n : ℕ} {l k : Place trees.device} {p : List ℕ} → Route R is_open l.no k.no p → length p ≡ suc n → Edges (merges b l e k) n
 
   edges_found : (b e : ℕ) (l k : Place trees.device) (o : ℕ) (r : Option (List ℕ)) → route R is_open l.no k.no ≡ r
       → Holds (Edges (merges b l e k)) (need_route r o >>= λ p. ok (length p - 1))
@@ -64,7 +64,7 @@ module _ (R : Region) (fs : List Function) (v : Bool) (is_open : ℕ → Bool) w
   edges_found b e l k o none h = Holds.not_ok
   edges_found b e l k o (some p) h =
       let r = (the_route R is_open l.no k.no p).0 h in
-      by (of_route_lem r (route_length R is_open l.no k.no r.path.along))
+      by (of_route r (route_length R is_open l.no k.no r.path.along))
 
   edges_of_lem : (a : Act trees.device) (o : ℕ) → Holds (Edges a) (edges_of R fs v is_open a o)
   edges_of_lem quiet o = by (no_merge refl)
@@ -81,12 +81,12 @@ module _ (R : Region) (fs : List Function) (v : Bool) (is_open : ℕ → Bool) w
   move_edges φ (χ ∷ φs) (return o ls xs) rest = by (no_merge refl)
 
 -- ---- what a step answers
-offset_of_lem : (i : Item) → OffsetOf i (item_offset i)
-offset_of_lem (run σ (op o a)) = of_operation
-offset_of_lem (run σ (if o y b c)) = of_if
-offset_of_lem (run σ (while o r b)) = of_while
-offset_of_lem (run σ (call o f ls xs)) = of_call
-offset_of_lem (return o ls xs) = of_return
+offset_of : (i : Item) → OffsetOf i (item_offset i)
+offset_of (run σ (op o a)) = of_operation
+offset_of (run σ (if o y b c)) = of_if
+offset_of (run σ (while o r b)) = of_while
+offset_of (run σ (call o f ls xs)) = of_call
+offset_of (return o ls xs) = of_return
 
 module _ (D : Device) (P : ℕ → Program) (t : Turn) (M : Machine) where
   abbrev R : Region
@@ -109,15 +109,15 @@ module _ (D : Device) (P : ℕ → Program) (t : Turn) (M : Machine) where
     where
       by_edges : (a : Act trees.device) (n : ℕ) → m.act ≡ a → Edges R (P t.job).functions t.outcome is_open a n
           → Tells D P t M (0 ∷ n ∷ item_offset i / 256 ∷ item_offset i % 256 ∷ [])
-      by_edges a n g (no_merge h) = moved (e, offset_of_lem i) f (ap is_merge g ∙ h)
-      by_edges a n g (of_route_lem r h) = merged (e, offset_of_lem i) f g r h
+      by_edges a n g (no_merge h) = moved (e, offset_of i) f (ap is_merge g ∙ h)
+      by_edges a n g (of_route r h) = merged (e, offset_of i) f g r h
 
   -- the first item to come
   tells_item : (i : Item) (rest : List Item) (m : Check Move) → J.items ≡ i ∷ rest → moves i rest ≡ m
       → Tells D P t M (four_bytes (stepped (record { top = J.top; below = J.below; items = i ∷ rest }) (item_offset i) m).answer)
   tells_item i rest (ok m) e f = tells_move i rest m e f
   tells_item i rest (refused r) e f =
-      stuck (e, offset_of_lem i) f (reason_of (move_reasoned R (P t.job).functions t.outcome is_open J.top J.below i rest) f)
+      stuck (e, offset_of i) f (reason_of (move_reasoned R (P t.job).functions t.outcome is_open J.top J.below i rest) f)
 
   tells_items : (is : List Item) → J.items ≡ is
       → Tells D P t M (four_bytes (step_items R (P t.job).functions t.outcome is_open J.top J.below is).answer)

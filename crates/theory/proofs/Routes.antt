@@ -271,8 +271,8 @@ module _ (R : Region) (free : ℕ → Bool) (a b : ℕ) where
       go false e k = found (eqb_false a b e) _ refl k
 
   -- and where it finds nothing there is no path
-  no_path_lem : route R free a b ≡ none → (p : List ℕ) → Path R free a b p → ⊥
-  no_path_lem h p P = go (eqb a b) refl h
+  no_path : route R free a b ≡ none → (p : List ℕ) → Path R free a b p → ⊥
+  no_path h p P = go (eqb a b) refl h
     where
       tried : (r : Option ℕ) → search_from (length R.owned) 0 ≡ r → traced R free a b r ≡ none → ⊥
       tried none e k =
@@ -293,7 +293,7 @@ one_route R free a b p q r s =
     both_ways p q (r.smallest q s.path (omega arith)) (s.smallest p r.path (omega arith))
 
 pub no_route : NoRoute
-no_route R free a b = (no_path_lem R free a b, back)
+no_route R free a b = (no_path R free a b, back)
   where
     back : ((p : List ℕ) → Path R free a b p → ⊥) → route R free a b ≡ none
     back h = go (route R free a b) refl
@@ -307,7 +307,7 @@ pub path_route : (R : Region) (free : ℕ → Bool) (a b : ℕ) (p : List ℕ) �
 path_route R free a b p P = go (route R free a b) refl
   where
     go : (r : Option (List ℕ)) → route R free a b ≡ r → (q : List ℕ) × (r ≡ some q)
-    go none e = absurd (no_path_lem R free a b e p P)
+    go none e = absurd (no_path R free a b e p P)
     go (some q) e = (q, refl)
 
 pub the_route : TheRoute
@@ -317,7 +317,7 @@ the_route R free a b p = (route_found R free a b p, back)
     back h = go (route R free a b) refl
       where
         go : (r : Option (List ℕ)) → route R free a b ≡ r → r ≡ some p
-        go none e = absurd (no_path_lem R free a b e p h.path)
+        go none e = absurd (no_path R free a b e p h.path)
         go (some q) e = ap some (one_route R free a b q p (route_found R free a b q e) h)
 
 -- A device has at most 256 locations

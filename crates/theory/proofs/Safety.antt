@@ -348,14 +348,14 @@ module _ (R : Region) (fs : List Function) (len : ℕ) (last-free : List Bool) w
       can_bind : (x : ℕ) → slot Γ.slots x ≡ unbound → holds_no_qubit (slot φ x) ≡ true
       can_bind x p = rw p at (G.fits.each x)
 
-      is_qubit_lem : (x : ℕ) (l : Place s) → slot Γ.slots x ≡ qubit l → slot φ x ≡ qubit (B.place l)
-      is_qubit_lem x l p = rw p at (G.fits.each x)
+      is_qubit : (x : ℕ) (l : Place s) → slot Γ.slots x ≡ qubit l → slot φ x ≡ qubit (B.place l)
+      is_qubit x l p = rw p at (G.fits.each x)
 
-      is_bool_lem : (x : ℕ) → slot Γ.slots x ≡ bool tt → (w : Bool) × (slot φ x ≡ bool w)
-      is_bool_lem x p = rw p at (G.fits.each x)
+      is_bool : (x : ℕ) → slot Γ.slots x ≡ bool tt → (w : Bool) × (slot φ x ≡ bool w)
+      is_bool x p = rw p at (G.fits.each x)
 
-      is_ref_lem : (x : ℕ) → slot Γ.slots x ≡ ref tt → (w : Bool) × (slot φ x ≡ ref w)
-      is_ref_lem x p = rw p at (G.fits.each x)
+      is_ref : (x : ℕ) → slot Γ.slots x ≡ ref tt → (w : Bool) × (slot φ x ≡ ref w)
+      is_ref x p = rw p at (G.fits.each x)
 
       is_free_there : (l : Place s) → get_or Γ.free l.no false ≡ true → is_free (B.place l).no ≡ true
       is_free_there l h = more (B.place l).no (G.frees l h)
@@ -415,31 +415,31 @@ module _ (R : Region) (fs : List Function) (len : ℕ) (last-free : List Bool) w
           performed (record { slots = set φ x (qubit (B.place l)); act = takes magic (B.place l) }) 0 (init_ok magic o x l p i r) refl
           (stored_good l false (λ u. i) (fits_set B.place x (qubit l) (qubit (B.place l)) G.fits refl)) (now (connects_alloc w) (rest_taken l i z))
       op_moves (T-Free {x = x} {l = l} p) w z =
-          performed (record { slots = set φ x unbound; act = gives (B.place l) }) 0 (rw (is_qubit_lem x l p)) refl
+          performed (record { slots = set φ x unbound; act = gives (B.place l) }) 0 (rw (is_qubit x l p)) refl
           (stored_good l true (λ u. absurd (false≢true (sym u))) (fits_set B.place x unbound unbound G.fits refl))
           (now (connects_release w) (rest_given l z))
       op_moves (T-Gate {x = x} {l = l} p) w z =
-          performed (record { slots = φ; act = quiet }) 0 (rw (is_qubit_lem x l p)) refl G (now (connects_nil w) z)
+          performed (record { slots = φ; act = quiet }) 0 (rw (is_qubit x l p)) refl G (now (connects_nil w) z)
       op_moves (T-Meas1 {y = y} {x = x} {l = l} p q) w z =
-          performed (record { slots = set φ y (bool v); act = quiet }) 0 (rw (can_bind y p, is_qubit_lem x l q)) refl
+          performed (record { slots = set φ y (bool v); act = quiet }) 0 (rw (can_bind y p, is_qubit x l q)) refl
           (kept_good (fits_set B.place y (bool tt) (bool v) G.fits (v, refl))) (now (connects_nil w) z)
       op_moves (T-Meas2 {y = y} {b = b} {x = x} {e = e} {z = x'} {l = l} {k = k} p q r n) w z =
           let (path, same) = connects_merge w in
           let (found, there) = route_more R (λ i. get_or N i false) is_free (B.place l).no (B.place k).no more path.0 path.1 in
           performed (record { slots = set φ y (bool v); act = merges b (B.place l) e (B.place k) }) (length found - 1)
-          (rw (can_bind y p, is_qubit_lem x l q, is_qubit_lem x' k r, eqb_other x x' n)) (rw there)
+          (rw (can_bind y p, is_qubit x l q, is_qubit x' k r, eqb_other x x' n)) (rw there)
           (kept_good (fits_set B.place y (bool tt) (bool v) G.fits (v, refl))) (now same z)
       op_moves (T-MkRef {r = r} {y = y} p q) w z =
-          let (b, e) = is_bool_lem y q in
+          let (b, e) = is_bool y q in
           performed (record { slots = set φ r (ref b); act = quiet }) 0 (rw (can_bind r p, e)) refl
           (kept_good (fits_set B.place r (ref tt) (ref b) G.fits (b, refl))) (now (connects_nil w) z)
       op_moves (T-Deref {y = y} {r = r} p q) w z =
-          let (b, e) = is_ref_lem r q in
+          let (b, e) = is_ref r q in
           performed (record { slots = set φ y (bool b); act = quiet }) 0 (rw (can_bind y p, e)) refl
           (kept_good (fits_set B.place y (bool tt) (bool b) G.fits (b, refl))) (now (connects_nil w) z)
       op_moves (T-Assign {r = r} {y = y} p q) w z =
-          let (a, d) = is_ref_lem r p in
-          let (b, e) = is_bool_lem y q in
+          let (a, d) = is_ref r p in
+          let (b, e) = is_bool y q in
           performed (record { slots = set φ r (ref b); act = quiet }) 0 (rw (d, e)) refl
           (kept_good (fits_set B.place r (ref tt) (ref b) G.fits (b, refl))) (now (connects_nil w) z)
       op_moves (T-Bool {y = y} {v = u} p) w z =
@@ -453,7 +453,7 @@ module _ (R : Region) (fs : List Function) (len : ℕ) (last-free : List Bool) w
           → Moves N φ φs (run B.actual (if o y b b')) is
       unfolding ◌>>=◌ ◌>>◌
       if_moves {φs = φs} {is = is} {y = y} b b' p j k w z =
-          let (t, e) = is_bool_lem y p in
+          let (t, e) = is_bool y p in
           let (w₁, w₂) = connects_either w in
           let rest = chosen_has (λ js. Rest N s B Γ N φs js) t (rest_block b j w₁ z) (rest_block b' k w₂ z) in
           record {
@@ -468,7 +468,7 @@ module _ (R : Region) (fs : List Function) (len : ℕ) (last-free : List Bool) w
           → Moves N φ φs (run B.actual (while o r b)) is
       unfolding ◌>>=◌ ◌>>◌
       while_moves {φs = φs} {is = is} {o = o} {r = r} b {c = c} p j w z =
-          let (t, e) = is_ref_lem r p in
+          let (t, e) = is_ref r p in
           let (w₁, q) = connects_repeat w in
           let rest = chosen_has (λ js. Rest N s B Γ N φs js) t (rest_block b j w₁ (next (T-While p j) w z)) (now q z) in
           record {
@@ -566,7 +566,7 @@ module _ (R : Region) (fs : List Function) (len : ℕ) (last-free : List Bool) w
         → arguments_at (floor R fs v is_free B.actual) o φ xs (map B.place ls) ≡ ok tt
     unfolding ◌>>=◌ ◌>>◌
     arguments_ok o no_more = refl
-    arguments_ok o (and {x = x} {l = l} p r) = rw (is_qubit_lem v is_free more G x l p, eqb_same (B.place l).no) (arguments_ok o r)
+    arguments_ok o (and {x = x} {l = l} p r) = rw (is_qubit v is_free more G x l p, eqb_same (B.place l).no) (arguments_ok o r)
 
     -- the callee's body on the device, and what the call shows of it
     module _ {f : ℕ} {ls : List (Place s)} {xs : List ℕ} (A : Callable B.context Γ f ls xs)

@@ -84,16 +84,16 @@ module _ (D : Device) (programs : ℕ → Program) where
       → get_or occ k 0 ≢ j
   not_its i j occ k pos n h b e = untouched i j k k occ pos n h b e refl
 
-  in_range_lem : (i k : ℕ) (occ : List ℕ) → length D.owners ≡ length occ → owns (region_of D i) k ≡ true → k < length occ
-  in_range_lem i k occ f h = omega (arith, (owns_owner D.owners i k h).0)
+  in_range : (i k : ℕ) (occ : List ℕ) → length D.owners ≡ length occ → owns (region_of D i) k ≡ true → k < length occ
+  in_range i k occ f h = omega (arith, (owns_owner D.owners i k h).0)
 
   bytes_other : (i j : ℕ) (a : Act device) (occ : List ℕ) → 1 ≤ j → j ≢ i → length D.owners ≡ length occ → OwnAct (owns (region_of D i)) a
       → ((l : ℕ) → Byte D occ l) → bytes_of j (written i a occ) ≡ bytes_of j occ
   bytes_other i j quiet occ pos n f h b = refl
   bytes_other i j (takes q k) occ pos n f h b =
-      bytes_same j occ k.no i (in_range_lem i k.no occ f h) (not_its i j occ k.no pos n h b) (λ e. n (sym e))
+      bytes_same j occ k.no i (in_range i k.no occ f h) (not_its i j occ k.no pos n h b) (λ e. n (sym e))
   bytes_other i j (gives k) occ pos n f h b =
-      bytes_same j occ k.no 0 (in_range_lem i k.no occ f h) (not_its i j occ k.no pos n h b) (λ e. omega arith)
+      bytes_same j occ k.no 0 (in_range i k.no occ f h) (not_its i j occ k.no pos n h b) (λ e. omega arith)
   bytes_other i j (merges c k d m) occ pos n f h b = refl
 
   module _ (readable : Readable programs) where

@@ -30,7 +30,7 @@ use Rattle.theory.specs.WellRead.{BlockRead, block_read, FunctionsRead, none_rea
 use Rattle.theory.specs.Exact.{Derives, WalkDecides}
 use Rattle.theory.proofs.Base.{true_in_range, get_d_set_default}
 use Rattle.theory.proofs.Places.{place_path, numbers, all_at, drop_at, distinct_places, find_place, stored_place, stored_other_place}
-use Rattle.theory.proofs.Places.{argument_at_lem, at_at, at_same, AllOf, all_of_at, length_entry, entry_taken, entry_rest}
+use Rattle.theory.proofs.Places.{argument_at, at_at, at_same, AllOf, all_of_at, length_entry, entry_taken, entry_rest}
 use Rattle.theory.proofs.Linear.{Linear, Ends, AllEnd, linear_statement, linear_start, linear_entry, free_length_statement, function_ends}
 use Rattle.theory.proofs.Routes.{path_route, the_route}
 
@@ -203,40 +203,40 @@ module _ (R : Region) (len : ℕ) where
         left : List Bool
         left = stored g.ends.free (numbers ls) Γ.free
 
-        in_range_lem : (i : ℕ) → i < g.k → (at ls i).no < size
-        in_range_lem i h = let r = I.sized (at ls i) (all_at C.inside ls i ins (omega arith)) in omega arith
+        in_range : (i : ℕ) → i < g.k → (at ls i).no < size
+        in_range i h = let r = I.sized (at ls i) (all_at C.inside ls i ins (omega arith)) in omega arith
 
         same : (i j : ℕ) → i < g.k → j < g.k → (σ (at ls i)).no ≡ (σ (at ls j)).no → i ≡ j
-        same i j h h' r = distinct_places ls i j u (omega arith) (omega arith) (A.apart (at ls i) (at ls j) (in_range_lem i h) (in_range_lem j h') r)
+        same i j h h' r = distinct_places ls i j u (omega arith) (omega arith) (A.apart (at ls i) (at ls j) (in_range i h) (in_range j h') r)
 
         apart : Apart g.k τ
-        apart = record { apart = λ i j h h' r. same i.no j.no h h' r; room = λ i h. A.room (at ls i.no) (in_range_lem i.no h) }
+        apart = record { apart = λ i j h h' r. same i.no j.no h h' r; room = λ i h. A.room (at ls i.no) (in_range i.no h) }
 
         start : (i : ℕ) → i < g.k → Dec (i < length xs)
             → get_or (replicate g.m false ++ replicate (g.k - g.m) true) i false ≡ get_or L (σ (at ls i)).no false
         start i h (yes d) =
-            entry_taken g.m (g.k - g.m) i (omega arith) ∙ sym (I.taken _ (at ls i) (argument_at_lem xs ls i a d)) ∙ x (at ls i) (in_range_lem i h)
+            entry_taken g.m (g.k - g.m) i (omega arith) ∙ sym (I.taken _ (at ls i) (argument_at xs ls i a d)) ∙ x (at ls i) (in_range i h)
         start i h (no d) =
             entry_rest g.m (g.k - g.m) i (omega arith) (omega arith)
-            ∙ sym (drop_at (λ l. get_or Γ.free l.no false) (length xs) ls i w (omega arith) (omega arith)) ∙ x (at ls i) (in_range_lem i h)
+            ∙ sym (drop_at (λ l. get_or Γ.free l.no false) (length xs) ls i w (omega arith) (omega arith)) ∙ x (at ls i) (in_range i h)
 
         exact : (M : List Bool) → After g.k τ g.ends.free L (commands_at τ g.commands) M → (r : Place s) → r.no < size
             → ((i : ℕ) × (i < length ls) × (at ls i ≡ r)) ⊎ ((i : ℕ) → i < length ls → (at ls i).no ≢ r.no)
             → get_or left r.no false ≡ get_or M (σ r).no false
         exact M P r h (inl c) =
             let b : c.0 < g.k = omega (arith, c.1) in
-            let one = stored_place g.ends.free ls Γ.free c.0 u (N.free_size ∙ sym k) c.1 (omega (arith, in_range_lem c.0 b)) in
+            let one = stored_place g.ends.free ls Γ.free c.0 u (N.free_size ∙ sym k) c.1 (omega (arith, in_range c.0 b)) in
             subst (λ (t : Place s). get_or left t.no false ≡ get_or M (σ t).no false) c.2 (one ∙ P.exact (param c.0) b)
         exact M P r h (inr c) =
             stored_other_place g.ends.free ls Γ.free r c ∙ x r h
-            ∙ sym (P.outside (σ r).no (λ i j t. c i.no (omega arith) (A.apart (at ls i.no) r (in_range_lem i.no j) h t)))
+            ∙ sym (P.outside (σ r).no (λ i j t. c i.no (omega arith) (A.apart (at ls i.no) r (in_range i.no j) h t)))
 
         after : (M : List Bool) → After g.k τ g.ends.free L (commands_at τ g.commands) M → After size σ left L (commands_at τ g.commands) M
         after M P = record {
           connects = P.connects;
           long = P.long;
           exact = λ r h. exact M P r h (find_place ls r);
-          outside = λ n h. P.outside n (λ i j. h (at ls i.no) (in_range_lem i.no j));
+          outside = λ n h. P.outside n (λ i j. h (at ls i.no) (in_range i.no j));
         }
 
     then_does : (fs : List Bool) {gs hs : List Bool} (c d : Commands s) → Effect size σ fs gs (commands_at σ c) → Effect size σ gs hs (commands_at σ d)

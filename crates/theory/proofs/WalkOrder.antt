@@ -60,8 +60,8 @@ turn_of_lem b j h = go (eqb b (16 * j)) refl h
     go true e h = omega (arith, eqb_true b (16 * j) e)
     go false e h = omega (arith, eqb_true b (16 * j + 1) h)
 
-is_turn_lem : (b j : ℕ) → b / 16 ≡ j → b % 16 ≤ 1 → turn_of b j ≡ true
-is_turn_lem b j p q = go (ℕ_discrete b (16 * j))
+is_turn : (b j : ℕ) → b / 16 ≡ j → b % 16 ≤ 1 → turn_of b j ≡ true
+is_turn b j p q = go (ℕ_discrete b (16 * j))
   where
     go : Dec (b ≡ 16 * j) → turn_of b j ≡ true
     go (yes e) = ap (λ (t : Bool). t || eqb b (16 * j + 1)) (eq-eqb b (16 * j) e)
@@ -83,7 +83,7 @@ is_named b i zero p q r = absurd (omega arith)
 is_named b i (suc n) p q r = go (ℕ_discrete (b / 16) i) λ p. is_named b (suc i) n p (omega arith) r
   where
     go : Dec (b / 16 ≡ i) → (suc i ≤ b / 16 → any (turn_of b) (up_to (suc i) n λ j. j) ≡ true) → any (turn_of b) (up_to i (suc n) λ j. j) ≡ true
-    go (yes e) rest = ap (λ (t : Bool). t || any (turn_of b) (up_to (suc i) n λ j. j)) (is_turn_lem b i e r)
+    go (yes e) rest = ap (λ (t : Bool). t || any (turn_of b) (up_to (suc i) n λ j. j)) (is_turn b i e r)
     go (no e) rest = or_right (turn_of b i) (any (turn_of b) (up_to (suc i) n λ j. j)) (rest (omega arith))
 
 -- two tests that pass at the same time are the same

@@ -35,10 +35,10 @@ data GoodRow : Row → Type 0 where
   good_calls : {w : Text} → GoodRow (record { name = w; operands = Callee ∷ CalleeK ∷ CalleeM ∷ []; meaning = calls })
 
 -- the same as a function, so that the row that is asked for says which operation it is
-simple_row_lem : {w : Text} {os : List Operand} {f : (d : Side) → (ℕ → ℕ) → Op d}
+simple_row : {w : Text} {os : List Operand} {f : (d : Side) → (ℕ → ℕ) → Op d}
     → ((s : List ℕ) (S : Scope) (i : ℕ) (d : Side) → AllFit s S i 1 os → OpRead S (f d λ n. byte s (i + n)))
     → GoodRow (record { name = w; operands = os; meaning = simple f })
-simple_row_lem h = good_simple h
+simple_row h = good_simple h
 
 -- each row of a list is
 data AllGood : List Row → Type 0 where
@@ -52,19 +52,19 @@ g then gs = a_row g gs
 -- the table's rows, in its order
 table_good : AllGood table
 table_good =
-    simple_row_lem (λ s S i d h. (h.0, h.1.0))
-    then simple_row_lem (λ s S i d h. (h.0, h.1.0))
-    then simple_row_lem (λ s S i d h. h.0)
-    then simple_row_lem (λ s S i d h. (h.0, h.1.0))
-    then simple_row_lem (λ s S i d h. (h.0, h.1.0, h.1.1.0))
-    then simple_row_lem (λ s S i d h. (h.0, h.1.0, h.1.1.0, h.1.1.1.0, h.1.1.1.1.0))
-    then simple_row_lem (λ s S i d h. (h.0, h.1.0))
-    then simple_row_lem (λ s S i d h. (h.0, h.1.0))
-    then simple_row_lem (λ s S i d h. (h.0, h.1.0))
+    simple_row (λ s S i d h. (h.0, h.1.0))
+    then simple_row (λ s S i d h. (h.0, h.1.0))
+    then simple_row (λ s S i d h. h.0)
+    then simple_row (λ s S i d h. (h.0, h.1.0))
+    then simple_row (λ s S i d h. (h.0, h.1.0, h.1.1.0))
+    then simple_row (λ s S i d h. (h.0, h.1.0, h.1.1.0, h.1.1.1.0, h.1.1.1.1.0))
+    then simple_row (λ s S i d h. (h.0, h.1.0))
+    then simple_row (λ s S i d h. (h.0, h.1.0))
+    then simple_row (λ s S i d h. (h.0, h.1.0))
     then good_branches
     then good_loops
     then good_calls
-    then simple_row_lem (λ s S i d h. h.0)
+    then simple_row (λ s S i d h. h.0)
     then no_row
 
 -- a byte's row, where it has one, is one of them
@@ -95,14 +95,14 @@ module _ (s : List ℕ) (d : Side) (S : Scope) (i : ℕ) where
   abbrev call_place : ℕ → Place d
   call_place n = record { no = byte s n }
 
-  abbrev call_places_lem : List (Place d)
-  call_places_lem = up_to (i + 4) call_k call_place
+  abbrev call_places : List (Place d)
+  call_places = up_to (i + 4) call_k call_place
 
-  abbrev call_slots_lem : List ℕ
-  call_slots_lem = up_to (i + 4 + call_k) call_m (byte s)
+  abbrev call_slots : List ℕ
+  call_slots = up_to (i + 4 + call_k) call_m (byte s)
 
   called : AllFit s S i 1 (Callee ∷ CalleeK ∷ CalleeM ∷ []) → AllFit s S i 4 (replicate call_k Location ++ replicate call_m Slot)
-      → CallRead S (byte s (i + 1)) call_places_lem call_slots_lem
+      → CallRead S (byte s (i + 1)) call_places call_slots
   called h r = record {
     earlier = h.0;
     locations = length_up_to (i + 4) call_k call_place ∙ h.1.0;
@@ -117,19 +117,19 @@ module _ (s : List ℕ) (d : Side) (S : Scope) (i : ℕ) where
       halves : AllFit s S i 4 (replicate call_k Location) × AllFit s S i first_slot (replicate call_m Slot)
       halves = split_fit s S i 4 (replicate call_k Location) (replicate call_m Slot) r
 
-      at_place : (j : ℕ) → j < call_k → (at call_places_lem j).no < S.places
+      at_place : (j : ℕ) → j < call_k → (at call_places j).no < S.places
       at_place j l = rw (get_d_up_to (i + 4) call_k j call_place (record { no = 0 }) l) (each_fits s S i 4 call_k Location halves.0 j l)
 
-      at_slot : (j : ℕ) → j < call_m → get_or call_slots_lem j 0 < 32
+      at_slot : (j : ℕ) → j < call_m → get_or call_slots j 0 < 32
       at_slot j l =
           let e : i + first_slot + j ≡ i + 4 + call_k + j = omega (arith, length-replicate call_k Location) in
           rw (get_d_up_to (i + 4 + call_k) call_m j (byte s) 0 l)
           (subst (λ (n : ℕ). byte s n < 32) e (each_fits s S i first_slot call_m Slot halves.1 j l))
 
-  called_read : (n : ℕ) → CallRead S (byte s (i + 1)) call_places_lem call_slots_lem
-      → StatementRead S n i (i + 4 + call_k + call_m) (call i (byte s (i + 1)) call_places_lem call_slots_lem)
+  called_read : (n : ℕ) → CallRead S (byte s (i + 1)) call_places call_slots
+      → StatementRead S n i (i + 4 + call_k + call_m) (call i (byte s (i + 1)) call_places call_slots)
   called_read n c =
-      call_of S n i (byte s (i + 1)) call_k call_m call_places_lem call_slots_lem (length_up_to (i + 4) call_k _) (length_up_to (i + 4 + call_k) call_m _) c
+      call_of S n i (byte s (i + 1)) call_k call_m call_places call_slots (length_up_to (i + 4) call_k _) (length_up_to (i + 4 + call_k) call_m _) c
 
 -- what is shown of a block read, and of a statement read, from i on in a block that ends at e, with n depths left
 abbrev BlockIn : {d : Side} → Scope → ℕ → ℕ → ℕ → Read (Block d) → Type 0
@@ -158,8 +158,8 @@ module _ (s : List ℕ) (d : Side) (S : Scope) where
         holds_then (operands_fit s S i 4 (replicate (byte s (i + 2)) Location ++ replicate (byte s (i + 3)) Slot)) λ v t.
         by (called_read s d S i n (called s d S i h t), omega arith, at_most (i + 4 + byte s (i + 2) + byte s (i + 3)) e a)
 
-    statement_in_lem : (i e : ℕ) → Holds (StatementIn S n i e) (statement s d S inner i e)
-    statement_in_lem i e =
+    statement_in : (i e : ℕ) → Holds (StatementIn S n i e) (statement s d S inner i e)
+    statement_in i e =
         holds_bind (good_row (byte s i) i) λ r g.
         holds_then (holds_need (leb (i + size r) e) 8 i) λ u l.
         holds_then (operands_fit s S i 1 r.operands) λ v h.
@@ -174,7 +174,7 @@ module _ (s : List ℕ) (d : Side) (S : Scope) where
     statements_in zero i e l m = by (none_left i e (omega arith))
     statements_in (suc more) i e l m =
         holds_choice (ltb i e) (λ h. by (none_left i e (omega (arith, not_below i e h)))) λ h.
-        holds_bind (statement_in_lem i e) λ t u.
+        holds_bind (statement_in i e) λ t u.
         holds_bind (statements_in more t.next e u.2 (omega arith)) λ ts v.
         by (next_read u.0 v)
 

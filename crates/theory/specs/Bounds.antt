@@ -18,7 +18,7 @@ job_named (Program j) = j
 pub record Given (r : Refusal) : Type 0 where
   pub from_1 : 1 ≤ r.number
   pub to_26 : r.number ≤ 26
-  pub in_file_lem : r.place ≤ 4096
+  pub in_file : r.place ≤ 4096
   pub named : job_named r.file ≤ 2
 
 -- the value of a check has one property, its refusal another

@@ -16,7 +16,7 @@ use Rattle.rules.specs.Unlisting.{Sofar, State, fresh, sofar, sized, least, line
 use Rattle.trips.proofs.Grammars.{none_not_some}
 use Rattle.trips.proofs.Reading.{run, ran}
 use Rattle.trips.proofs.Raw.{length_sized, fork, loop, Raws, end, raws_bytes, raws_lines, good_fork, good_loop, Goods, good_end, RawProgram, heads}
-use Rattle.trips.proofs.Raw.{functions_bytes, program_bytes, raw_program_lines, no_functions_lem, GoodProgram, RunsBack}
+use Rattle.trips.proofs.Raw.{functions_bytes, program_bytes, raw_program_lines, no_functions, GoodProgram, RunsBack}
 use Rattle.trips.proofs.Running.{state, same, closed, closes_file, length_heads}
 use Rattle.trips.proofs.Took.{took_one, took_word, took_stop}
 use Rattle.trips.proofs.More.{snoc, snoc_good, functions_good_snoc}
@@ -93,7 +93,7 @@ complete (in_second c qs b xs q) d rs (good_in_second g hs r row e o gq) gs f =
 
 -- the empty program completes what is before the first function
 empty_good : GoodProgram (record { functions = []; main = end })
-empty_good = record { few = omega arith; functions = no_functions_lem; main = good_end; short = omega arith }
+empty_good = record { few = omega arith; functions = no_functions; main = good_end; short = omega arith }
 
 abbrev Backed : List Line → State → Type 0
 Backed ls σ =
@@ -117,7 +117,7 @@ from_start [] σ h =
     (record { functions = []; main = end }, (main ∷ []) ∷ [], empty_good, refl, λ z u. none_not_some (ap file v ∙ u))
 from_start (l ∷ ls) σ h =
     let r : (p : Sofar) × (takes_one (lines (sofar program_begun)) l ≡ some p) × (run (sofar p) ls ≡ some σ) = ran (sofar program_begun) σ l ls h in
-    let n : Next ((program ∷ decimal 1 ∷ []) ∷ l ∷ []) r.0 = top_next [] no_functions_lem (omega arith) (omega arith) l r.0 r.1 in
+    let n : Next ((program ∷ decimal 1 ∷ []) ∷ l ∷ []) r.0 = top_next [] no_functions (omega arith) (omega arith) l r.0 r.1 in
     let t = all_next ls n.0 n.1 n.2 n.3 n.4 r.0 n.5 n.7 σ r.2 in
     backed ((program ∷ decimal 1 ∷ []) ∷ l ∷ ls) t.0 σ t.1
     (subst (λ (z : List Line). Next z t.0) (ap (λ (z : List Line). z ++ ls) n.6) t.2)

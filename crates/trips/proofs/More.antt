@@ -9,7 +9,7 @@ use Rattle.rules.specs.Program.{Scope}
 use Rattle.rules.specs.Listing.{head_line, Line}
 use Rattle.rules.specs.Unlisting.{sized}
 use Rattle.trips.proofs.Raw.{Raw, Raws, end, ◌then◌, raw_bytes, raws_bytes, raw_lines, raws_lines, Good, Goods, good_end, good_then, RawFunction, head_of}
-use Rattle.trips.proofs.Raw.{heads, functions_bytes, raw_functions, GoodFunctions, no_functions_lem, a_function}
+use Rattle.trips.proofs.Raw.{heads, functions_bytes, raw_functions, GoodFunctions, no_functions, a_function}
 
 -- One tree more.
 abbrev pub snoc : Raws → Raw → Raws
@@ -58,7 +58,7 @@ pub functions_good_snoc : (hs : List Function) (fs : List RawFunction) (f : RawF
     → f.m ≤ f.k → Goods (record { places = f.k; earlier = hs ++ heads fs }) 7 f.body
     → GoodFunctions hs (fs ++ (f ∷ []))
 functions_good_snoc hs [] f g i j k b =
-    a_function i j k (subst (λ (z : List Function). Goods (record { places = f.k; earlier = z }) 7 f.body) (append-nil hs) b) no_functions_lem
+    a_function i j k (subst (λ (z : List Function). Goods (record { places = f.k; earlier = z }) 7 f.body) (append-nil hs) b) no_functions
 functions_good_snoc hs (t ∷ ts) f (a_function p q r s g) i j k b =
     a_function p q r s (functions_good_snoc (hs ++ (head_of t.k t.m ∷ [])) ts f g i j k
     (subst (λ (z : List Function). Goods (record { places = f.k; earlier = z }) 7 f.body)

@@ -31,7 +31,7 @@ use Rattle.trips.proofs.Rows.{head_spoken, is_operand, row_head, row_operands, r
 use Rattle.trips.proofs.Raw.{length_sized, sized_length, Raw, plain, called, fork, loop, Raws, end, ◌then◌, raw_bytes, raws_bytes, raw_line, raw_lines}
 use Rattle.trips.proofs.Raw.{raws_lines, Within, Ranged, Operands, Good, good_plain, good_called, good_fork, good_loop, Goods, good_end, good_then}
 use Rattle.trips.proofs.Raw.{RawFunction, RawProgram, head_of, heads, functions_bytes, program_bytes, raw_functions, raw_program_lines, GoodFunctions}
-use Rattle.trips.proofs.Raw.{no_functions_lem, a_function, GoodProgram, Reads}
+use Rattle.trips.proofs.Raw.{no_functions, a_function, GoodProgram, Reads}
 use Rattle.trips.proofs.Placed.{At, at_end, at_append, at_up_to, at_all, stub, stubbed, map_snoc, withins, ranged_operands}
 use Rattle.trips.proofs.Readback.{moved, fixed_line_lem, map_places}
 
@@ -328,7 +328,7 @@ module _ (s : List ℕ) (bytes : Bytes s) where
       by (refl, refl, at_most k 16 a, at_most m 8 (and_left (leb m 8) (leb m k) b), at_most m k (and_right (leb m 8) (leb m k) b))
 
   functions_raw : (n i : ℕ) (fs : List Function) → i ≤ length s → Holds (RawFunctions n fs i) (functions_at s n i fs)
-  functions_raw zero i fs l = by ([], [], sym (append-nil fs), refl, no_functions_lem, refl, l, sym (add-zero i), λ j. refl)
+  functions_raw zero i fs l = by ([], [], sym (append-nil fs), refl, no_functions, refl, l, sym (add-zero i), λ j. refl)
   functions_raw (suc n) i fs l =
       holds_then (holds_need (leb (i + 2) (length s)) 8 i) λ u h.
       holds_bind (header_raw i (byte s i) (byte s (i + 1))) λ H c.

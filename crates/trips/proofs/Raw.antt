@@ -306,7 +306,7 @@ raw_program_lines p = (program ∷ decimal 1 ∷ []) ∷ (raw_functions 0 p.func
 
 -- functions after those whose heads are fs
 pub data GoodFunctions : List Function → List RawFunction → Type 0 where
-  no_functions_lem : {fs : List Function} → GoodFunctions fs []
+  no_functions : {fs : List Function} → GoodFunctions fs []
   a_function : {fs : List Function} {f : RawFunction} {gs : List RawFunction} → f.k ≤ 16 → f.m ≤ 8 → f.m ≤ f.k
       → Goods (record { places = f.k; earlier = fs }) 7 f.body
       → GoodFunctions (fs ++ (head_of f.k f.m ∷ [])) gs → GoodFunctions fs (f ∷ gs)

@@ -99,8 +99,8 @@ places_mid (suc m) r (suc y) h k = places_mid m r y (omega arith) (omega arith)
 places_length : (m r : ℕ) → length (replicate m false ++ replicate r true) ≡ m + r
 places_length m r = length-append (replicate m false) (replicate r true) ∙ rw (length-replicate m false, length-replicate r true)
 
-places_at_lem : (m k y : ℕ) → m ≤ k → get_or (replicate m false ++ replicate (k - m) true) y false ≡ (ltb y k && not (ltb y m))
-places_at_lem m k y h = go (dec_lt y m) (dec_lt y k)
+places_at : (m k y : ℕ) → m ≤ k → get_or (replicate m false ++ replicate (k - m) true) y false ≡ (ltb y k && not (ltb y m))
+places_at m k y h = go (dec_lt y m) (dec_lt y k)
   where
     go : Dec (y < m) → Dec (y < k) → get_or (replicate m false ++ replicate (k - m) true) y false ≡ (ltb y k && not (ltb y m))
     go (yes l) d = rw (lt-ltb y m l, lt-ltb y k (omega arith)) (places_low m (k - m) y l)
@@ -114,7 +114,7 @@ entering_all {free} {i} {k} {m} {e} g p q h l a b r f = record {
   wide = places_length g.m (g.k - g.m) ∙ omega arith;
   slots = λ x n. slot_is x n (dec_lt x i);
   there = λ x j n z. there_is x j n z (dec_lt x i);
-  free = λ y. places_at_lem g.m g.k y (omega arith) ∙ rw (p, q) (sym (f y)) ∙ ap (λ s. has s y) (sym r.places);
+  free = λ y. places_at g.m g.k y (omega arith) ∙ rw (p, q) (sym (f y)) ∙ ap (λ s. has s y) (sym r.places);
 }
   where
     ls : List (Place parameter)

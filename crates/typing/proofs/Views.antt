@@ -10,7 +10,7 @@ use lib.ListN.{get_or, length}
 use Rattle.rules.specs.Basics.{up_to, byte}
 use Rattle.rules.specs.Syntax.{Side, Preparation, plain, magic, init, free, gate, measure, merge, new_ref, get_ref, set_ref, constant, Statement, op, if, while, call, Block, function}
 use Rattle.rules.specs.Program.{Scope}
-use Rattle.program.specs.In.{BlockIn, View, is_init_lem, is_magic, is_free, is_gate, is_measure, is_merge_lem, is_new, is_get, is_set, is_if, is_while, is_call_lem, is_bool_lem}
+use Rattle.program.specs.In.{BlockIn, View, is_init, is_magic, is_free, is_gate, is_measure, is_merge, is_new, is_get, is_set, is_if, is_while, is_call, is_bool}
 
 module _ {d : Side} (s : List ℕ) (S : Scope) (depths at : ℕ) (t : Statement d) (p : ℕ) where
   abbrev b : ℕ → ℕ
@@ -69,19 +69,19 @@ module _ {d : Side} (s : List ℕ) (S : Scope) (depths at : ℕ) where
   here t p n e h = subst (λ (i : ℕ). Shape s S depths at t p i) (sym e) h
 
   shape_of : {t : Statement d} {p : ℕ} → View s S depths at t p → Shape s S depths at t p (byte s at)
-  shape_of (is_init_lem e l x k) = here _ _ 1 e (plain, l, x, refl, refl)
+  shape_of (is_init e l x k) = here _ _ 1 e (plain, l, x, refl, refl)
   shape_of (is_magic e l x k) = here _ _ 2 e (magic, l, x, refl, refl)
   shape_of (is_free e l x) = here _ _ 3 e (l, x, refl, refl)
   shape_of (is_gate e l g x) = here _ _ 4 e (l, x, refl, refl)
   shape_of (is_measure e l y c x) = here _ _ 5 e (l, y, x, refl, refl)
-  shape_of (is_merge_lem e l y c x f z) = here _ _ 6 e (l, y, x, z, refl, refl)
+  shape_of (is_merge e l y c x f z) = here _ _ 6 e (l, y, x, z, refl, refl)
   shape_of (is_new e l r y) = here _ _ 7 e (l, r, y, refl, refl)
   shape_of (is_get e l y r) = here _ _ 8 e (l, y, r, refl, refl)
   shape_of (is_set e l r y) = here _ _ 9 e (l, r, y, refl, refl)
   shape_of (is_if e l y a c) = here _ _ 10 e (_, _, _, l, y, a, c, refl)
   shape_of (is_while e l r a) = here _ _ 11 e (_, l, r, a, refl)
-  shape_of (is_call_lem e l f k m ls xs) = here _ _ 12 e (record { fits = l; callee = f; k = k; m = m; slots = xs; is = refl; next = refl })
-  shape_of (is_bool_lem e l y v) = here _ _ 13 e (l, y, refl, refl)
+  shape_of (is_call e l f k m ls xs) = here _ _ 12 e (record { fits = l; callee = f; k = k; m = m; slots = xs; is = refl; next = refl })
+  shape_of (is_bool e l y v) = here _ _ 13 e (l, y, refl, refl)
 
 pub shape_at : {d : Side} {s : List ℕ} {S : Scope} {depths at : ℕ} {t : Statement d} {p : ℕ} (n : ℕ) → View s S depths at t p → byte s at ≡ n → Shape s S depths at t p n
 shape_at {s = s} {S} {depths} {at} {t} {p} n v e = subst (λ (i : ℕ). Shape s S depths at t p i) e (shape_of s S depths at v)

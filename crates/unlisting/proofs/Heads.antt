@@ -98,9 +98,9 @@ module _ (t : Text) (at end full n : ℕ) where
   unfolding FunctionWords
   function_not x q = λ g l. function_first Not x q g l
 
-  pub function_begun_lem : {r : Reading} → Expects t at end full (spelling 2) true r → r ≡ Begun → FunctionWords t at end full n Begun
+  pub function_begun : {r : Reading} → Expects t at end full (spelling 2) true r → r ≡ Begun → FunctionWords t at end full n Begun
   unfolding FunctionWords
-  function_begun_lem x q = λ g l. function_first Begun x q g l
+  function_begun x q = λ g l. function_first Begun x q g l
 
   pub function_number_not : {r u : Reading} {p : ℕ} → Expects t at end full (spelling 2) true r → r ≡ At p
       → Expects t p end full (spelling (26 + n)) true u

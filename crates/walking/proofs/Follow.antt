@@ -23,7 +23,7 @@ use Rattle.rules.specs.Figures.{BlockRule, T-Close, MainRule, T-Main}
 use Rattle.rules.proofs.Basics.{get_d_up_to_zero}
 use Rattle.rules.proofs.Tests.{eqb_same, eqb_other}
 use Rattle.theory.proofs.Base.{get_d_set_cases}
-use Rattle.theory.proofs.Places.{at_at, not_qubit, unbound_qubit, same_qubit, old_qubit, argument_at_lem}
+use Rattle.theory.proofs.Places.{at_at, not_qubit, unbound_qubit, same_qubit, old_qubit, argument_at}
 use Rattle.theory.proofs.Linear.{block_qubit}
 use Rattle.walking.specs.Walk.{Standing, Walker, put, walk_op, walk_statement, walk_statements, walk_block}
 use Rattle.walking.proofs.Sets.{walk_set, set_then}
@@ -71,7 +71,7 @@ module _ {s : Side} where
       each : (j : ℕ) (l : Place s) → j < length xs → slot left j ≡ qubit l → slot Γ.slots (get_or xs j 0) ≡ qubit l
       each j l r h =
           let k = kind_qubit ls (slot g.ends.slots j) l (sym (get_d_up_to_zero g.m j (λ i. kind_at ls (slot g.ends.slots i)) unbound (omega (arith, J.slots))) ∙ h) in
-          argument_at_lem xs ls j J.arguments r ∙ ap (λ (n : ℕ). qubit (at ls n)) (sym (ap (λ (p : Place parameter). p.no) (K.argument j k.0 k.1))) ∙ ap (λ (p : Place s). qubit p) (sym k.2)
+          argument_at xs ls j J.arguments r ∙ ap (λ (n : ℕ). qubit (at ls n)) (sym (ap (λ (p : Place parameter). p.no) (K.argument j k.0 k.1))) ∙ ap (λ (p : Place s). qubit p) (sym k.2)
 
   pub agrees_older : {σ : Place s → Place device} {Γ Δ : Env s} {f : ℕ → ℕ} → Older Γ Δ → Agrees σ Γ f → Agrees σ Δ f
   agrees_older O A = record { sits = λ x l h. A.sits x l (O.was x l h) }

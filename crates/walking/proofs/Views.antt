@@ -15,7 +15,7 @@ use Rattle.rules.specs.Region.{Region}
 use Rattle.rules.specs.Syntax.{Side, device, Place, Preparation, plain, magic, Op, init, free, merge, Statement, op, if, while, call, Block, function}
 use Rattle.rules.specs.Program.{Scope}
 use Rattle.rules.specs.Table.{size_of}
-use Rattle.program.specs.In.{BlockIn, View, is_init_lem, is_magic, is_free, is_gate, is_measure, is_merge_lem, is_new, is_get, is_set, is_if, is_while, is_call_lem, is_bool_lem}
+use Rattle.program.specs.In.{BlockIn, View, is_init, is_magic, is_free, is_gate, is_measure, is_merge, is_new, is_get, is_set, is_if, is_while, is_call, is_bool}
 use Rattle.walking.specs.Quiet.{Silent}
 use Rattle.walking.specs.Walk.{Standing, Walker, walk_op}
 
@@ -77,169 +77,169 @@ apart m n f e h = absurd (eqb-false m n f (sym e ∙ h))
 -- an init
 pub view_init : {d : Side} {s : List ℕ} {S : Scope} {depths at q : ℕ} {t : Statement d} → View s S depths at t q → byte s at < 3
     → IsInit s S at t q
-view_init (is_init_lem e l a b) h = record { prepared = plain; is = refl; next = refl; fits = l; slot = a; place = b }
+view_init (is_init e l a b) h = record { prepared = plain; is = refl; next = refl; fits = l; slot = a; place = b }
 view_init (is_magic e l a b) h = record { prepared = magic; is = refl; next = refl; fits = l; slot = a; place = b }
 view_init (is_free e l a) h = absurd (omega arith)
 view_init (is_gate e l a b) h = absurd (omega arith)
 view_init (is_measure e l a b k) h = absurd (omega arith)
-view_init (is_merge_lem e l a b k f g) h = absurd (omega arith)
+view_init (is_merge e l a b k f g) h = absurd (omega arith)
 view_init (is_new e l a b) h = absurd (omega arith)
 view_init (is_get e l a b) h = absurd (omega arith)
 view_init (is_set e l a b) h = absurd (omega arith)
 view_init (is_if e l a b k) h = absurd (omega arith)
 view_init (is_while e l a b) h = absurd (omega arith)
-view_init (is_call_lem e l a b k f g) h = absurd (omega arith)
-view_init (is_bool_lem e l a b) h = absurd (omega arith)
+view_init (is_call e l a b k f g) h = absurd (omega arith)
+view_init (is_bool e l a b) h = absurd (omega arith)
 
 -- a free
 pub view_free : {d : Side} {s : List ℕ} {S : Scope} {depths at q : ℕ} {t : Statement d} → View s S depths at t q → byte s at ≡ 3
     → IsFree s at t q
-view_free (is_init_lem e l a b) h = apart 1 3 refl e h
+view_free (is_init e l a b) h = apart 1 3 refl e h
 view_free (is_magic e l a b) h = apart 2 3 refl e h
 view_free (is_free e l a) h = record { is = refl; next = refl; fits = l; slot = a }
 view_free (is_gate e l a b) h = apart 4 3 refl e h
 view_free (is_measure e l a b k) h = apart 5 3 refl e h
-view_free (is_merge_lem e l a b k f g) h = apart 6 3 refl e h
+view_free (is_merge e l a b k f g) h = apart 6 3 refl e h
 view_free (is_new e l a b) h = apart 7 3 refl e h
 view_free (is_get e l a b) h = apart 8 3 refl e h
 view_free (is_set e l a b) h = apart 9 3 refl e h
 view_free (is_if e l a b k) h = apart 10 3 refl e h
 view_free (is_while e l a b) h = apart 11 3 refl e h
-view_free (is_call_lem e l a b k f g) h = apart 12 3 refl e h
-view_free (is_bool_lem e l a b) h = apart 13 3 refl e h
+view_free (is_call e l a b k f g) h = apart 12 3 refl e h
+view_free (is_bool e l a b) h = apart 13 3 refl e h
 
 -- a merge
 pub view_merge : {d : Side} {s : List ℕ} {S : Scope} {depths at q : ℕ} {t : Statement d} → View s S depths at t q → byte s at ≡ 6
     → IsMerge s at t q
-view_merge (is_init_lem e l a b) h = apart 1 6 refl e h
+view_merge (is_init e l a b) h = apart 1 6 refl e h
 view_merge (is_magic e l a b) h = apart 2 6 refl e h
 view_merge (is_free e l a) h = apart 3 6 refl e h
 view_merge (is_gate e l a b) h = apart 4 6 refl e h
 view_merge (is_measure e l a b k) h = apart 5 6 refl e h
-view_merge (is_merge_lem e l a b k f g) h = record { is = refl; next = refl; fits = l; first = k; second = g }
+view_merge (is_merge e l a b k f g) h = record { is = refl; next = refl; fits = l; first = k; second = g }
 view_merge (is_new e l a b) h = apart 7 6 refl e h
 view_merge (is_get e l a b) h = apart 8 6 refl e h
 view_merge (is_set e l a b) h = apart 9 6 refl e h
 view_merge (is_if e l a b k) h = apart 10 6 refl e h
 view_merge (is_while e l a b) h = apart 11 6 refl e h
-view_merge (is_call_lem e l a b k f g) h = apart 12 6 refl e h
-view_merge (is_bool_lem e l a b) h = apart 13 6 refl e h
+view_merge (is_call e l a b k f g) h = apart 12 6 refl e h
+view_merge (is_bool e l a b) h = apart 13 6 refl e h
 
 -- an if
 pub view_if : {d : Side} {s : List ℕ} {S : Scope} {depths at q : ℕ} {t : Statement d} → View s S depths at t q → byte s at ≡ 10
     → IsIf s S depths at t q
-view_if (is_init_lem e l a b) h = apart 1 10 refl e h
+view_if (is_init e l a b) h = apart 1 10 refl e h
 view_if (is_magic e l a b) h = apart 2 10 refl e h
 view_if (is_free e l a) h = apart 3 10 refl e h
 view_if (is_gate e l a b) h = apart 4 10 refl e h
 view_if (is_measure e l a b k) h = apart 5 10 refl e h
-view_if (is_merge_lem e l a b k f g) h = apart 6 10 refl e h
+view_if (is_merge e l a b k f g) h = apart 6 10 refl e h
 view_if (is_new e l a b) h = apart 7 10 refl e h
 view_if (is_get e l a b) h = apart 8 10 refl e h
 view_if (is_set e l a b) h = apart 9 10 refl e h
 view_if (is_if e l a b k) h = record { then_block_lem = _; else_block_lem = _; middle = _; is = refl; first = b; second = k }
 view_if (is_while e l a b) h = apart 11 10 refl e h
-view_if (is_call_lem e l a b k f g) h = apart 12 10 refl e h
-view_if (is_bool_lem e l a b) h = apart 13 10 refl e h
+view_if (is_call e l a b k f g) h = apart 12 10 refl e h
+view_if (is_bool e l a b) h = apart 13 10 refl e h
 
 -- a while
 pub view_while : {d : Side} {s : List ℕ} {S : Scope} {depths at q : ℕ} {t : Statement d} → View s S depths at t q → byte s at ≡ 11
     → IsWhile s S depths at t q
-view_while (is_init_lem e l a b) h = apart 1 11 refl e h
+view_while (is_init e l a b) h = apart 1 11 refl e h
 view_while (is_magic e l a b) h = apart 2 11 refl e h
 view_while (is_free e l a) h = apart 3 11 refl e h
 view_while (is_gate e l a b) h = apart 4 11 refl e h
 view_while (is_measure e l a b k) h = apart 5 11 refl e h
-view_while (is_merge_lem e l a b k f g) h = apart 6 11 refl e h
+view_while (is_merge e l a b k f g) h = apart 6 11 refl e h
 view_while (is_new e l a b) h = apart 7 11 refl e h
 view_while (is_get e l a b) h = apart 8 11 refl e h
 view_while (is_set e l a b) h = apart 9 11 refl e h
 view_while (is_if e l a b k) h = apart 10 11 refl e h
 view_while (is_while e l a b) h = record { inner = _; is = refl; first = b }
-view_while (is_call_lem e l a b k f g) h = apart 12 11 refl e h
-view_while (is_bool_lem e l a b) h = apart 13 11 refl e h
+view_while (is_call e l a b k f g) h = apart 12 11 refl e h
+view_while (is_bool e l a b) h = apart 13 11 refl e h
 
 -- a call
 pub view_call : {d : Side} {s : List ℕ} {S : Scope} {depths at q : ℕ} {t : Statement d} → View s S depths at t q → byte s at ≡ 12
     → IsCall s S at t q
-view_call (is_init_lem e l a b) h = apart 1 12 refl e h
+view_call (is_init e l a b) h = apart 1 12 refl e h
 view_call (is_magic e l a b) h = apart 2 12 refl e h
 view_call (is_free e l a) h = apart 3 12 refl e h
 view_call (is_gate e l a b) h = apart 4 12 refl e h
 view_call (is_measure e l a b k) h = apart 5 12 refl e h
-view_call (is_merge_lem e l a b k f g) h = apart 6 12 refl e h
+view_call (is_merge e l a b k f g) h = apart 6 12 refl e h
 view_call (is_new e l a b) h = apart 7 12 refl e h
 view_call (is_get e l a b) h = apart 8 12 refl e h
 view_call (is_set e l a b) h = apart 9 12 refl e h
 view_call (is_if e l a b k) h = apart 10 12 refl e h
 view_call (is_while e l a b) h = apart 11 12 refl e h
-view_call (is_call_lem e l a b k f g) h = record { is = refl; next = refl; fits = l; callee = a; ks = b; places = f }
-view_call (is_bool_lem e l a b) h = apart 13 12 refl e h
+view_call (is_call e l a b k f g) h = record { is = refl; next = refl; fits = l; callee = a; ks = b; places = f }
+view_call (is_bool e l a b) h = apart 13 12 refl e h
 
 -- a measurement
 pub view_measure : {d : Side} {s : List ℕ} {S : Scope} {depths at q : ℕ} {t : Statement d} → View s S depths at t q → byte s at ≡ 5
     → (q ≡ at + 4) × (at + 4 ≤ length s)
-view_measure (is_init_lem e l a b) h = apart 1 5 refl e h
+view_measure (is_init e l a b) h = apart 1 5 refl e h
 view_measure (is_magic e l a b) h = apart 2 5 refl e h
 view_measure (is_free e l a) h = apart 3 5 refl e h
 view_measure (is_gate e l a b) h = apart 4 5 refl e h
 view_measure (is_measure e l a b k) h = (refl, l)
-view_measure (is_merge_lem e l a b k f g) h = apart 6 5 refl e h
+view_measure (is_merge e l a b k f g) h = apart 6 5 refl e h
 view_measure (is_new e l a b) h = apart 7 5 refl e h
 view_measure (is_get e l a b) h = apart 8 5 refl e h
 view_measure (is_set e l a b) h = apart 9 5 refl e h
 view_measure (is_if e l a b k) h = apart 10 5 refl e h
 view_measure (is_while e l a b) h = apart 11 5 refl e h
-view_measure (is_call_lem e l a b k f g) h = apart 12 5 refl e h
-view_measure (is_bool_lem e l a b) h = apart 13 5 refl e h
+view_measure (is_call e l a b k f g) h = apart 12 5 refl e h
+view_measure (is_bool e l a b) h = apart 13 5 refl e h
 
 -- the statements of three bytes
 pub view_three : {d : Side} {s : List ℕ} {S : Scope} {depths at q : ℕ} {t : Statement d} → View s S depths at t q → byte s at ≢ 3 → byte s at ≢ 5 → byte s at ≢ 6 → byte s at ≢ 10 → byte s at ≢ 11 → byte s at ≢ 12
     → (q ≡ at + 3) × (at + 3 ≤ length s)
-view_three (is_init_lem e l a b) n3 n5 n6 n10 n11 n12 = (refl, l)
+view_three (is_init e l a b) n3 n5 n6 n10 n11 n12 = (refl, l)
 view_three (is_magic e l a b) n3 n5 n6 n10 n11 n12 = (refl, l)
 view_three (is_free e l a) n3 n5 n6 n10 n11 n12 = absurd (n3 e)
 view_three (is_gate e l a b) n3 n5 n6 n10 n11 n12 = (refl, l)
 view_three (is_measure e l a b k) n3 n5 n6 n10 n11 n12 = absurd (n5 e)
-view_three (is_merge_lem e l a b k f g) n3 n5 n6 n10 n11 n12 = absurd (n6 e)
+view_three (is_merge e l a b k f g) n3 n5 n6 n10 n11 n12 = absurd (n6 e)
 view_three (is_new e l a b) n3 n5 n6 n10 n11 n12 = (refl, l)
 view_three (is_get e l a b) n3 n5 n6 n10 n11 n12 = (refl, l)
 view_three (is_set e l a b) n3 n5 n6 n10 n11 n12 = (refl, l)
 view_three (is_if e l a b k) n3 n5 n6 n10 n11 n12 = absurd (n10 e)
 view_three (is_while e l a b) n3 n5 n6 n10 n11 n12 = absurd (n11 e)
-view_three (is_call_lem e l a b k f g) n3 n5 n6 n10 n11 n12 = absurd (n12 e)
-view_three (is_bool_lem e l a b) n3 n5 n6 n10 n11 n12 = (refl, l)
+view_three (is_call e l a b k f g) n3 n5 n6 n10 n11 n12 = absurd (n12 e)
+view_three (is_bool e l a b) n3 n5 n6 n10 n11 n12 = (refl, l)
 
 -- what the walk passes over
 pub view_quiet : {d : Side} {s : List ℕ} {S : Scope} {depths at q : ℕ} {t : Statement d} → View s S depths at t q → 3 ≤ byte s at → byte s at ≢ 3 → byte s at ≢ 6 → ((9 < byte s at) × (byte s at < 13) → ⊥)
     → IsQuiet at t
 unfolding walk_op
-view_quiet (is_init_lem e l a b) m n3 n6 n = absurd (omega arith)
+view_quiet (is_init e l a b) m n3 n6 n = absurd (omega arith)
 view_quiet (is_magic e l a b) m n3 n6 n = absurd (omega arith)
 view_quiet (is_free e l a) m n3 n6 n = absurd (n3 e)
 view_quiet (is_gate e l a b) m n3 n6 n = record { act = _; is = refl; still = λ R W σ st. refl }
 view_quiet (is_measure e l a b k) m n3 n6 n = record { act = _; is = refl; still = λ R W σ st. refl }
-view_quiet (is_merge_lem e l a b k f g) m n3 n6 n = absurd (n6 e)
+view_quiet (is_merge e l a b k f g) m n3 n6 n = absurd (n6 e)
 view_quiet (is_new e l a b) m n3 n6 n = record { act = _; is = refl; still = λ R W σ st. refl }
 view_quiet (is_get e l a b) m n3 n6 n = record { act = _; is = refl; still = λ R W σ st. refl }
 view_quiet (is_set e l a b) m n3 n6 n = record { act = _; is = refl; still = λ R W σ st. refl }
 view_quiet (is_if e l a b k) m n3 n6 n = absurd (n (omega arith))
 view_quiet (is_while e l a b) m n3 n6 n = absurd (n (omega arith))
-view_quiet (is_call_lem e l a b k f g) m n3 n6 n = absurd (n (omega arith))
-view_quiet (is_bool_lem e l a b) m n3 n6 n = record { act = _; is = refl; still = λ R W σ st. refl }
+view_quiet (is_call e l a b k f g) m n3 n6 n = absurd (n (omega arith))
+view_quiet (is_bool e l a b) m n3 n6 n = record { act = _; is = refl; still = λ R W σ st. refl }
 
 -- and its size, by the table
 pub view_size : {d : Side} {s : List ℕ} {S : Scope} {depths at q : ℕ} {t : Statement d} → View s S depths at t q → Silent (byte s at) → q ≡ at + size_of (byte s at)
-view_size (is_init_lem e l a b) z = absurd (omega (arith, e, z.above))
+view_size (is_init e l a b) z = absurd (omega (arith, e, z.above))
 view_size (is_magic e l a b) z = absurd (omega (arith, e, z.above))
 view_size (is_free e l a) z = absurd (omega (arith, e, z.above))
 view_size {at = at} (is_gate e l a b) z = ap (λ (o : ℕ). at + size_of o) (sym e)
 view_size {at = at} (is_measure e l a b k) z = ap (λ (o : ℕ). at + size_of o) (sym e)
-view_size (is_merge_lem e l a b k f g) z = absurd (z.no_merge e)
+view_size (is_merge e l a b k f g) z = absurd (z.no_merge e)
 view_size {at = at} (is_new e l a b) z = ap (λ (o : ℕ). at + size_of o) (sym e)
 view_size {at = at} (is_get e l a b) z = ap (λ (o : ℕ). at + size_of o) (sym e)
 view_size {at = at} (is_set e l a b) z = ap (λ (o : ℕ). at + size_of o) (sym e)
 view_size (is_if e l a b k) z = absurd (z.no_inner (omega arith))
 view_size (is_while e l a b) z = absurd (z.no_inner (omega arith))
-view_size (is_call_lem e l a b k f g) z = absurd (z.no_inner (omega arith))
-view_size {at = at} (is_bool_lem e l a b) z = ap (λ (o : ℕ). at + size_of o) (sym e)
+view_size (is_call e l a b k f g) z = absurd (z.no_inner (omega arith))
+view_size {at = at} (is_bool e l a b) z = ap (λ (o : ℕ). at + size_of o) (sym e)

@@ -3,7 +3,7 @@ use mathlib.Core.Path.{ap, ◌∙◌}
 use native.Mathlib.Omega.{arith}
 use Rattle.answers.specs.Check.{refused}
 use Rattle.program.proofs.In.{program_in}
-use Rattle.judge.proofs.Judged.{judgeable, sizes, sizes_fit, no_commands, too_many, no_path_lem, accepted}
+use Rattle.judge.proofs.Judged.{judgeable, sizes, sizes_fit, no_commands, too_many, no_path, accepted}
 use Rattle.judge.proofs.judge_typed.Goals as goal
 
 pub count_program-counted-requires : goal.count_program-counted-requires
@@ -38,4 +38,4 @@ returns-in-Refused c =
     let P = program_in s p e in
     let C = c.count_program-counted.ensures.counts p P t (sizes R p s e j) (sizes_fit R p s e j) in
     let walked = c.walk_program-walked.ensures p R j.typed j.derives P t O W (no_commands R p s e j _ C) in
-    no_path_lem R p s e j _ C (omega (arith, c.if-n-gt-MOST_COMMANDS.false)) _ (rw c.in-Refused.is at walked)
+    no_path R p s e j _ C (omega (arith, c.if-n-gt-MOST_COMMANDS.false)) _ (rw c.in-Refused.is at walked)

@@ -1,5 +1,5 @@
 -- A call has room for its lists, and a place where it has locations.
-use Rattle.standing.proofs.Counted.{call_no_room, call_no_locations, call_places_lem}
+use Rattle.standing.proofs.Counted.{call_no_room, call_no_locations, call_places}
 use Rattle.standing.proofs.rows.call_lives.Goals as goal
 
 pub returns-then-not-room : goal.returns-then-not-room
@@ -20,5 +20,5 @@ pub returns : goal.returns
 returns c =
     let r = c in
     let a = r.args in
-    call_places_lem a.c a.f r.unwritten-k.ensures r.unwritten-m.ensures r.room.ensures
+    call_places a.c a.f r.unwritten-k.ensures r.unwritten-m.ensures r.room.ensures
     c.if-not-room.false c.if-k-eq0.false

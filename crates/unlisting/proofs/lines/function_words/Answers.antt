@@ -2,7 +2,7 @@
 use native.Mathlib.Omega.{arith}
 use Rattle.reading.specs.Hearing.{Onto}
 use Rattle.unlisting.proofs.Said.{onto_at, onto_from}
-use Rattle.unlisting.proofs.Heads.{function_not, function_begun_lem, function_number_not, function_number_begun, function_locations}
+use Rattle.unlisting.proofs.Heads.{function_not, function_begun, function_number_not, function_number_begun, function_locations}
 use Rattle.unlisting.proofs.lines.function_words.Goals as goal
 
 pub expect-requires-in-At : goal.expect-requires-in-At
@@ -29,7 +29,7 @@ pub returns-in-Begun : goal.returns-in-Begun
 unfolding Onto
 returns-in-Begun c =
     record {
-      function_words = function_begun_lem _ _ _ _ _ c.expect.ensures.expects c.in-Begun.is;
+      function_words = function_begun _ _ _ _ _ c.expect.ensures.expects c.in-Begun.is;
       onto = tt;
     }
 

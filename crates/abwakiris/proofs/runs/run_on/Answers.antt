@@ -9,7 +9,19 @@ use Rattle.machine.proofs.Scheduling.{may_run}
 use Rattle.abwakiris.specs.Runs.{ended}
 use Rattle.abwakiris.proofs.CheckLaws.{program_gives, program_refuses}
 use Rattle.abwakiris.proofs.RunLaws.{Inputs, run_no_first, run_no_second, run_no_schedule, run_no_records, run_no_map, run_done}
+use mathlib.Core.List.{List}
+use Prim.Native.Nat.{ℕ}
+use Rattle.rules.specs.Device.{Device}
+use Rattle.rules.specs.declared.device.DeviceHeader.{DeviceHeader}
+use Rattle.device.specs.Reader.{Reads}
+use Rattle.machine.proofs.Scheduling.{Scheduled}
 use Rattle.abwakiris.proofs.runs.run_on.Goals as goal
+
+-- what the device, the two programs and the schedule are read to be, where none refuses
+inputs : (device first second schedule : List ℕ) (h : DeviceHeader) → (D : Device) × Reads device h D → (p : syntax.Program) × (read_program first ≡ ok p)
+    → (q : syntax.Program) × (read_program second ≡ ok q) → Scheduled schedule → Inputs device first second schedule
+inputs device first second schedule h d p q s =
+    record { D = d.0; p = p.0; q = q.0; reads = d.1.reads; first = p.1; second = q.1; may_run = s }
 
 pub returns-in-Refused : goal.returns-in-Refused
 returns-in-Refused c =
@@ -52,12 +64,7 @@ returns-then-records-schedule c =
     program_gives c.args.first.now 1 (rw c.in_default.is at c.read_program-one.ensures.answers) in
     let second-read : (p : syntax.Program) × (read_program c.args.second.now ≡ ok p) =
     program_gives c.args.second.now 2 (rw c.in_default-second_answer.is at c.read_program-two.ensures.answers) in
-    let all_read : Inputs c.args.device.now c.args.first.now c.args.second.now c.args.schedule.now =
-    let d = c.requires in
-    let p = first_read in
-    let q = second-read in
-    let s = may_run c.args.schedule.now (rw c.in_default-may.is at c.read_schedule-may.ensures) in
-    record { D = d.0; p = p.0; q = q.0; reads = d.1.reads; first = p.1; second = q.1; may_run = s } in
+    let all_read = inputs _ _ _ _ _ c.requires first_read second-read (may_run c.args.schedule.now (rw c.in_default-may.is at c.read_schedule-may.ensures)) in
     let t = c in
     let a = t.args in
     ap (λ x. ended (Refused x) a.records.now a.map.now) c.new.ensures
@@ -70,12 +77,7 @@ returns-then-map-h c =
     program_gives c.args.first.now 1 (rw c.in_default.is at c.read_program-one.ensures.answers) in
     let second-read : (p : syntax.Program) × (read_program c.args.second.now ≡ ok p) =
     program_gives c.args.second.now 2 (rw c.in_default-second_answer.is at c.read_program-two.ensures.answers) in
-    let all_read : Inputs c.args.device.now c.args.first.now c.args.second.now c.args.schedule.now =
-    let d = c.requires in
-    let p = first_read in
-    let q = second-read in
-    let s = may_run c.args.schedule.now (rw c.in_default-may.is at c.read_schedule-may.ensures) in
-    record { D = d.0; p = p.0; q = q.0; reads = d.1.reads; first = p.1; second = q.1; may_run = s } in
+    let all_read = inputs _ _ _ _ _ c.requires first_read second-read (may_run c.args.schedule.now (rw c.in_default-may.is at c.read_schedule-may.ensures)) in
     let t = c in
     let a = t.args in
     ap (λ x. ended (Refused x) a.records.now a.map.now) c.new-then-map-h.ensures
@@ -88,12 +90,7 @@ run-requires c =
     program_gives c.args.first.now 1 (rw c.in_default.is at c.read_program-one.ensures.answers) in
     let second-read : (p : syntax.Program) × (read_program c.args.second.now ≡ ok p) =
     program_gives c.args.second.now 2 (rw c.in_default-second_answer.is at c.read_program-two.ensures.answers) in
-    let all_read : Inputs c.args.device.now c.args.first.now c.args.second.now c.args.schedule.now =
-    let d = c.requires in
-    let p = first_read in
-    let q = second-read in
-    let s = may_run c.args.schedule.now (rw c.in_default-may.is at c.read_schedule-may.ensures) in
-    record { D = d.0; p = p.0; q = q.0; reads = d.1.reads; first = p.1; second = q.1; may_run = s } in
+    let all_read = inputs _ _ _ _ _ c.requires first_read second-read (may_run c.args.schedule.now (rw c.in_default-may.is at c.read_schedule-may.ensures)) in
     let t = c in
     let i = all_read in
     let one = t.read_program-one.ensures.tables in
@@ -117,12 +114,7 @@ returns c =
     program_gives c.args.first.now 1 (rw c.in_default.is at c.read_program-one.ensures.answers) in
     let second-read : (p : syntax.Program) × (read_program c.args.second.now ≡ ok p) =
     program_gives c.args.second.now 2 (rw c.in_default-second_answer.is at c.read_program-two.ensures.answers) in
-    let all_read : Inputs c.args.device.now c.args.first.now c.args.second.now c.args.schedule.now =
-    let d = c.requires in
-    let p = first_read in
-    let q = second-read in
-    let s = may_run c.args.schedule.now (rw c.in_default-may.is at c.read_schedule-may.ensures) in
-    record { D = d.0; p = p.0; q = q.0; reads = d.1.reads; first = p.1; second = q.1; may_run = s } in
+    let all_read = inputs _ _ _ _ _ c.requires first_read second-read (may_run c.args.schedule.now (rw c.in_default-may.is at c.read_schedule-may.ensures)) in
     let t = c in
     let a = t.args in
     let d = t.requires.1 in

@@ -1,7 +1,8 @@
-use mathlib.Core.Bool.{true}
+use mathlib.Core.Bool.{Bool, true, false}
+use mathlib.Core.List.{List}
 use mathlib.Core.Path.{◌≡◌, refl, sym, ap, ◌∙◌}
 use native.Mathlib.Omega.{arith}
-use Prim.Native.Nat.{ℕ, ◌+◌, ◌<◌}
+use Prim.Native.Nat.{ℕ, ◌+◌, ◌≤◌, ◌<◌}
 use borrow.Author.Tests.{eq-eqb, ne_eqb}
 use lib.Dec.{eqb}
 use lib.ListN.{length}
@@ -13,7 +14,17 @@ use Rattle.route.proofs.Hunt.{hunt_none, hunt_found, ends_hop}
 use Rattle.route.proofs.Sizes.{count, count_but_two}
 use Rattle.route.proofs.Swept.{spread_start}
 use Rattle.route.proofs.Turns.{Inner, inner_of, inner_first, inner_second, ends_same}
+use Rattle.sets.specs.declared.LocationSet.{LocationSet}
+use Rattle.route.specs.declared.front.Front.{Front}
 use Rattle.route.proofs.search.search.Goals as goal
+
+-- the first level is what the second end is joined to, of the locations that are open
+first_level : (rows before hop : List ℕ) (b : ℕ) (left none : LocationSet) (f : Front)
+    → ((S L : ℕ → Bool) (h : List ℕ) (n : ℕ) → S b ≡ true → n ≤ b → ((z : ℕ) → n ≤ z → z < b → S z ≡ false)
+    → Spread rows S n L h left none before → Spread rows S (b + 1) L h f.left f.next hop)
+    → ((y : ℕ) → has none y ≡ false) → Spread rows (λ z. eqb z b) (b + 1) (has left) before f.left f.next hop
+first_level rows before hop b left none f on empty =
+    on (λ z. eqb z b) _ _ 0 (eq-eqb b b refl) (omega arith) (λ z l h. ne_eqb z b (λ e. absurd (omega arith))) (spread_start (λ y. refl) empty)
 
 pub returns-then-a-b : goal.returns-then-a-b
 returns-then-a-b c =
@@ -36,18 +47,7 @@ returns-then-contains c =
 
 pub loop-first-init : goal.loop-first-init
 loop-first-init c =
-    let ends : c.args.a ≡ c.args.b → ⊥ =
-    c.if-a-b.false in
-    let level : Spread c.args.rows.now (λ z. eqb z c.args.b) (c.args.b + 1) (has c.remove-open.result)
-    c.args.hop.now c.reach-f.result.left c.reach-f.result.next c.reach-f.new.hop =
-    let b : ℕ = c.args.b in
-    c.reach-f.ensures.on (λ z. eqb z b) _ _ 0 (eq-eqb b b refl) (omega arith) (λ z l h. ne_eqb z b (λ e. absurd (omega arith)))
-    (spread_start (λ y. refl) c.empty-none.ensures) in
-    let level : Spread c.args.rows.now (λ z. eqb z c.args.b) (c.args.b + 1) (has c.remove-open.result)
-    c.args.hop.now c.reach-f.result.left c.reach-f.result.next c.reach-f.new.hop =
-    let b : ℕ = c.args.b in
-    c.reach-f.ensures.on (λ z. eqb z b) _ _ 0 (eq-eqb b b refl) (omega arith) (λ z l h. ne_eqb z b (λ e. absurd (omega arith)))
-    (spread_start (λ y. refl) c.empty-none.ensures) in
+    let level = first_level _ _ _ _ _ _ _ c.reach-f.ensures.on c.empty-none.ensures in
     let inner : Inner (has c.args.free) c.args.a c.args.b (whole c.reach-f.result.left c.reach-f.result.next) =
     let r = c.remove in
     let s = c.remove-open in
@@ -60,7 +60,7 @@ loop-first-init c =
     let i = inner in
     let o : Inner (has d.args.free) d.args.a d.args.b (has s.result) = inner_of r.result s.result r.ensures s.ensures in
     let e = sym c.contains.ensures ∙ c.if-contains.false in
-    let n = count_but_two (whole f.left f.next) 256 d.args.a d.args.b d.requires.a_bound.0 d.requires.a_bound.1 ends (inner_first i) (inner_second i) in (
+    let n = count_but_two (whole f.left f.next) 256 d.args.a d.args.b d.requires.a_bound.0 d.requires.a_bound.1 c.if-a-b.false (inner_first i) (inner_second i) in (
       c.reach-f.ensures.long,
       omega arith,
       spread_apart level,
@@ -69,11 +69,7 @@ loop-first-init c =
 
 pub returns-then-is_empty : goal.returns-then-is_empty
 returns-then-is_empty c =
-    let level : Spread c.args.rows.now (λ z. eqb z c.args.b) (c.args.b + 1) (has c.remove-open.result)
-    c.args.hop.now c.reach-f.result.left c.reach-f.result.next c.reach-f.new.hop =
-    let b : ℕ = c.args.b in
-    c.reach-f.ensures.on (λ z. eqb z b) _ _ 0 (eq-eqb b b refl) (omega arith) (λ z l h. ne_eqb z b (λ e. absurd (omega arith)))
-    (spread_start (λ y. refl) c.empty-none.ensures) in
+    let level = first_level _ _ _ _ _ _ _ c.reach-f.ensures.on c.empty-none.ensures in
     let inner : Inner (has c.args.free) c.args.a c.args.b (whole c.reach-f.result.left c.reach-f.result.next) =
     let r = c.remove in
     let s = c.remove-open in
@@ -98,13 +94,7 @@ bounds-hop-a-then-not-is_empty c = omega (arith, c.requires.a_bound.0)
 
 pub returns-then-not-is_empty : goal.returns-then-not-is_empty
 returns-then-not-is_empty c =
-    let ends : c.args.a ≡ c.args.b → ⊥ =
-    c.if-a-b.false in
-    let level : Spread c.args.rows.now (λ z. eqb z c.args.b) (c.args.b + 1) (has c.remove-open.result)
-    c.args.hop.now c.reach-f.result.left c.reach-f.result.next c.reach-f.new.hop =
-    let b : ℕ = c.args.b in
-    c.reach-f.ensures.on (λ z. eqb z b) _ _ 0 (eq-eqb b b refl) (omega arith) (λ z l h. ne_eqb z b (λ e. absurd (omega arith)))
-    (spread_start (λ y. refl) c.empty-none.ensures) in
+    let level = first_level _ _ _ _ _ _ _ c.reach-f.ensures.on c.empty-none.ensures in
     let inner : Inner (has c.args.free) c.args.a c.args.b (whole c.reach-f.result.left c.reach-f.result.next) =
     let r = c.remove in
     let s = c.remove-open in
@@ -119,7 +109,7 @@ returns-then-not-is_empty c =
     let n : length l.hop ≡ 256 = l.invariant.0 in
     let y = c.is_empty.ensures.by_index c.if-is_empty.false in
     let z = hunt_some l.f.left l.f.next y.0 y.1 in record {
-      b_value = (λ R w. hunt_found R inner t.result o.result c.first_from.result w (l.invariant.3 R w) ends t.ensures o.ensures
+      b_value = (λ R w. hunt_found R inner t.result o.result c.first_from.result w (l.invariant.3 R w) c.if-a-b.false t.ensures o.ensures
           c.first_from.ensures meets (omega (arith, d.requires.a_bound.0)));
       upper_bound = omega (arith, l.invariant.1);
     }

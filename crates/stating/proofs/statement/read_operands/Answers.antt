@@ -8,43 +8,38 @@ use Rattle.standing.proofs.Meaning.{means_small}
 use Rattle.stating.proofs.Operating.{written_first, silent_call, facing, operands_none, operands_length, first_small}
 use Rattle.stating.proofs.Operating.{operands_not, operands_begun, operands_unbegun, operands_above, operands_word}
 use Rattle.stating.proofs.Operating.{operands_silent, operands_as, operands_all}
+use Rattle.rules.specs.Unlisting.{Sofar}
+use Rattle.standing.specs.Means.{Means}
+use Rattle.standing.specs.declared.state.Standing.{Standing}
 use Rattle.stating.proofs.statement.read_operands.Goals as goal
 use Rattle.stating.proofs.statement.read_operands.Goals.{then-is_silent, else-is_silent+in-To+else-count-v, then-n-eq1, else-n-eq1}
+
+-- there are no more functions than a program may have
+few : {c : Standing} {p : Sofar} → Means c p → c.callees ≤ 15
+few mean = omega (arith, mean.callees, mean.heads.few)
 
 pub loop-n-init : goal.loop-n-init
 loop-n-init c = (omega arith, omega arith, omega arith, omega arith, operands_none _ _ _ _ _ _ _)
 
 pub unwritten-requires : goal.unwritten-requires
 unwritten-requires c =
-    let few : c.args.c.callees ≤ 15 =
-    let mean = c.requires.1.1 in omega (arith, mean.callees, mean.heads.few) in
-    let small : c.args.b ≡ 12 → c.loop-n.first < 16 =
-    first_small _ _ _ _ _ _ _ _ _ _ _ c.loop-n.invariant.4 few in
     let asked = c in
     let start = asked in
-    let face = facing _ _ _ _ _ _ asked.fixed_size-size.ensures.value asked.loop-n-test.true asked.operand_kind-kind.ensures asked.is_silent.ensures c.if-is_silent.true in
+    let face = facing _ _ _ _ _ _ c.fixed_size-size.ensures.value c.loop-n-test.true c.operand_kind-kind.ensures c.is_silent.ensures c.if-is_silent.true in
     let called = silent_call _ _ start.requires.2 start.requires.3 (omega arith) (omega arith) face.inside face.spoken in
-    small called.0
+    first_small _ _ _ _ _ _ _ _ _ _ _ c.loop-n.invariant.4 (few c.requires.1.1) called.0
 
 pub shape_of-out-in-Nothing : goal.shape_of-out-in-Nothing
-shape_of-out-in-Nothing c =
-    let kept : length c.loop-n.out ≡ length c.args.out.now =
-    operands_length _ _ _ _ _ _ _ _ _ _ _ c.loop-n.invariant.4 c.args.out.now c.args.c.used c.args.b
-    c.put.ensures in
-    kept
+shape_of-out-in-Nothing c = operands_length _ _ _ _ _ _ _ _ _ _ _ c.loop-n.invariant.4 c.args.out.now c.args.c.used c.args.b c.put.ensures
 
 pub returns-in-Nothing : goal.returns-in-Nothing
 unfolding Onto
 returns-in-Nothing c =
-    let few : c.args.c.callees ≤ 15 =
-    let mean = c.requires.1.1 in omega (arith, mean.callees, mean.heads.few) in
-    let small : c.args.b ≡ 12 → c.loop-n.first < 16 =
-    first_small _ _ _ _ _ _ _ _ _ _ _ c.loop-n.invariant.4 few in
     let next = c in
     let asked = next in record {
-      reads_operands = operands_not _ _ _ _ _ _ _ _ _ _ _ asked.loop-n.invariant.4 _ _ _ _ (facing _ _ _ _ _ _ asked.fixed_size-size.ensures.value asked.loop-n-test.true asked.operand_kind-kind.ensures asked.is_silent.ensures next.if-is_silent.false) c.in-Nothing.is
+      reads_operands = operands_not _ _ _ _ _ _ _ _ _ _ _ asked.loop-n.invariant.4 _ _ _ _ (facing _ _ _ _ _ _ c.fixed_size-size.ensures.value c.loop-n-test.true c.operand_kind-kind.ensures c.is_silent.ensures c.if-is_silent.false) c.in-Nothing.is
           next.next_word.ensures;
-      onto = (tt, small);
+      onto = (tt, first_small _ _ _ _ _ _ _ _ _ _ _ c.loop-n.invariant.4 (few c.requires.1.1));
     }
 
 pub operand_begins-requires : goal.operand_begins-requires
@@ -54,7 +49,7 @@ operand_begins-requires c =
     let asked = next in
     let start = asked in
     let mean = start.requires.1.1 in
-    let face = facing _ _ _ _ _ _ asked.fixed_size-size.ensures.value asked.loop-n-test.true asked.operand_kind-kind.ensures asked.is_silent.ensures next.if-is_silent.false in
+    let face = facing _ _ _ _ _ _ c.fixed_size-size.ensures.value c.loop-n-test.true c.operand_kind-kind.ensures c.is_silent.ensures c.if-is_silent.false in
     let word = subst (NextWord _ _ _ _) c.in-Unfinished.is next.next_word.ensures in
     let size = asked.fixed_size-size.ensures in record {
       small = (
@@ -71,47 +66,31 @@ operand_begins-requires c =
     }
 
 pub shape_of-out-then-operand_begins : goal.shape_of-out-then-operand_begins
-shape_of-out-then-operand_begins c =
-    let kept : length c.loop-n.out ≡ length c.args.out.now =
-    operands_length _ _ _ _ _ _ _ _ _ _ _ c.loop-n.invariant.4 c.args.out.now c.args.c.used c.args.b
-    c.put.ensures in
-    kept
+shape_of-out-then-operand_begins c = operands_length _ _ _ _ _ _ _ _ _ _ _ c.loop-n.invariant.4 c.args.out.now c.args.c.used c.args.b c.put.ensures
 
 pub returns-then-operand_begins : goal.returns-then-operand_begins
 unfolding Onto
 returns-then-operand_begins c =
-    let few : c.args.c.callees ≤ 15 =
-    let mean = c.requires.1.1 in omega (arith, mean.callees, mean.heads.few) in
-    let small : c.args.b ≡ 12 → c.loop-n.first < 16 =
-    first_small _ _ _ _ _ _ _ _ _ _ _ c.loop-n.invariant.4 few in
     let told = c in
     let next = told in
     let asked = next in record {
-      reads_operands = operands_begun _ _ _ _ _ _ _ _ _ _ _ asked.loop-n.invariant.4 _ _ _ _ _ (facing _ _ _ _ _ _ asked.fixed_size-size.ensures.value asked.loop-n-test.true asked.operand_kind-kind.ensures asked.is_silent.ensures next.if-is_silent.false) told.in-Unfinished.is
+      reads_operands = operands_begun _ _ _ _ _ _ _ _ _ _ _ asked.loop-n.invariant.4 _ _ _ _ _ (facing _ _ _ _ _ _ c.fixed_size-size.ensures.value c.loop-n-test.true c.operand_kind-kind.ensures c.is_silent.ensures c.if-is_silent.false) told.in-Unfinished.is
           next.next_word.ensures c.operand_begins.ensures c.if-operand_begins.true;
-      onto = (tt, small);
+      onto = (tt, first_small _ _ _ _ _ _ _ _ _ _ _ c.loop-n.invariant.4 (few c.requires.1.1));
     }
 
 pub shape_of-out-in-Unfinished : goal.shape_of-out-in-Unfinished
-shape_of-out-in-Unfinished c =
-    let kept : length c.loop-n.out ≡ length c.args.out.now =
-    operands_length _ _ _ _ _ _ _ _ _ _ _ c.loop-n.invariant.4 c.args.out.now c.args.c.used c.args.b
-    c.put.ensures in
-    kept
+shape_of-out-in-Unfinished c = operands_length _ _ _ _ _ _ _ _ _ _ _ c.loop-n.invariant.4 c.args.out.now c.args.c.used c.args.b c.put.ensures
 
 pub returns-in-Unfinished : goal.returns-in-Unfinished
 unfolding Onto
 returns-in-Unfinished c =
-    let few : c.args.c.callees ≤ 15 =
-    let mean = c.requires.1.1 in omega (arith, mean.callees, mean.heads.few) in
-    let small : c.args.b ≡ 12 → c.loop-n.first < 16 =
-    first_small _ _ _ _ _ _ _ _ _ _ _ c.loop-n.invariant.4 few in
     let told = c in
     let next = told in
     let asked = next in record {
-      reads_operands = operands_unbegun _ _ _ _ _ _ _ _ _ _ _ asked.loop-n.invariant.4 _ _ _ _ _ (facing _ _ _ _ _ _ asked.fixed_size-size.ensures.value asked.loop-n-test.true asked.operand_kind-kind.ensures asked.is_silent.ensures next.if-is_silent.false) told.in-Unfinished.is
+      reads_operands = operands_unbegun _ _ _ _ _ _ _ _ _ _ _ asked.loop-n.invariant.4 _ _ _ _ _ (facing _ _ _ _ _ _ c.fixed_size-size.ensures.value c.loop-n-test.true c.operand_kind-kind.ensures c.is_silent.ensures c.if-is_silent.false) told.in-Unfinished.is
           next.next_word.ensures c.operand_begins.ensures c.if-operand_begins.false;
-      onto = (tt, small);
+      onto = (tt, first_small _ _ _ _ _ _ _ _ _ _ _ c.loop-n.invariant.4 (few c.requires.1.1));
     }
 
 pub value-v-requires : goal.value-v-requires
@@ -123,25 +102,17 @@ value-v-requires c =
     (omega (arith, word.2), omega (arith, word.3, asked.requires.0), sym asked.is_silent.ensures ∙ next.if-is_silent.false)
 
 pub shape_of-out-then-count-v : goal.shape_of-out-then-count-v
-shape_of-out-then-count-v c =
-    let kept : length c.loop-n.out ≡ length c.args.out.now =
-    operands_length _ _ _ _ _ _ _ _ _ _ _ c.loop-n.invariant.4 c.args.out.now c.args.c.used c.args.b
-    c.put.ensures in
-    kept
+shape_of-out-then-count-v c = operands_length _ _ _ _ _ _ _ _ _ _ _ c.loop-n.invariant.4 c.args.out.now c.args.c.used c.args.b c.put.ensures
 
 pub returns-then-count-v : goal.returns-then-count-v
 unfolding Onto
 returns-then-count-v c =
-    let few : c.args.c.callees ≤ 15 =
-    let mean = c.requires.1.1 in omega (arith, mean.callees, mean.heads.few) in
-    let small : c.args.b ≡ 12 → c.loop-n.first < 16 =
-    first_small _ _ _ _ _ _ _ _ _ _ _ c.loop-n.invariant.4 few in
     let to = c in
     let next = to in
     let asked = next in record {
-      reads_operands = operands_above _ _ _ _ _ _ _ _ _ _ _ asked.loop-n.invariant.4 _ _ _ _ _ _ _ (facing _ _ _ _ _ _ asked.fixed_size-size.ensures.value asked.loop-n-test.true asked.operand_kind-kind.ensures asked.is_silent.ensures next.if-is_silent.false) to.in-To.is
+      reads_operands = operands_above _ _ _ _ _ _ _ _ _ _ _ asked.loop-n.invariant.4 _ _ _ _ _ _ _ (facing _ _ _ _ _ _ c.fixed_size-size.ensures.value c.loop-n-test.true c.operand_kind-kind.ensures c.is_silent.ensures c.if-is_silent.false) to.in-To.is
           next.next_word.ensures c.value-v.ensures c.count.ensures.0 c.if-count-v.true;
-      onto = (tt, small);
+      onto = (tt, first_small _ _ _ _ _ _ _ _ _ _ _ c.loop-n.invariant.4 (few c.requires.1.1));
     }
 
 pub overflow_add-at : goal.overflow_add-at
@@ -185,22 +156,14 @@ loop-n-preserved c =
     ]
 
 pub shape_of-out : goal.shape_of-out
-shape_of-out c =
-    let kept : length c.loop-n.out ≡ length c.args.out.now =
-    operands_length _ _ _ _ _ _ _ _ _ _ _ c.loop-n.invariant.4 c.args.out.now c.args.c.used c.args.b
-    c.put.ensures in
-    kept
+shape_of-out c = operands_length _ _ _ _ _ _ _ _ _ _ _ c.loop-n.invariant.4 c.args.out.now c.args.c.used c.args.b c.put.ensures
 
 pub returns : goal.returns
 unfolding Onto
 returns c =
-    let few : c.args.c.callees ≤ 15 =
-    let mean = c.requires.1.1 in omega (arith, mean.callees, mean.heads.few) in
-    let small : c.args.b ≡ 12 → c.loop-n.first < 16 =
-    first_small _ _ _ _ _ _ _ _ _ _ _ c.loop-n.invariant.4 few in
     let l = c in
     let size = l.fixed_size-size.ensures in record {
       reads_operands = operands_all _ _ _ _ _ _ _ _ _ _ _ l.loop-n.invariant.4 _ l.put.ensures (omega (arith, size)) (omega (arith, size))
           (omega (arith, size, c.loop-n-test.false));
-      onto = ((omega arith, omega arith), small);
+      onto = ((omega arith, omega arith), first_small _ _ _ _ _ _ _ _ _ _ _ c.loop-n.invariant.4 (few c.requires.1.1));
     }

@@ -19,9 +19,8 @@ pub returns-then-word_at-ne-VERSION : goal.returns-then-word_at-ne-VERSION
 returns-then-word_at-ne-VERSION c =
     let marked : has_mark c.args.s.now 0x47 ≡ true =
     sym c.has_mark.ensures ∙ c.if-not-has_mark.false in
-    let d = c in
     let w = c.word_at.ensures.0 in
-    ap refused c.new-then-word_at-ne-VERSION.ensures ∙ read_version _ d.if-s-lt-BYTES.false marked (λ e. c.if-word_at-ne-VERSION.true (w ∙ e))
+    ap refused c.new-then-word_at-ne-VERSION.ensures ∙ read_version _ c.if-s-lt-BYTES.false marked (λ e. c.if-word_at-ne-VERSION.true (w ∙ e))
 
 pub read_body-requires : goal.read_body-requires
 read_body-requires c =

@@ -5,22 +5,17 @@ use Rattle.listing.proofs.write_read.Goals as goal
 
 pub returns-then-out-n : goal.returns-then-out-n
 returns-then-out-n c =
-    let at-if1 = c in
-    let at-put-program = at-if1 in
-    let start = at-put-program in
+    let start = c in
     let start = start in
     let h = start.requires in
     let e = listing_is start.args.s.now h.tree h.reads in
-    short_exit start.args.s.now start.args.out.now _ e _ _ (at-put-program.put_program-n.ensures _ e).end at-if1.if-out-n.true c.new.ensures
+    short_exit start.args.s.now start.args.out.now _ e _ _ (c.put_program-n.ensures _ e).end c.if-out-n.true c.new.ensures
 
 pub returns : goal.returns
 returns c =
-    let at-put-program2 = c in
-    let at-if1 = at-put-program2 in
-    let at-put-program = at-if1 in
-    let start = at-put-program in
+    let start = c in
     let start = start in
     let h = start.requires in
     let e = listing_is start.args.s.now h.tree h.reads in
-    written_exit start.args.s.now start.args.out.now _ e _ _ _ (at-put-program.put_program-n.ensures _ e).end at-if1.if-out-n.false
-    (at-put-program2.put_program.ensures _ e)
+    written_exit start.args.s.now start.args.out.now _ e _ _ _ (c.put_program-n.ensures _ e).end c.if-out-n.false
+    (c.put_program.ensures _ e)

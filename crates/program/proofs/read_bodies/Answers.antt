@@ -6,15 +6,12 @@ use Rattle.program.proofs.read_bodies.Goals as goal
 
 pub read_main-requires : goal.read_main-requires
 read_main-requires c =
-    let b = c in
-    let w = between_past _ _ _ _ b.in-At.is b.read_functions-f.ensures.between in omega arith
+    let w = between_past _ _ _ _ c.in-At.is c.read_functions-f.ensures.between in omega arith
 
 pub returns-in-At : goal.returns-in-At
 returns-in-At c =
-    let b = c in
-    body_made _ _ _ b.read_functions-f.ensures.functions_as _ _ b.in-At.is (λ fs h. c.read_main.ensures fs h)
+    body_made _ _ _ c.read_functions-f.ensures.functions_as _ _ c.in-At.is (λ fs h. c.read_main.ensures fs h)
 
 pub returns-in-Refused : goal.returns-in-Refused
 returns-in-Refused c =
-    let b = c in
-    read_refused _ _ _ (body_refused _ _ _ b.read_functions-f.ensures.functions_as _ b.in-Refused.is) c.refused_in.ensures
+    read_refused _ _ _ (body_refused _ _ _ c.read_functions-f.ensures.functions_as _ c.in-Refused.is) c.refused_in.ensures

@@ -4,16 +4,13 @@ use Rattle.program.proofs.read_file.Goals as goal
 
 pub read_bodies-requires : goal.read_bodies-requires
 read_bodies-requires c =
-    let b = c in
-    let h = headed _ _ (head_told _ _ b.read_head-head.ensures _ b.in-Made.is) in
+    let h = headed _ _ (head_told _ _ c.read_head-head.ensures _ c.in-Made.is) in
     (h.long, h.short, h.few)
 
 pub returns-in-Made : goal.returns-in-Made
 returns-in-Made c =
-    let b = c in
-    file_made _ _ b.read_head-head.ensures _ _ b.in-Made.is c.read_bodies.ensures
+    file_made _ _ c.read_head-head.ensures _ _ c.in-Made.is c.read_bodies.ensures
 
 pub returns-in-Refused : goal.returns-in-Refused
 returns-in-Refused c =
-    let b = c in
-    read_refused _ _ _ (file_refused _ _ b.read_head-head.ensures _ b.in-Refused.is) c.refused_in.ensures
+    read_refused _ _ _ (file_refused _ _ c.read_head-head.ensures _ c.in-Refused.is) c.refused_in.ensures

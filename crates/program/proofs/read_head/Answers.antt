@@ -19,12 +19,10 @@ returns-then-not-has_mark c =
 
 pub returns-then-word_at-ne-VERSION : goal.returns-then-word_at-ne-VERSION
 returns-then-word_at-ne-VERSION c =
-    let b = c in
-    let m = sym b.has_mark.ensures ∙ b.if-not-has_mark.false in
-    ap refused c.new-then-word_at-ne-VERSION.ensures ∙ sym (head_version _ (omega arith) (omega arith) m (λ e. c.if-word_at-ne-VERSION.true (b.word_at.ensures.0 ∙ e)))
+    let m = sym c.has_mark.ensures ∙ c.if-not-has_mark.false in
+    ap refused c.new-then-word_at-ne-VERSION.ensures ∙ sym (head_version _ (omega arith) (omega arith) m (λ e. c.if-word_at-ne-VERSION.true (c.word_at.ensures.0 ∙ e)))
 
 pub returns : goal.returns
 returns c =
-    let b = c in
-    let m = sym b.has_mark.ensures ∙ b.if-not-has_mark.false in
+    let m = sym c.has_mark.ensures ∙ c.if-not-has_mark.false in
     c.new-2.ensures ∙ ap program_header c.wide.ensures.0 ∙ sym (head_made _ (omega arith) (omega arith) m (omega arith))

@@ -16,18 +16,15 @@ in_main_lem h = record { places_are = refl; heads = h }
 
 pub returns-then-q-s : goal.returns-then-q-s
 returns-then-q-s c fs h =
-    let b = c in
-    let main = said_at _ _ _ b.in-At.is (b.read_block.ensures.result_value device _ (in_main_lem h)) in
+    let main = said_at _ _ _ c.in-At.is (c.read_block.ensures.result_value device _ (in_main_lem h)) in
     read_refused _ _ _ (main_more _ _ fs _ main c.if-q-s.true) (c.refused_in.ensures ∙ ap NotReadable c.new.ensures)
 
 pub returns-else-q-s : goal.returns-else-q-s
 returns-else-q-s c fs h =
-    let b = c in
-    let main = said_at _ _ _ b.in-At.is (b.read_block.ensures.result_value device _ (in_main_lem h)) in
+    let main = said_at _ _ _ c.in-At.is (c.read_block.ensures.result_value device _ (in_main_lem h)) in
     main_made _ _ fs _ h _ main c.if-q-s.false
 
 pub returns-in-Refused : goal.returns-in-Refused
 returns-in-Refused c fs h =
-    let b = c in
-    let main = said_no _ _ _ b.in-Refused.is (b.read_block.ensures.result_value device _ (in_main_lem h)) in
+    let main = said_no _ _ _ c.in-Refused.is (c.read_block.ensures.result_value device _ (in_main_lem h)) in
     read_refused _ _ _ (main_refused _ _ fs _ main) c.refused_in-in-Refused.ensures

@@ -11,8 +11,7 @@ returns-in-Readable c =
 
 pub returns-in-Refused : goal.returns-in-Refused
 returns-in-Refused c =
-    let b = c in
-    let h = b.read_file-r.ensures in record {
-      answers = named_refused _ _ h _ b.in-Refused.is _ _ _ c.refused_in.ensures c.in_file.ensures;
-      tables = λ p e. named_none _ _ h _ b.in-Refused.is p e;
+    let h = c.read_file-r.ensures in record {
+      answers = named_refused _ _ h _ c.in-Refused.is _ _ _ c.refused_in.ensures c.in_file.ensures;
+      tables = λ p e. named_none _ _ h _ c.in-Refused.is p e;
     }

@@ -38,12 +38,11 @@ loop-other-init c =
     c.if-a-b.false in
     let inner : Inner (has c.args.free) c.args.a c.args.b (has c.remove-left.result) =
     inner_of c.remove.result c.remove-left.result c.remove.ensures c.remove-left.ensures in
-    let d = c in
     let i = inner in
     let t = c.row-other in
     let s = c.row-joined in
     let e = sym c.contains.ensures ∙ c.if-contains.false in
-    let n = count_but_two (has c.remove-left.result) 256 d.args.a d.args.b d.requires.0 d.requires.1 ends (inner_first i) (inner_second i) in
+    let n = count_but_two (has c.remove-left.result) 256 c.args.a c.args.b c.requires.0 c.requires.1 ends (inner_first i) (inner_second i) in
     (omega arith, λ R w. inl (turn_start w s.result t.result i s.ensures t.ensures e))
 
 -- the new level
@@ -62,9 +61,7 @@ returns-then-turn c =
     let turned : Turned c.args.rows.now (level c.loop-other.joined c.loop-other.left) (has c.loop-other.other) (has c.loop-other.left) 256
     c.advance-turn.result.left c.advance-turn.result.joined c.advance-turn.result.any c.advance-turn.result.met =
     c.advance-turn.ensures (level c.loop-other.joined c.loop-other.left) (λ y. refl) in
-    let v = c in
-    let l = v.loop-other in
-    let d = v in
+    let l = c.loop-other in
     let t = turned.meets c.if-turn.true in
     let n = level_left (has l.joined) (has l.left) (λ y. refl) t.0 t.1 in
     let z = count_some (has l.left) 256 t.0 (has_lt l.left t.0 n.1) n.1 in record {
@@ -81,9 +78,7 @@ returns-then-turn-eq0 c =
     let turned : Turned c.args.rows.now (level c.loop-other.joined c.loop-other.left) (has c.loop-other.other) (has c.loop-other.left) 256
     c.advance-turn.result.left c.advance-turn.result.joined c.advance-turn.result.any c.advance-turn.result.met =
     c.advance-turn.ensures (level c.loop-other.joined c.loop-other.left) (λ y. refl) in
-    let v = c in
-    let l = v.loop-other in
-    let d = v in
+    let l = c.loop-other in
     let u = turned.on c.if-turn.false in
     let e = level_none (has l.joined) l.left (λ y. refl) u c.if-turn-eq0.true in record {
       value = (λ R w. turns_none R inner ends (l.invariant.1 R w) e);
@@ -110,11 +105,10 @@ loop-other-preserved c =
     let turned : Turned c.args.rows.now (level c.loop-other.joined c.loop-other.left) (has c.loop-other.other) (has c.loop-other.left) 256
     c.advance-turn.result.left c.advance-turn.result.joined c.advance-turn.result.any c.advance-turn.result.met =
     c.advance-turn.ensures (level c.loop-other.joined c.loop-other.left) (λ y. refl) in
-    let v = c in
-    let l = v.loop-other in
+    let l = c.loop-other in
     let z = shrinks c.args.rows.now l.joined l.other l.left c.advance-turn.result turned c.if-turn.false c.if-turn-eq0.false in
     let u = turned.on c.if-turn.false in (
       omega (arith, l.invariant.0),
-      λ R w. turns_next w v.advance-turn.result.joined (l.invariant.1 R w) (λ y. refl) (level_lt (has l.joined) l.left (λ y. refl) u)
+      λ R w. turns_next w c.advance-turn.result.joined (l.invariant.1 R w) (λ y. refl) (level_lt (has l.joined) l.left (λ y. refl) u)
           (level_apart (has l.joined) l.left (λ y. refl) u) (all_taken (has l.joined) l.left (λ y. refl) u) u.next,
     )

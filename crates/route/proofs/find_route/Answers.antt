@@ -16,9 +16,8 @@ returns-then-out-k c =
 
 pub returns : goal.returns
 returns c =
-    let e = c in
-    let s = e.search-k in
-    let a = e.args in
+    let s = c.search-k in
+    let a = c.args in
     let i = c.if-out-k.false in
     let t = c.trace.ensures in
-    λ R w. written_answered s.new.hop a.a s.result a.out.now _ (s.ensures.b_value R w) e.if-k-eq0.false i t
+    λ R w. written_answered s.new.hop a.a s.result a.out.now _ (s.ensures.b_value R w) c.if-k-eq0.false i t

@@ -14,48 +14,36 @@ read_line-line-requires c =
 
 pub returns-in-Not : goal.returns-in-Not
 returns-in-Not c =
-    let at_line = c in
-    let at-stop = at_line in
-    let at_end = at-stop in
-    let F = at_end.loop-at.invariant.2 in record {
-      result_value = (refused_line _ _ _ _ _ F (search rules) _ _ (search rules) (search rules) at_end.line_end-end.ensures.line_end at-stop.line_stop-stop.ensures _ _
-          at_line.read_line-line.ensures c.in-Not.is _ c.refused.ensures c.args.out.now).0;
-      by_index = (refused_line _ _ _ _ _ F (search rules) _ _ (search rules) (search rules) at_end.line_end-end.ensures.line_end at-stop.line_stop-stop.ensures _ _
-          at_line.read_line-line.ensures c.in-Not.is _ c.refused.ensures _).1;
+    let F = c.loop-at.invariant.2 in record {
+      result_value = (refused_line _ _ _ _ _ F (search rules) _ _ (search rules) (search rules) c.line_end-end.ensures.line_end c.line_stop-stop.ensures _ _
+          c.read_line-line.ensures c.in-Not.is _ c.refused.ensures c.args.out.now).0;
+      by_index = (refused_line _ _ _ _ _ F (search rules) _ _ (search rules) (search rules) c.line_end-end.ensures.line_end c.line_stop-stop.ensures _ _
+          c.read_line-line.ensures c.in-Not.is _ c.refused.ensures _).1;
     }
 
 pub returns-in-Begun : goal.returns-in-Begun
 returns-in-Begun c =
-    let at_line = c in
-    let at-stop = at_line in
-    let at_end = at-stop in
-    let F = at_end.loop-at.invariant.2 in record {
-      result_value = (refused_last _ _ _ _ _ F (search rules) _ _ (search rules) (search rules) at_end.line_end-end.ensures.line_end at-stop.line_stop-stop.ensures _ _
-          at_line.read_line-line.ensures c.in-Begun.is _ c.refused-in-Begun.ensures c.args.out.now).0;
-      by_index = (refused_last _ _ _ _ _ F (search rules) _ _ (search rules) (search rules) at_end.line_end-end.ensures.line_end at-stop.line_stop-stop.ensures _ _
-          at_line.read_line-line.ensures c.in-Begun.is _ c.refused-in-Begun.ensures _).1;
+    let F = c.loop-at.invariant.2 in record {
+      result_value = (refused_last _ _ _ _ _ F (search rules) _ _ (search rules) (search rules) c.line_end-end.ensures.line_end c.line_stop-stop.ensures _ _
+          c.read_line-line.ensures c.in-Begun.is _ c.refused-in-Begun.ensures c.args.out.now).0;
+      by_index = (refused_last _ _ _ _ _ F (search rules) _ _ (search rules) (search rules) c.line_end-end.ensures.line_end c.line_stop-stop.ensures _ _
+          c.read_line-line.ensures c.in-Begun.is _ c.refused-in-Begun.ensures _).1;
     }
 
 pub loop-at-smaller : goal.loop-at-smaller
 loop-at-smaller c =
-    let at_line = c in
-    let at-stop = at_line in
-    let at_end = at-stop in
-    let F = at_end.loop-at.invariant.2 in
-    let m = line_on _ _ _ _ _ F (search rules) _ _ (search rules) (search rules) at_end.line_end-end.ensures.line_end at-stop.line_stop-stop.ensures _ _
-    at_line.read_line-line.ensures c.in-Took.is in
+    let F = c.loop-at.invariant.2 in
+    let m = line_on _ _ _ _ _ F (search rules) _ _ (search rules) (search rules) c.line_end-end.ensures.line_end c.line_stop-stop.ensures _ _
+    c.read_line-line.ensures c.in-Took.is in
     omega arith
 
 pub loop-at-preserved : goal.loop-at-preserved
 loop-at-preserved c =
-    let at_line = c in
-    let at-stop = at_line in
-    let at_end = at-stop in
-    let F = at_end.loop-at.invariant.2 in (
+    let F = c.loop-at.invariant.2 in (
       search rules,
       search rules,
-      line_took _ _ _ _ _ F (search rules) _ _ (search rules) (search rules) at_end.line_end-end.ensures.line_end at-stop.line_stop-stop.ensures _ _
-          at_line.read_line-line.ensures c.in-Took.is,
+      line_took _ _ _ _ _ F (search rules) _ _ (search rules) (search rules) c.line_end-end.ensures.line_end c.line_stop-stop.ensures _ _
+          c.read_line-line.ensures c.in-Took.is,
     )
 
 pub finish-requires : goal.finish-requires
@@ -65,10 +53,8 @@ finish-requires c =
 
 pub returns-then-finish : goal.returns-then-finish
 returns-then-finish c =
-    let at-finish = c in
-    let F = at-finish.loop-at.invariant.2 in record { result_value = (end_yes _ _ _ _ _ F (search rules) _ _ at-finish.finish.ensures (search rules) _ refl).0; by_index = (end_yes _ _ _ _ _ F (search rules) _ _ at-finish.finish.ensures (search rules) _ refl).1 }
+    let F = c.loop-at.invariant.2 in record { result_value = (end_yes _ _ _ _ _ F (search rules) _ _ c.finish.ensures (search rules) _ refl).0; by_index = (end_yes _ _ _ _ _ F (search rules) _ _ c.finish.ensures (search rules) _ refl).1 }
 
 pub returns : goal.returns
 returns c =
-    let at-finish = c in
-    let F = at-finish.loop-at.invariant.2 in record { result_value = (refused_end _ _ _ _ _ F (search rules) _ _ at-finish.finish.ensures (search rules) _ c.refused-2.ensures c.args.out.now).0; by_index = (refused_end _ _ _ _ _ F (search rules) _ _ at-finish.finish.ensures (search rules) _ c.refused-2.ensures _).1 }
+    let F = c.loop-at.invariant.2 in record { result_value = (refused_end _ _ _ _ _ F (search rules) _ _ c.finish.ensures (search rules) _ c.refused-2.ensures c.args.out.now).0; by_index = (refused_end _ _ _ _ _ F (search rules) _ _ c.finish.ensures (search rules) _ c.refused-2.ensures _).1 }

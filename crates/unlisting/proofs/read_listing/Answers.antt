@@ -5,22 +5,16 @@ use Rattle.unlisting.proofs.read_listing.Goals as goal
 
 pub returns-then-program-n : goal.returns-then-program-n
 returns-then-program-n c =
-    let at_n = c in
-    let counted = at_n in
-    let text = counted.args.text.now in
-    counted_short text _ _ counted.read_lines.ensures.result_value _ _ at_n.in-Written.is (search rules) c.new.ensures
+    let text = c.args.text.now in
+    counted_short text _ _ c.read_lines.ensures.result_value _ _ c.in-Written.is (search rules) c.new.ensures
 
 pub returns-in-Refused : goal.returns-in-Refused
 returns-in-Refused c =
-    let counted = c in
-    let text = counted.args.text.now in
-    counted_no text _ _ counted.read_lines.ensures.result_value _ c.in-Refused.is
+    let text = c.args.text.now in
+    counted_no text _ _ c.read_lines.ensures.result_value _ c.in-Refused.is
 
 pub returns-else-program-n : goal.returns-else-program-n
 returns-else-program-n c =
-    let written = c in
-    let at_n = written in
-    let counted = at_n in
-    let text = counted.args.text.now in
-    counted_written text _ _ counted.read_lines.ensures.result_value _ at_n.in-Written.is (search rules) written.read_lines-in-Written.result _
-    (written.read_lines-in-Written.ensures.result_value, written.read_lines-in-Written.ensures.by_index)
+    let text = c.args.text.now in
+    counted_written text _ _ c.read_lines.ensures.result_value _ c.in-Written.is (search rules) c.read_lines-in-Written.result _
+    (c.read_lines-in-Written.ensures.result_value, c.read_lines-in-Written.ensures.by_index)

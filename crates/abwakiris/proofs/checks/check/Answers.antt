@@ -21,10 +21,9 @@ check_in-requires c = read_gives _ Device _ (rw c.in-Read.is at c.read_device.en
 
 pub returns-in-Read : goal.returns-in-Read
 returns-in-Read c =
-    let read = c in
-    let a = read.args in
-    let g = read_gives _ Device _ (rw read.in-Read.is at read.read_device.ensures) in
-    let j = sym read.is_job.ensures ∙ read.if-not-is_job.false in
+    let a = c.args in
+    let g = read_gives _ Device _ (rw c.in-Read.is at c.read_device.ensures) in
+    let j = sym c.is_job.ensures ∙ c.if-not-is_job.false in
     let e = rw c.narrow.ensures at (c.check_in.ensures g.0 g.1) in
     check_done a.device.now a.program.now a.job g.0 j g.1.reads _ e
 

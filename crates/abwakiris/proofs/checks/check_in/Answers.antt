@@ -19,19 +19,17 @@ pub judge-requires : goal.judge-requires
 judge-requires c =
     let program_read : (p : syntax.Program) × (read_program c.args.program.now ≡ ok p) =
     program_gives c.args.program.now c.args.job (rw c.in_default.is at c.read_program-read.ensures.answers) in
-    let t = c in
     let p = program_read in
-    (p.0, p.1, t.read_program-read.ensures.tables p.0 p.1)
+    (p.0, p.1, c.read_program-read.ensures.tables p.0 p.1)
 
 pub returns-in-Accepted : goal.returns-in-Accepted
 returns-in-Accepted c =
     let program_read : (p : syntax.Program) × (read_program c.args.program.now ≡ ok p) =
     program_gives c.args.program.now c.args.job (rw c.in_default.is at c.read_program-read.ensures.answers) in
     λ D d.
-    let t = c in
-    let a = t.args in
+    let a = c.args in
     let p = program_read in
-    let one = t.read_program-read.ensures.tables p.0 p.1 in
+    let one = c.read_program-read.ensures.tables p.0 p.1 in
     let owned = c.owned_by-owned.ensures D d in
     let rows = c.region_rows.ensures.all D d in
     let j = c.judge.ensures p.0 p.1 one (region_of D a.job) owned rows in
@@ -43,10 +41,9 @@ returns-in-Refused-judge c =
     let program_read : (p : syntax.Program) × (read_program c.args.program.now ≡ ok p) =
     program_gives c.args.program.now c.args.job (rw c.in_default.is at c.read_program-read.ensures.answers) in
     λ D d.
-    let t = c in
-    let a = t.args in
+    let a = c.args in
     let p = program_read in
-    let one = t.read_program-read.ensures.tables p.0 p.1 in
+    let one = c.read_program-read.ensures.tables p.0 p.1 in
     let owned = c.owned_by-owned.ensures D d in
     let rows = c.region_rows.ensures.all D d in
     let j = c.judge.ensures p.0 p.1 one (region_of D a.job) owned rows in

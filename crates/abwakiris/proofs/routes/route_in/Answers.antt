@@ -15,15 +15,13 @@ returns-in-Refused c =
 
 pub free_in-requires : goal.free_in-requires
 free_in-requires c =
-    let t = c in
-    let g = granted _ _ _ _ _ (rw t.in_default.is at t.asks-asked.ensures) in
-    let k = known t.requires.1 in
+    let g = granted _ _ _ _ _ (rw c.in_default.is at c.asks-asked.ensures) in
+    let k = known c.requires.1 in
     omega (arith, g.long, k.few)
 
 pub search-requires : goal.search-requires
 search-requires c =
-    let t = c in
-    let g = granted _ _ _ _ _ (rw t.in_default.is at t.asks-asked.ensures) in
+    let g = granted _ _ _ _ _ (rw c.in_default.is at c.asks-asked.ensures) in
     let l = has_lt _ _ g.first in
     let m = has_lt _ _ g.second in
     (omega (arith, l), omega (arith, m))
@@ -31,11 +29,10 @@ search-requires c =
 pub returns : goal.returns
 returns c =
     λ D d.
-    let t = c in
-    let a = t.args in
-    let o = t.owned_by-owned.ensures D d in
+    let a = c.args in
+    let o = c.owned_by-owned.ensures D d in
     let free = free_same _ _ _ a.occupancy.now o c.free_in.ensures in
-    let asked = rw t.in_default.is at t.asks-asked.ensures in
+    let asked = rw c.in_default.is at c.asks-asked.ensures in
     let rows = c.region_rows.ensures.all D d in
     let r = c.search in
     rw (sym d.locations)

@@ -25,11 +25,9 @@ returns-then-not-is_owner-2 c =
 
 pub returns : goal.returns
 returns c =
-    let d = c in
-    let e = d in
-    let a = e.args in
-    let p = sym e.is_owner.ensures ∙ e.if-not-is_owner.false in
-    let q = sym d.is_owner-2.ensures ∙ d.if-not-is_owner-2.false in record {
+    let a = c.args in
+    let p = sym c.is_owner.ensures ∙ c.if-not-is_owner.false in
+    let q = sym c.is_owner-2.ensures ∙ c.if-not-is_owner-2.false in record {
       long = c.join-2.ensures.long;
       here = λ x y. c.join-2.ensures.here x y ∙ ap (λ t. (eqb x a.b && eqb y a.a) || t) (c.join.ensures.here x y)
           ∙ joined_both (owned_by a.s.now a.job) a.a a.b p q x y _;

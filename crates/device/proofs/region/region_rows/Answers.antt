@@ -50,13 +50,12 @@ overflow_add-i c = let k = known c.requires.reads.1 in search rules
 
 pub loop-i-preserved : goal.loop-i-preserved
 loop-i-preserved c =
-    let d = c in
     let l = c.loop-i in
     let v = c.wide-a.ensures.0 in
     let w = c.wide-b.ensures.0 in (
       omega arith,
       c.join_owned.ensures.long,
-      λ D q x y. rows_more (reads_as d.requires.reads.1 q) d.args.job l.i (omega arith) _ _ v w x y _ _ (c.join_owned.ensures.here x y)
+      λ D q x y. rows_more (reads_as c.requires.reads.1 q) c.args.job l.i (omega arith) _ _ v w x y _ _ (c.join_owned.ensures.here x y)
           ∙ l.invariant.2 D q x y,
     )
 

@@ -22,19 +22,14 @@ put_block-overflow_add-p t c = let b = block_fits c.requires.0 in omega arith
 
 pub put_block-loop-p-init : goal.put_block-loop-p-init
 put_block-loop-p-init t c =
-    let start = c in
-    let b = block_fits start.requires.0 in (omega arith, omega arith, omega arith, refl, along_start _ _ _ _ _ _)
+    let b = block_fits c.requires.0 in (omega arith, omega arith, omega arith, refl, along_start _ _ _ _ _ _)
 
 pub put_block-put_statement-t-requires : goal.put_block-put_statement-t-requires
 put_block-put_statement-t-requires t c =
-    let at-loop-test = c in
-    let at-loop = at-loop-test in
-    let at-word-at = at-loop in
-    let start = at-word-at in
-    let h = start.requires in
+    let h = c.requires in
     let b = block_fits h.0 in
-    let l = at-loop.loop-p.invariant in
-    (omega arith, (along_next _ _ _ _ _ _ _ _ _ h.0 at-word-at.word_at.ensures.0 l.4 at-loop-test.loop-p-test.true, room_next h.1 l.2))
+    let l = c.loop-p.invariant in
+    (omega arith, (along_next _ _ _ _ _ _ _ _ _ h.0 c.word_at.ensures.0 l.4 c.loop-p-test.true, room_next h.1 l.2))
 
 pub put_block-loop-p-smaller : goal.put_block-loop-p-smaller
 put_block-loop-p-smaller t c =
@@ -44,13 +39,10 @@ put_block-loop-p-smaller t c =
 
 pub put_block-loop-p-preserved : goal.put_block-loop-p-preserved
 put_block-loop-p-preserved t c =
-    let at-put-statement = c in
-    let at-loop-test = at-put-statement in
-    let at-loop = at-loop-test in
-    let l = at-loop.loop-p.invariant in
-    let p = at-put-statement.put_statement-t in
+    let l = c.loop-p.invariant in
+    let p = c.put_statement-t in
     let r = p.ensures.between in
-    (omega arith, r.inside, omega arith, search rules, along_step _ _ _ _ _ _ _ _ _ _ p.result l.4 at-loop-test.loop-p-test.true p.ensures.statement_put)
+    (omega arith, r.inside, omega arith, search rules, along_step _ _ _ _ _ _ _ _ _ _ p.result l.4 c.loop-p-test.true p.ensures.statement_put)
 
 pub put_block-shape_of-out : goal.put_block-shape_of-out
 put_block-shape_of-out t c = c.loop-p.invariant.3
@@ -64,8 +56,7 @@ put_block-returns t c =
 
 pub put_statement-bounds-s-i : goal.put_statement-bounds-s-i
 put_statement-bounds-s-i t c =
-    let start = c in
-    inside start.args.s.now start.args.i (statement_fits start.requires.0).0
+    inside c.args.s.now c.args.i (statement_fits c.requires.0).0
 
 pub put_statement-put_line-line-requires : goal.put_statement-put_line-line-requires
 put_statement-put_line-line-requires t c =
@@ -77,8 +68,7 @@ put_statement-put_line-line-requires t c =
 
 pub put_statement-overflow_add-i : goal.put_statement-overflow_add-i
 put_statement-overflow_add-i t c =
-    let start = c in
-    let h = start.requires in
+    let h = c.requires in
     let f = statement_fits h.0 in omega (arith, h.1.size)
 
 pub put_statement-overflow_add-n : goal.put_statement-overflow_add-n
@@ -86,42 +76,30 @@ put_statement-overflow_add-n t c = omega (arith, c.requires.0.shallow)
 
 pub put_statement-put_block-a-requires : goal.put_statement-put_block-a-requires
 put_statement-put_block-a-requires t c =
-    let at-put-line = c in
-    let at-match = at-put-line in
-    let start = at-match in
-    let h = start.requires in
-    let f = block_fits (if_here h.0 at-match.in-10.is) in
-    (omega arith, (if_here h.0 at-match.in-10.is, room_inner h.1 at-put-line.put_line-line.ensures.upper_bound))
+    let h = c.requires in
+    let f = block_fits (if_here h.0 c.in-10.is) in
+    (omega arith, (if_here h.0 c.in-10.is, room_inner h.1 c.put_line-line.ensures.upper_bound))
 
 pub put_statement-put_else-other-requires : goal.put_statement-put_else-other-requires
 put_statement-put_else-other-requires t c =
-    let at-put-block = c in
-    let at-put-line = at-put-block in
-    let start = at-put-line in
-    let h = start.requires in (
+    let h = c.requires in (
       omega (arith, h.0.shallow),
-      else_small at-put-block.put_block-a.result h.1 at-put-line.put_line-line.ensures.upper_bound
-          at-put-block.put_block-a.ensures.between,
+      else_small c.put_block-a.result h.1 c.put_line-line.ensures.upper_bound
+          c.put_block-a.ensures.between,
     )
 
 pub put_statement-overflow_add-n-in-10 : goal.put_statement-overflow_add-n-in-10
 put_statement-overflow_add-n-in-10 t c =
-    let start = c in
-    omega (arith, start.requires.0.shallow)
+    omega (arith, c.requires.0.shallow)
 
 pub put_statement-put_block-requires : goal.put_statement-put_block-requires
 put_statement-put_block-requires t c =
-    let at-put-else = c in
-    let at-put-block = at-put-else in
-    let at-put-line = at-put-block in
-    let at-match = at-put-line in
-    let start = at-match in
-    let h = start.requires in
-    let b = at-put-block.put_block-a.ensures.between in (
+    let h = c.requires in
+    let b = c.put_block-a.ensures.between in (
       omega (arith, b.some, b.inside),
       (
-        else_here h.0 at-match.in-10.is at-put-block.put_block-a.ensures.block_put,
-        room_else at-put-block.put_block-a.result h.1 at-put-line.put_line-line.ensures.upper_bound b (omega (arith, at-put-else.put_else-other.ensures.upper_bound)),
+        else_here h.0 c.in-10.is c.put_block-a.ensures.block_put,
+        room_else c.put_block-a.result h.1 c.put_line-line.ensures.upper_bound b (omega (arith, c.put_else-other.ensures.upper_bound)),
       ),
     )
 
@@ -135,8 +113,7 @@ put_statement-put_line-line-requires-in-11 t c =
 
 pub put_statement-overflow_add-i-in-11 : goal.put_statement-overflow_add-i-in-11
 put_statement-overflow_add-i-in-11 t c =
-    let start = c in
-    let h = start.requires in
+    let h = c.requires in
     let f = statement_fits h.0 in omega (arith, h.1.size)
 
 pub put_statement-overflow_add-n-in-11 : goal.put_statement-overflow_add-n-in-11
@@ -144,12 +121,9 @@ put_statement-overflow_add-n-in-11 t c = omega (arith, c.requires.0.shallow)
 
 pub put_statement-put_block-requires-in-11 : goal.put_statement-put_block-requires-in-11
 put_statement-put_block-requires-in-11 t c =
-    let at-put-line2 = c in
-    let at-match = at-put-line2 in
-    let start = at-match in
-    let h = start.requires in
-    let f = block_fits (while_here h.0 at-match.in-11.is) in
-    (omega arith, (while_here h.0 at-match.in-11.is, room_inner h.1 at-put-line2.put_line-line-in-11.ensures.upper_bound))
+    let h = c.requires in
+    let f = block_fits (while_here h.0 c.in-11.is) in
+    (omega arith, (while_here h.0 c.in-11.is, room_inner h.1 c.put_line-line-in-11.ensures.upper_bound))
 
 pub put_statement-put_call-e-requires : goal.put_statement-put_call-e-requires
 put_statement-put_call-e-requires t c =
@@ -175,61 +149,45 @@ put_statement-put_line-e-requires t c =
 
 pub put_statement-fixed_size-requires : goal.put_statement-fixed_size-requires
 put_statement-fixed_size-requires t c =
-    let start = c in
-    let f = statement_fits start.requires.0 in (f.0, f.1)
+    let f = statement_fits c.requires.0 in (f.0, f.1)
 
 pub put_statement-overflow_add-result : goal.put_statement-overflow_add-result
 put_statement-overflow_add-result t c =
-    let start = c in
-    let h = start.requires in
+    let h = c.requires in
     let f = statement_fits h.0 in omega (arith, h.1.size)
 
 pub put_statement-returns-in-10 : goal.put_statement-returns-in-10
 put_statement-returns-in-10 t c =
-    let at-put-block2 = c in
-    let at-put-else = at-put-block2 in
-    let at-put-block = at-put-else in
-    let at-put-line = at-put-block in
-    let at-match = at-put-line in
-    let l = at-put-line.put_line-line.ensures in
-    let a = at-put-block.put_block-a in
-    let m = at-put-else.put_else-other.ensures in
-    let b = at-put-block2.put_block in record {
-      statement_put = if_exit _ _ _ a.result b.result at-match.in-10.is l.puts a.ensures.block_put m.puts b.ensures.block_put;
+    let l = c.put_line-line.ensures in
+    let a = c.put_block-a in
+    let m = c.put_else-other.ensures in
+    let b = c.put_block in record {
+      statement_put = if_exit _ _ _ a.result b.result c.in-10.is l.puts a.ensures.block_put m.puts b.ensures.block_put;
       between = if_between a.result b.result l.upper_bound a.ensures.between m.upper_bound b.ensures.between;
     }
 
 pub put_statement-returns-in-11 : goal.put_statement-returns-in-11
 put_statement-returns-in-11 t c =
-    let at-put-block3 = c in
-    let at-put-line2 = at-put-block3 in
-    let at-match = at-put-line2 in
-    let l = at-put-line2.put_line-line-in-11.ensures in
-    let a = at-put-block3.put_block-in-11 in record {
-      statement_put = while_exit _ _ _ a.result at-match.in-11.is l.puts a.ensures.block_put;
+    let l = c.put_line-line-in-11.ensures in
+    let a = c.put_block-in-11 in record {
+      statement_put = while_exit _ _ _ a.result c.in-11.is l.puts a.ensures.block_put;
       between = while_between a.result l.upper_bound a.ensures.between;
     }
 
 pub put_statement-returns-in-12 : goal.put_statement-returns-in-12
 put_statement-returns-in-12 t c =
-    let at-put-call = c in
-    let at-match = at-put-call in
-    let start = at-match in
-    let f = call_fits start.requires.0 at-match.in-12.is in record {
-      statement_put = call_exit _ _ _ _ at-match.in-12.is c.call_end.ensures at-put-call.put_call-e.ensures.puts;
+    let f = call_fits c.requires.0 c.in-12.is in record {
+      statement_put = call_exit _ _ _ _ c.in-12.is c.call_end.ensures c.put_call-e.ensures.puts;
       between = call_between _ _
-          at-put-call.put_call-e.ensures.upper_bound c.call_end.ensures f;
+          c.put_call-e.ensures.upper_bound c.call_end.ensures f;
     }
 
 pub put_statement-returns-in_default : goal.put_statement-returns-in_default
 put_statement-returns-in_default t c =
-    let at-put-line3 = c in
-    let at-match = at-put-line3 in
-    let start = at-match in
-    let f = statement_fits start.requires.0 in
-    let n = at-match.in_default.in_default-own.rest in
+    let f = statement_fits c.requires.0 in
+    let n = c.in_default.in_default-own.rest in
     let z = c.fixed_size.ensures in record {
-      statement_put = op_exit _ _ _ _ n.0.0.1 n.0.1 n.1 z.value at-put-line3.put_line-e.ensures.puts;
-      between = op_between at-put-line3.put_line-e.ensures.upper_bound z.value
+      statement_put = op_exit _ _ _ _ n.0.0.1 n.0.1 n.1 z.value c.put_line-e.ensures.puts;
+      between = op_between c.put_line-e.ensures.upper_bound z.value
           f.2 z.lower_bound.0;
     }

@@ -5,9 +5,7 @@ use Rattle.listing.proofs.lines.put_first.Goals as goal
 
 pub returns : goal.returns
 returns c =
-    let at-put = c in
-    let at-number-behind = at-put in
-    let at-put-word = at-number-behind in record {
-      puts = first_line_lem at-put-word.put_word-a.ensures.puts at-number-behind.number_behind-b.ensures.puts at-put.put.ensures;
+    record {
+      puts = first_line_lem c.put_word-a.ensures.puts c.number_behind-b.ensures.puts c.put.ensures;
       upper_bound = omega arith;
     }

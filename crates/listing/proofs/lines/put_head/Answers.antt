@@ -5,14 +5,8 @@ use Rattle.listing.proofs.lines.put_head.Goals as goal
 
 pub returns : goal.returns
 returns c =
-    let end = c in
-    let sixth = end in
-    let fifth = sixth in
-    let fourth = fifth in
-    let third = fourth in
-    let second = third in
-    let first = second in record {
-      puts = head_line_lem _ _ _ first.put_word-a.ensures.puts second.number_behind-b.ensures.puts third.word_behind-c.ensures.puts fourth.number_behind-d.ensures.puts
-          fifth.word_behind-e.ensures.puts sixth.number_behind-f.ensures.puts end.put.ensures;
+    record {
+      puts = head_line_lem _ _ _ c.put_word-a.ensures.puts c.number_behind-b.ensures.puts c.word_behind-c.ensures.puts c.number_behind-d.ensures.puts
+          c.word_behind-e.ensures.puts c.number_behind-f.ensures.puts c.put.ensures;
       upper_bound = omega arith;
     }

@@ -8,9 +8,7 @@ loop-e-init c = (omega arith, omega arith, spaces_none _)
 
 pub loop-e-preserved : goal.loop-e-preserved
 loop-e-preserved c =
-    let at-put = c in
-    let at-loop = at-put in
-    (omega arith, omega arith, spaces_next _ _ at-loop.loop-e.invariant.0 at-loop.loop-e.invariant.2 at-put.put.ensures)
+    (omega arith, omega arith, spaces_next _ _ c.loop-e.invariant.0 c.loop-e.invariant.2 c.put.ensures)
 
 pub shape_of-out : goal.shape_of-out
 shape_of-out c = puts_length c.loop-e.invariant.2

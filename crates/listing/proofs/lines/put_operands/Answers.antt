@@ -12,16 +12,13 @@ pub loop-k-init : goal.loop-k-init
 loop-k-init c = (omega arith, omega arith, omega arith, left_start refl)
 
 pub loop-k-preserved : goal.loop-k-preserved
-loop-k-preserved c =
-    let at-put-operand = c in
-    let at-operand-kind = at-put-operand in
-    let at-loop = at-operand-kind in (
-      omega arith,
-      omega arith,
-      omega arith,
-      left_next at-loop.loop-k.invariant.3
-          (operands_next _ _ _ _ (omega arith) (omega arith) at-operand-kind.operand_kind.ensures) at-put-operand.put_operand-e.ensures.puts,
-    )
+loop-k-preserved c = (
+  omega arith,
+  omega arith,
+  omega arith,
+  left_next c.loop-k.invariant.3
+      (operands_next _ _ _ _ (omega arith) (omega arith) c.operand_kind.ensures) c.put_operand-e.ensures.puts,
+)
 
 pub shape_of-out : goal.shape_of-out
 shape_of-out c = puts_length (left_none c.loop-k.invariant.3 (operands_none _ _ _ (omega arith) (omega arith)))

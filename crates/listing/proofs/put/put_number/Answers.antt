@@ -12,18 +12,14 @@ returns-then-n-lt10 c =
 
 pub returns-then-n-lt100 : goal.returns-then-n-lt100
 returns-then-n-lt100 c =
-    let second = c in
-    let first = second in
-    let start = first in record {
-      puts = two_digits _ start.if-n-lt10.false start.if-n-lt100.true first.put-then-n-lt100.ensures second.put-then-n-lt100-2.ensures;
+    record {
+      puts = two_digits _ c.if-n-lt10.false c.if-n-lt100.true c.put-then-n-lt100.ensures c.put-then-n-lt100-2.ensures;
       upper_bound = omega arith;
     }
 
 pub returns : goal.returns
 returns c =
-    let third = c in
-    let second = third in
-    let first = second in record {
-      puts = three_digits _ first.if-n-lt100.false first.put-2.ensures second.put-3.ensures third.put-4.ensures;
+    record {
+      puts = three_digits _ c.if-n-lt100.false c.put-2.ensures c.put-3.ensures c.put-4.ensures;
       upper_bound = omega arith;
     }

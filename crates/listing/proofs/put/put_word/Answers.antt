@@ -8,8 +8,7 @@ loop-i-init c = (omega arith, letters_none _ (word_of c.args.w))
 
 pub loop-i-preserved : goal.loop-i-preserved
 loop-i-preserved c =
-    let p = c in
-    (omega arith, letters_next _ _ _ _ (omega arith) p.loop-i.invariant.1 p.letter.ensures p.put.ensures)
+    (omega arith, letters_next _ _ _ _ (omega arith) c.loop-i.invariant.1 c.letter.ensures c.put.ensures)
 
 pub shape_of-out : goal.shape_of-out
 shape_of-out c = puts_length c.loop-i.invariant.1

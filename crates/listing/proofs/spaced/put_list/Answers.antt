@@ -13,8 +13,7 @@ returns-then-n-eq0 c =
 
 pub returns : goal.returns
 returns c =
-    let at-put-numbers = c in
-    let at-word-behind = at-put-numbers in record {
-      puts = puts_as (list_some _ _ _ _ (omega arith)) (puts_then at-word-behind.word_behind-e.ensures.puts at-put-numbers.put_numbers.ensures.puts);
+    record {
+      puts = puts_as (list_some _ _ _ _ (omega arith)) (puts_then c.word_behind-e.ensures.puts c.put_numbers.ensures.puts);
       upper_bound = omega arith;
     }

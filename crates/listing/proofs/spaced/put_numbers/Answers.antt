@@ -8,15 +8,13 @@ pub loop-i-init : goal.loop-i-init
 loop-i-init c = (omega arith, omega arith, omega arith, left_start (numbers_all _ _ (omega arith)))
 
 pub loop-i-preserved : goal.loop-i-preserved
-loop-i-preserved c =
-    let at-number-behind = c in
-    let at-loop = at-number-behind in (
-      omega arith,
-      omega arith,
-      omega arith,
-      left_next at-loop.loop-i.invariant.3 (numbers_next _ _ _ _ (omega arith))
-          at-number-behind.number_behind-e.ensures.puts,
-    )
+loop-i-preserved c = (
+  omega arith,
+  omega arith,
+  omega arith,
+  left_next c.loop-i.invariant.3 (numbers_next _ _ _ _ (omega arith))
+      c.number_behind-e.ensures.puts,
+)
 
 pub shape_of-out : goal.shape_of-out
 shape_of-out c = puts_length (left_none c.loop-i.invariant.3 (numbers_none _ _ _ (omega arith)))

@@ -26,22 +26,18 @@ returns-in-Location c =
 pub returns-in-Gate : goal.returns-in-Gate
 unfolding said
 returns-in-Gate c =
-    let at-word-behind = c in
-    let at-gate-word = at-word-behind in
-    let at-enum-told3 = at-gate-word in record {
-      puts = operand_word _ at-enum-told3.in-Gate.is
-          (sym (ap (λ (w : Text). w ∷ []) at-gate-word.gate_word.ensures.1)) at-word-behind.word_behind.ensures.puts;
+    record {
+      puts = operand_word _ c.in-Gate.is
+          (sym (ap (λ (w : Text). w ∷ []) c.gate_word.ensures.1)) c.word_behind.ensures.puts;
       upper_bound = omega arith;
     }
 
 pub returns-in-Basis : goal.returns-in-Basis
 unfolding said
 returns-in-Basis c =
-    let at-word-behind2 = c in
-    let at-gate-word2 = at-word-behind2 in
-    let at-enum-told4 = at-gate-word2 in record {
-      puts = operand_word _ at-enum-told4.in-Basis.is
-          (sym (ap (λ (w : Text). w ∷ []) at-gate-word2.gate_word-in-Basis.ensures.1)) at-word-behind2.word_behind-in-Basis.ensures.puts;
+    record {
+      puts = operand_word _ c.in-Basis.is
+          (sym (ap (λ (w : Text). w ∷ []) c.gate_word-in-Basis.ensures.1)) c.word_behind-in-Basis.ensures.puts;
       upper_bound = omega arith;
     }
 

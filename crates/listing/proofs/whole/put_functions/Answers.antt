@@ -27,32 +27,22 @@ bounds-bodies-g c = omega (arith, few c.requires.0.1)
 
 pub put_block-body-requires : goal.put_block-body-requires
 put_block-body-requires c =
-    let at-put-head = c in
-    let at-loop-test = at-put-head in
-    let at-loop = at-loop-test in
-    let start = at-loop in
-    let h = start.requires.0.1 in
-    let l = at-loop-test.loop-g-test.true in
-    (function_here h _ l, function_room h _ _ at-loop.loop-g.e _ l (omega (arith, at-loop.loop-g.invariant.1)) at-put-head.put_head-head.ensures.upper_bound)
+    let h = c.requires.0.1 in
+    let l = c.loop-g-test.true in
+    (function_here h _ l, function_room h _ _ c.loop-g.e _ l (omega (arith, c.loop-g.invariant.1)) c.put_head-head.ensures.upper_bound)
 
 pub overflow_add-g : goal.overflow_add-g
 overflow_add-g c =
-    let start = c in
-    omega (arith, few start.requires.0.1)
+    omega (arith, few c.requires.0.1)
 
 pub loop-g-preserved : goal.loop-g-preserved
 loop-g-preserved c =
-    let at-put-block = c in
-    let at-put-head = at-put-block in
-    let at-loop-test = at-put-head in
-    let at-loop = at-loop-test in
-    let start = at-loop in
-    let h = start.requires.0.1 in
-    let b = at-put-block.put_block-body in (
+    let h = c.requires.0.1 in
+    let b = c.put_block-body in (
       omega arith,
-      function_short h _ _ _ _ _ b.result at-loop.loop-g.invariant.1 at-put-head.put_head-head.ensures.upper_bound b.ensures.between,
+      function_short h _ _ _ _ _ b.result c.loop-g.invariant.1 c.put_head-head.ensures.upper_bound b.ensures.between,
       search rules,
-      functions_step _ b.result h at-loop-test.loop-g-test.true at-loop.loop-g.invariant.3 refl refl refl at-put-head.put_head-head.ensures.puts
+      functions_step _ b.result h c.loop-g-test.true c.loop-g.invariant.3 refl refl refl c.put_head-head.ensures.puts
           b.ensures.block_put,
     )
 
@@ -61,8 +51,7 @@ shape_of-out c = c.loop-g.invariant.2
 
 pub returns : goal.returns
 returns c =
-    let at-loop = c in
-    let start = at-loop in record {
-      puts = functions_all _ start.requires.0.1 c.loop-g-test.false at-loop.loop-g.invariant.3;
-      upper_bound = omega (arith, few start.requires.0.1);
+    record {
+      puts = functions_all _ c.requires.0.1 c.loop-g-test.false c.loop-g.invariant.3;
+      upper_bound = omega (arith, few c.requires.0.1);
     }

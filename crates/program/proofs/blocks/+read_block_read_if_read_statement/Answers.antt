@@ -25,19 +25,17 @@ read_block-returns-then-depths-eq0 t c =
 pub read_block-returns-then-limit-first : goal.read_block-returns-then-limit-first
 read_block-returns-then-limit-first t c =
     let r = c.refused-then-limit-first.ensures in
-    let b = c in
-    let len = b.word_at-len.ensures.0 in record {
-      result_value = (λ d S h. said_refused _ _ _ r (block_long _ _ _ _ _ (omega arith) _ len _ b.if-depths-eq0.false (omega arith)));
+    let len = c.word_at-len.ensures.0 in record {
+      result_value = (λ d S h. said_refused _ _ _ r (block_long _ _ _ _ _ (omega arith) _ len _ c.if-depths-eq0.false (omega arith)));
       between = between_refused _ _ _ _ r;
     }
 
 pub read_block-loop-p-init : goal.read_block-loop-p-init
 read_block-loop-p-init t c =
-    let b = c in
-    let len = b.word_at-len.ensures.0 in (
+    let len = c.word_at-len.ensures.0 in (
       search rules,
       search rules,
-      (b.word_at-len.result, omega arith, λ d S h. block_enter _ _ _ _ _ (omega arith) _ len _ b.if-depths-eq0.false (omega arith)),
+      (c.word_at-len.result, omega arith, λ d S h. block_enter _ _ _ _ _ (omega arith) _ len _ c.if-depths-eq0.false (omega arith)),
     )
 
 pub read_block-loop-p-smaller : goal.read_block-loop-p-smaller
@@ -74,50 +72,43 @@ read_block-returns t c =
 
 pub read_if-read_block-requires : goal.read_if-read_block-requires
 read_if-read_block-requires t c =
-    let b = c in
-    let w = fixed_past _ _ _ _ b.fixed_part.ensures.behind_fixed _ (omega arith) (omega arith) b.in-At.is in omega arith
+    let w = fixed_past _ _ _ _ c.fixed_part.ensures.behind_fixed _ (omega arith) (omega arith) c.in-At.is in omega arith
 
 pub read_if-read_block-requires-in-At-read_block : goal.read_if-read_block-requires-in-At-read_block
 read_if-read_block-requires-in-At-read_block t c =
-    let b = c in
-    let w = fixed_past _ _ _ _ b.fixed_part.ensures.behind_fixed _ (omega arith) (omega arith) b.in-At.is in
+    let w = fixed_past _ _ _ _ c.fixed_part.ensures.behind_fixed _ (omega arith) (omega arith) c.in-At.is in
     let v = between_past _ _ _ _ c.in-At-read_block.is c.read_block.ensures.between in omega arith
 
 pub read_if-returns-in-At-read_block : goal.read_if-returns-in-At-read_block
 read_if-returns-in-At-read_block t c =
-    let then = c in
-    let fixed = then in
-    let b = fixed in
-    let w = fixed_past _ _ _ _ b.fixed_part.ensures.behind_fixed _ (omega arith) (omega arith) fixed.in-At.is in
-    let v = between_past _ _ _ _ then.in-At-read_block.is then.read_block.ensures.between in record {
-      result_value = (λ d S h. c.read_block-in-At-read_block.ensures.result_value d S h ∙ sym (st_if _ _ _ _ _ _ _ _ b.requires.2
-          (said_at _ _ _ fixed.in-At.is (b.fixed_part.ensures.result_value S h))
-          (said_at _ _ _ then.in-At-read_block.is (then.read_block.ensures.result_value d S h))));
+    let w = fixed_past _ _ _ _ c.fixed_part.ensures.behind_fixed _ (omega arith) (omega arith) c.in-At.is in
+    let v = between_past _ _ _ _ c.in-At-read_block.is c.read_block.ensures.between in record {
+      result_value = (λ d S h. c.read_block-in-At-read_block.ensures.result_value d S h ∙ sym (st_if _ _ _ _ _ _ _ _ c.requires.2
+          (said_at _ _ _ c.in-At.is (c.fixed_part.ensures.result_value S h))
+          (said_at _ _ _ c.in-At-read_block.is (c.read_block.ensures.result_value d S h))));
       between = between_wider _ _ _ _ _ (omega arith) (omega arith) c.read_block-in-At-read_block.ensures.between;
     }
 
 pub read_if-returns-in-Refused-read_block : goal.read_if-returns-in-Refused-read_block
 read_if-returns-in-Refused-read_block t c =
-    let fixed = c in
-    let b = fixed in record {
-      result_value = (λ d S h. sym (st_if_refused _ _ _ _ _ _ _ _ b.requires.2
-          (said_at _ _ _ fixed.in-At.is (b.fixed_part.ensures.result_value S h))
+    record {
+      result_value = (λ d S h. sym (st_if_refused _ _ _ _ _ _ _ _ c.requires.2
+          (said_at _ _ _ c.in-At.is (c.fixed_part.ensures.result_value S h))
           (said_no _ _ _ c.in-Refused-read_block.is (c.read_block.ensures.result_value d S h))));
       between = between_none _ _ _;
     }
 
 pub read_if-returns-in-Refused : goal.read_if-returns-in-Refused
 read_if-returns-in-Refused t c =
-    let b = c in record {
+    record {
       result_value = (λ d S h. sym (st_refused _ _ _ _ _ _ _ (omega arith) (omega arith)
-          (said_no _ _ _ c.in-Refused.is (b.fixed_part.ensures.result_value S h))));
+          (said_no _ _ _ c.in-Refused.is (c.fixed_part.ensures.result_value S h))));
       between = between_none _ _ _;
     }
 
 pub read_statement-read_block-requires : goal.read_statement-read_block-requires
 read_statement-read_block-requires t c =
-    let b = c in
-    let w = fixed_past _ _ _ _ b.fixed_part.ensures.behind_fixed _ (omega arith) (omega arith) b.in-At.is in omega arith
+    let w = fixed_past _ _ _ _ c.fixed_part.ensures.behind_fixed _ (omega arith) (omega arith) c.in-At.is in omega arith
 
 pub read_statement-call_list-requires : goal.read_statement-call_list-requires
 read_statement-call_list-requires t c = (call_fits _ _ _ _ c.fixed_part-in-12.ensures.behind_fixed _ c.in-12.is c.in-At-fixed_part.is, search rules)
@@ -131,34 +122,33 @@ read_statement-returns-in-0 t c =
 
 pub read_statement-returns-in-At : goal.read_statement-returns-in-At
 read_statement-returns-in-At t c =
-    let b = c in
-    let w = fixed_past _ _ _ _ b.fixed_part.ensures.behind_fixed _ (omega arith) (omega arith) c.in-At.is in record {
-      result_value = (λ d S h. c.read_block.ensures.result_value d S h ∙ sym (st_while _ _ _ _ _ _ _ b.in-11.is
-          (said_at _ _ _ c.in-At.is (b.fixed_part.ensures.result_value S h))));
+    let w = fixed_past _ _ _ _ c.fixed_part.ensures.behind_fixed _ (omega arith) (omega arith) c.in-At.is in record {
+      result_value = (λ d S h. c.read_block.ensures.result_value d S h ∙ sym (st_while _ _ _ _ _ _ _ c.in-11.is
+          (said_at _ _ _ c.in-At.is (c.fixed_part.ensures.result_value S h))));
       between = between_wider _ _ _ _ _ (omega arith) (omega arith) c.read_block.ensures.between;
     }
 
 pub read_statement-returns-in-Refused : goal.read_statement-returns-in-Refused
 read_statement-returns-in-Refused t c =
-    let b = c in record {
+    record {
       result_value = (λ d S h. sym (st_refused _ _ _ _ _ _ _ (omega arith) (omega arith)
-          (said_no _ _ _ c.in-Refused.is (b.fixed_part.ensures.result_value S h))));
+          (said_no _ _ _ c.in-Refused.is (c.fixed_part.ensures.result_value S h))));
       between = between_none _ _ _;
     }
 
 pub read_statement-returns-in-At-fixed_part : goal.read_statement-returns-in-At-fixed_part
 read_statement-returns-in-At-fixed_part t c =
-    let b = c in record {
-      result_value = (λ d S h. c.call_list.ensures.result_value ∙ sym (st_call _ _ _ _ _ _ _ _ b.in-12.is
-          (said_at _ _ _ c.in-At-fixed_part.is (b.fixed_part-in-12.ensures.result_value S h)) h.places_are));
+    record {
+      result_value = (λ d S h. c.call_list.ensures.result_value ∙ sym (st_call _ _ _ _ _ _ _ _ c.in-12.is
+          (said_at _ _ _ c.in-At-fixed_part.is (c.fixed_part-in-12.ensures.result_value S h)) h.places_are));
       between = c.call_list.ensures.between;
     }
 
 pub read_statement-returns-in-Refused-fixed_part : goal.read_statement-returns-in-Refused-fixed_part
 read_statement-returns-in-Refused-fixed_part t c =
-    let b = c in record {
+    record {
       result_value = (λ d S h. sym (st_refused _ _ _ _ _ _ _ (omega arith) (omega arith)
-          (said_no _ _ _ c.in-Refused-fixed_part.is (b.fixed_part-in-12.ensures.result_value S h))));
+          (said_no _ _ _ c.in-Refused-fixed_part.is (c.fixed_part-in-12.ensures.result_value S h))));
       between = between_none _ _ _;
     }
 

@@ -15,19 +15,17 @@ returns-then-s-at-lt-BYTES c =
 
 pub returns-in-Made : goal.returns-in-Made
 returns-in-Made c =
-    let b = c in
-    let k = b.wide.ensures.0 in
-    let m = b.wide-2.ensures.0 in record {
+    let k = c.wide.ensures.0 in
+    let m = c.wide-2.ensures.0 in record {
       result_value = (λ fs h. c.read_block.ensures.result_value parameter (record { places = _; earlier = fs }) (record { places_are = refl; heads = h })
-          ∙ sym (fn_body _ _ _ (omega arith) _ _ k m _ b.new-header.ensures _ c.in-Made.is));
+          ∙ sym (fn_body _ _ _ (omega arith) _ _ k m _ c.new-header.ensures _ c.in-Made.is));
       between = c.read_block.ensures.between;
     }
 
 pub returns-in-Refused : goal.returns-in-Refused
 returns-in-Refused c =
-    let b = c in
-    let k = b.wide.ensures.0 in
-    let m = b.wide-2.ensures.0 in record {
-      result_value = (λ fs h. sym (fn_head _ _ _ (omega arith) _ _ k m _ b.new-header.ensures _ c.in-Refused.is));
+    let k = c.wide.ensures.0 in
+    let m = c.wide-2.ensures.0 in record {
+      result_value = (λ fs h. sym (fn_head _ _ _ (omega arith) _ _ k m _ c.new-header.ensures _ c.in-Refused.is));
       between = between_none _ _ _;
     }

@@ -10,13 +10,11 @@ loop-p-init c = (search rules, refl)
 
 pub returns-then-limit-wide : goal.returns-then-limit-wide
 returns-then-limit-wide c =
-    let b = c in
-    said_refused _ _ _ c.refused.ensures (b.loop-p.invariant.1 ∙ below_bad _ _ _ _ b.loop-p-test.true (omega arith))
+    said_refused _ _ _ c.refused.ensures (c.loop-p.invariant.1 ∙ below_bad _ _ _ _ c.loop-p-test.true (omega arith))
 
 pub loop-p-preserved : goal.loop-p-preserved
 loop-p-preserved c =
-    let b = c in
-    (search rules, b.loop-p.invariant.1 ∙ below_more _ _ _ _ b.loop-p-test.true (omega arith))
+    (search rules, c.loop-p.invariant.1 ∙ below_more _ _ _ _ c.loop-p-test.true (omega arith))
 
 pub returns : goal.returns
 returns c = sym (c.loop-p.invariant.1 ∙ below_end _ _ _ _ c.loop-p.invariant.0 c.loop-p-test.false)

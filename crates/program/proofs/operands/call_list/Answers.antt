@@ -14,20 +14,18 @@ returns-then-end-at c =
 
 pub returns-in-At : goal.returns-in-At
 returns-in-At c =
-    let b = c in
-    let k = b.wide-k.ensures.0 in
-    let m = b.wide-m.ensures.0 in
-    let places = said_at _ _ _ c.in-At.is b.all_below.ensures in record {
+    let k = c.wide-k.ensures.0 in
+    let m = c.wide-m.ensures.0 in
+    let places = said_at _ _ _ c.in-At.is c.all_below.ensures in record {
       result_value = c.all_below-in-At.ensures ∙ sym (call_past _ _ _ _ _ _ _ k m (omega arith) (omega arith) _ places);
       between = between_said _ _ _ _ _ c.all_below-in-At.ensures (λ q e. below_at _ _ _ _ q e) (omega arith) (omega arith);
     }
 
 pub returns-in-Refused : goal.returns-in-Refused
 returns-in-Refused c =
-    let b = c in
-    let k = b.wide-k.ensures.0 in
-    let m = b.wide-m.ensures.0 in
-    let places = said_no _ _ _ c.in-Refused.is b.all_below.ensures in record {
+    let k = c.wide-k.ensures.0 in
+    let m = c.wide-m.ensures.0 in
+    let places = said_no _ _ _ c.in-Refused.is c.all_below.ensures in record {
       result_value = sym (call_refused _ _ _ _ _ _ _ k m (omega arith) (omega arith) _ places);
       between = between_none _ _ _;
     }

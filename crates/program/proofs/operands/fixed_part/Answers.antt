@@ -23,28 +23,25 @@ pub returns-then-not-in_range : goal.returns-then-not-in_range
 unfolding BehindFixed
 returns-then-not-in_range c =
     let r = c.refused-then-not-in_range.ensures in
-    let b = c in
-    let kind = b.operand_kind.ensures in
-    let goods = b.loop-n.invariant.2 in record {
+    let kind = c.operand_kind.ensures in
+    let goods = c.loop-n.invariant.2 in record {
       result_value = (λ S h. said_refused _ _ _ r (fixed_bad _ _ _ _ (omega arith) (omega arith) (omega arith) _ _ _ (omega arith) (omega arith) (goods S h)
-          kind (b.in_range.ensures S h) c.if-not-in_range.true));
+          kind (c.in_range.ensures S h) c.if-not-in_range.true));
       behind_fixed = between_refused _ _ _ _ r;
     }
 
 pub loop-n-preserved : goal.loop-n-preserved
 loop-n-preserved c =
-    let b = c in
-    let kind = b.operand_kind.ensures in
-    let goods = b.loop-n.invariant.2 in
-    (search rules, search rules, λ S h. goods_more _ _ _ _ _ _ _ (goods S h) kind (b.in_range.ensures S h) c.if-not-in_range.false)
+    let kind = c.operand_kind.ensures in
+    let goods = c.loop-n.invariant.2 in
+    (search rules, search rules, λ S h. goods_more _ _ _ _ _ _ _ (goods S h) kind (c.in_range.ensures S h) c.if-not-in_range.false)
 
 pub returns : goal.returns
 unfolding BehindFixed
 returns c =
-    let b = c in
-    let at = b.args.at in
+    let at = c.args.at in
     let goods = c.loop-n.invariant.2 in record {
-      result_value = (λ S h. ap (λ (n : ℕ). ok (at + n)) b.fixed_size-size.ensures.value
+      result_value = (λ S h. ap (λ (n : ℕ). ok (at + n)) c.fixed_size-size.ensures.value
           ∙ sym (fixed_good _ S _ _ (omega arith) (omega arith) (omega arith) _ (omega arith) (goods S h)));
       behind_fixed = between_at _ _ _ (omega arith) (omega arith);
     }

@@ -6,9 +6,8 @@ use Rattle.route.proofs.front.further.Goals as goal
 
 pub returns : goal.returns
 returns c =
-    let d = c in
-    let a = d.args in record {
+    let a = c.args in record {
       long = c.reach_word.ensures.long;
       on = c.reach_word.ensures.on _ _ (c.reach_word-third.ensures.on _ _ (c.reach_word-second.ensures.on _ _
-          (d.reach_word-first.ensures.on (has a.left) a.hop.now (spread_start (λ y. refl) d.empty-none.ensures))));
+          (c.reach_word-first.ensures.on (has a.left) a.hop.now (spread_start (λ y. refl) c.empty-none.ensures))));
     }

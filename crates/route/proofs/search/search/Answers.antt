@@ -35,13 +35,12 @@ returns-then-a-b c =
 
 pub returns-then-contains : goal.returns-then-contains
 returns-then-contains c =
-    let d = c in
-    let a = d.args in
-    let n : length a.hop.now ≡ 256 = d.requires.hop_len in
+    let a = c.args in
+    let n : length a.hop.now ≡ 256 = c.requires.hop_len in
     let e = sym c.contains.ensures ∙ c.if-contains.true in
     let s : has (row_of a.rows.now a.a) a.b ≡ true = ap (λ r. has r a.b) (sym c.row-first.ensures) ∙ e in record {
       b_value = (λ R w. ends_hop R (has a.free) a.a a.b a.hop.now c.if-a-b.false (sym (w.row a.a a.b) ∙ s)
-          (omega (arith, d.requires.a_bound.0)));
+          (omega (arith, c.requires.a_bound.0)));
       upper_bound = omega arith;
     }
 
@@ -52,15 +51,14 @@ loop-first-init c =
     let r = c.remove in
     let s = c.remove-open in
     inner_whole (inner_of r.result s.result r.ensures s.ensures) level in
-    let d = c in
     let f = c.reach-f.result in
     let r = c.remove in
     let s = c.remove-open in
     let t = c.row-first in
     let i = inner in
-    let o : Inner (has d.args.free) d.args.a d.args.b (has s.result) = inner_of r.result s.result r.ensures s.ensures in
+    let o : Inner (has c.args.free) c.args.a c.args.b (has s.result) = inner_of r.result s.result r.ensures s.ensures in
     let e = sym c.contains.ensures ∙ c.if-contains.false in
-    let n = count_but_two (whole f.left f.next) 256 d.args.a d.args.b d.requires.a_bound.0 d.requires.a_bound.1 c.if-a-b.false (inner_first i) (inner_second i) in (
+    let n = count_but_two (whole f.left f.next) 256 c.args.a c.args.b c.requires.a_bound.0 c.requires.a_bound.1 c.if-a-b.false (inner_first i) (inner_second i) in (
       c.reach-f.ensures.long,
       omega arith,
       spread_apart level,
@@ -103,14 +101,13 @@ returns-then-not-is_empty c =
     let t = c.is_empty-in-loop-first.ensures.by_index c.if-not-is_empty.true in
     first_in _ _ t.0 t.1 c.first_from.ensures in
     let l = c.loop-first in
-    let d = c in
-    let t = d.row-first in
+    let t = c.row-first in
     let o = c.common-meet in
     let n : length l.hop ≡ 256 = l.invariant.0 in
     let y = c.is_empty.ensures.by_index c.if-is_empty.false in
     let z = hunt_some l.f.left l.f.next y.0 y.1 in record {
       b_value = (λ R w. hunt_found R inner t.result o.result c.first_from.result w (l.invariant.3 R w) c.if-a-b.false t.ensures o.ensures
-          c.first_from.ensures meets (omega (arith, d.requires.a_bound.0)));
+          c.first_from.ensures meets (omega (arith, c.requires.a_bound.0)));
       upper_bound = omega (arith, l.invariant.1);
     }
 

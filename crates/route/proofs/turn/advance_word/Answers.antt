@@ -15,37 +15,32 @@ returns-then-to c = λ N L n u. record { meets = u.meets; on = λ e. absurd (cla
 
 pub returns-then-new-eq0 : goal.returns-then-new-eq0
 returns-then-new-eq0 c =
-    let d = c in
-    let a = d.args in
+    let a = c.args in
     λ N L n u. record {
       meets = u.meets;
-      on = λ e. advanced_skip a.i (u.on e) (level_word a.i (u.on e) _ (set_word a.joined a.i d.requires) d.requires n) c.if-new-eq0.true;
+      on = λ e. advanced_skip a.i (u.on e) (level_word a.i (u.on e) _ (set_word a.joined a.i c.requires) c.requires n) c.if-new-eq0.true;
     }
 
 pub returns-then-new-other-ne0 : goal.returns-then-new-other-ne0
 returns-then-new-other-ne0 c =
-    let e = c in
-    let a = e.args in
-    let h = e.requires in
+    let a = c.args in
+    let h = c.requires in
     let f : Fits w64 (get_or a.joined.words a.i 0) = search rules in
     λ N L n u. record {
-      meets = λ _. level_meets a.i (u.on e.if-to.false) _ _ (set_word a.joined a.i h) (set_word a.other a.i h) h n f.fits c.if-new-other-ne0.true;
+      meets = λ _. level_meets a.i (u.on c.if-to.false) _ _ (set_word a.joined a.i h) (set_word a.other a.i h) h n f.fits c.if-new-other-ne0.true;
       on = λ m. absurd (clash refl m);
     }
 
 pub returns : goal.returns
 returns c =
-    let d = c in
-    let a = d.args in
-    let h = d.requires in
+    let a = c.args in
+    let h = c.requires in
     let f : Fits w64 (get_or a.joined.words a.i 0) = search rules in
     let s = set_word a.joined a.i h in
-    let e = c in
-    let k = e in
     λ N L n u. let v = u.on c.if-to.false in
     let w = level_word a.i v _ s h n in
     record {
       meets = λ m. absurd (clash m refl);
-      on = λ _. advanced_more a.i v _ _ s (set_word a.other a.i h) h n f.fits k.if-new-eq0.false e.if-new-other-ne0.false c.put.ensures
+      on = λ _. advanced_more a.i v _ _ s (set_word a.other a.i h) h n f.fits c.if-new-eq0.false c.if-new-other-ne0.false c.put.ensures
           (c.join_word.ensures N w (level_own a.i v w h c.put-own.ensures));
     }

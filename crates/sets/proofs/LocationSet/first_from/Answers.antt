@@ -12,8 +12,7 @@ returns-then-start-eq256 c = none_from _ _ (omega arith) (λ j p q. absurd (omeg
 
 pub returns-then-w-ne0 : goal.returns-then-w-ne0
 returns-then-w-ne0 c =
-    let a = c in
-    let f : Fits w64 (get_or a.args.self.words (a.args.start / 64) 0) = search rules in
+    let f : Fits w64 (get_or c.args.self.words (c.args.start / 64) 0) = search rules in
     first_word _ _ _ (omega arith) f.fits c.low.ensures
 
 pub loop-i-init : goal.loop-i-init

@@ -4,21 +4,18 @@ use Rattle.standing.proofs.rows.fits.Goals as goal
 
 pub returns-then-not-room : goal.returns-then-not-room
 returns-then-not-room c =
-    let r = c in
-    let a = r.args in
-    fits_no_room a.c a.b r.block_bytes-n.ensures.0 r.fixed_size.ensures.value r.room.ensures
+    let a = c.args in
+    fits_no_room a.c a.b c.block_bytes-n.ensures.0 c.fixed_size.ensures.value c.room.ensures
     c.if-not-room.true
 
 pub returns-then-n-eq0 : goal.returns-then-n-eq0
 returns-then-n-eq0 c =
-    let r = c in
-    let a = r.args in
-    fits_no_block a.c a.b r.block_bytes-n.ensures.0 r.fixed_size.ensures.value r.room.ensures
+    let a = c.args in
+    fits_no_block a.c a.b c.block_bytes-n.ensures.0 c.fixed_size.ensures.value c.room.ensures
     c.if-not-room.false c.if-n-eq0.true
 
 pub returns : goal.returns
 returns c =
-    let r = c in
-    let a = r.args in
-    fits_deep a.c a.b r.block_bytes-n.ensures.0 r.fixed_size.ensures.value r.room.ensures
+    let a = c.args in
+    fits_deep a.c a.b c.block_bytes-n.ensures.0 c.fixed_size.ensures.value c.room.ensures
     c.if-not-room.false c.if-n-eq0.false

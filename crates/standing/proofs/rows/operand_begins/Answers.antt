@@ -22,27 +22,23 @@ begins_word-requires c = let s = c.requires in (s.small.1, s.small.2, c.word_for
 
 pub rest_lives-requires : goal.rest_lives-requires
 rest_lives-requires c =
-    let n = c in
-    let s = n in
-    let a = s.args in
-    let few = callee_few a.c a.b a.n (search rules) n.operand_kind-kind.ensures n.count-limit.ensures.0
+    let a = c.args in
+    let few = callee_few a.c a.b a.n (search rules) c.operand_kind-kind.ensures c.count-limit.ensures.0
     c.loop-v-test.true in (
-      s.requires.small.0,
-      s.requires.small.3,
-      s.requires.small.4,
+      c.requires.small.0,
+      c.requires.small.3,
+      c.requires.small.4,
       search rules,
-      λ e. elim c.if-n-eq1.branch [ then-n-eq1 w ↦ omega (arith, few e (s.requires.small.7 e), w.f-is) | else-n-eq1 w ↦ absurd (w.if-n-eq1.false (s.requires.small.7 e)) ],
+      λ e. elim c.if-n-eq1.branch [ then-n-eq1 w ↦ omega (arith, few e (c.requires.small.7 e), w.f-is) | else-n-eq1 w ↦ absurd (w.if-n-eq1.false (c.requires.small.7 e)) ],
     )
 
 pub returns-then-rest_lives : goal.returns-then-rest_lives
 returns-then-rest_lives c =
-    let n = c in
-    let a = n.args in
+    let a = c.args in
     let u = part a.text.now a.at a.to in
-    let t = c in
     let v = c.loop-v.v in
-    operand_found a.c u a.b a.n a.first v n.operand_kind-kind.ensures n.count-limit.ensures.0 t.loop-v-test.true
-    t.word_for.ensures.value t.begins_word.ensures c.if-begins_word.true
+    operand_found a.c u a.b a.n a.first v c.operand_kind-kind.ensures c.count-limit.ensures.0 c.loop-v-test.true
+    c.word_for.ensures.value c.begins_word.ensures c.if-begins_word.true
     (elim c.if-n-eq1.branch [
       | then-n-eq1 w ↦ first_now a.n v a.first w.if-n-eq1.true w.f-is
       | else-n-eq1 w ↦ first_before a.n v a.first w.if-n-eq1.false w.f-is
@@ -51,24 +47,21 @@ returns-then-rest_lives c =
 
 pub loop-v-preserved : goal.loop-v-preserved
 loop-v-preserved c =
-    let n = c in
-    let a = n.args in
+    let a = c.args in
     let u = part a.text.now a.at a.to in
-    let l = c in
-    let v = l.loop-v.v in
-    none_more (operand_offered a.c u a.b a.n a.first) v l.loop-v.invariant (elim c.if-begins_word.branch [
+    let v = c.loop-v.v in
+    none_more (operand_offered a.c u a.b a.n a.first) v c.loop-v.invariant (elim c.if-begins_word.branch [
       | then-begins_word+else-rest_lives w ↦ operand_dead a.c u a.b a.n a.first v (elim w.if-n-eq1.branch [
         | then-n-eq1 x ↦ first_now a.n v a.first x.if-n-eq1.true x.f-is
         | else-n-eq1 x ↦ first_before a.n v a.first x.if-n-eq1.false x.f-is
       ]) w.rest_lives.ensures w.if-rest_lives.false
-      | else-begins_word w ↦ operand_not_begun a.c u a.b a.n a.first v n.operand_kind-kind.ensures
+      | else-begins_word w ↦ operand_not_begun a.c u a.b a.n a.first v c.operand_kind-kind.ensures
           c.word_for.ensures.value c.begins_word.ensures w.if-begins_word.false
     ])
 
 pub returns : goal.returns
 returns c =
-    let n = c in
-    let a = n.args in
+    let a = c.args in
     let u = part a.text.now a.at a.to in
-    operand_none a.c u a.b a.n a.first c.loop-v.v n.operand_kind-kind.ensures n.count-limit.ensures.0
+    operand_none a.c u a.b a.n a.first c.loop-v.v c.operand_kind-kind.ensures c.count-limit.ensures.0
     (omega arith) c.loop-v.invariant

@@ -10,23 +10,19 @@ loop-i-init c = (search rules, refl)
 
 pub returns-then-count-eq0 : goal.returns-then-count-eq0
 returns-then-count-eq0 c =
-    let k = c in
-    let l = k in
-    let a = l.args in
-    let none = worded_none a.c a.b l.loop-i.i (omega (arith, l.fixed_size-size.ensures.value)) k.operand_kind-kind.ensures
+    let a = c.args in
+    let none = worded_none a.c a.b c.loop-i.i (omega (arith, c.fixed_size-size.ensures.value)) c.operand_kind-kind.ensures
     c.is_silent.ensures c.if-not-is_silent.true c.count.ensures.0 c.if-count-eq0.true in
-    rest_none a.c a.b a.n a.first (l.loop-i.invariant.1 ∙ none)
+    rest_none a.c a.b a.n a.first (c.loop-i.invariant.1 ∙ none)
 
 pub loop-i-preserved : goal.loop-i-preserved
 loop-i-preserved c =
-    let k = c in
-    let l = k in
-    let a = l.args in (
+    let a = c.args in (
       search rules,
-      l.loop-i.invariant.1 ∙ elim c.if-not-is_silent.branch [
-        | then-not-is_silent+else-count-eq0 w ↦ worded_some a.c a.b l.loop-i.i (omega (arith, l.fixed_size-size.ensures.value)) k.operand_kind-kind.ensures
+      c.loop-i.invariant.1 ∙ elim c.if-not-is_silent.branch [
+        | then-not-is_silent+else-count-eq0 w ↦ worded_some a.c a.b c.loop-i.i (omega (arith, c.fixed_size-size.ensures.value)) c.operand_kind-kind.ensures
             w.count.ensures.0 w.if-count-eq0.false
-        | else-not-is_silent w ↦ worded_silent a.c a.b l.loop-i.i (omega (arith, l.fixed_size-size.ensures.value)) k.operand_kind-kind.ensures
+        | else-not-is_silent w ↦ worded_silent a.c a.b c.loop-i.i (omega (arith, c.fixed_size-size.ensures.value)) c.operand_kind-kind.ensures
             c.is_silent.ensures w.if-not-is_silent.false
       ],
     )
@@ -36,14 +32,12 @@ call_lives-requires c = let s = c.requires in (s.0, s.4 c.if-b-eq12.true)
 
 pub returns-then-b-eq12 : goal.returns-then-b-eq12
 returns-then-b-eq12 c =
-    let l = c in
-    let a = l.args in
-    let all-worded = l.loop-i.invariant.1 ∙ worded_end a.c a.b l.loop-i.i (omega (arith, l.fixed_size-size.ensures.value)) in
+    let a = c.args in
+    let all-worded = c.loop-i.invariant.1 ∙ worded_end a.c a.b c.loop-i.i (omega (arith, c.fixed_size-size.ensures.value)) in
     c.call_lives.ensures ∙ rest_call a.c a.b a.n a.first all-worded c.if-b-eq12.true
 
 pub returns : goal.returns
 returns c =
-    let l = c in
-    let a = l.args in
-    let all-worded = l.loop-i.invariant.1 ∙ worded_end a.c a.b l.loop-i.i (omega (arith, l.fixed_size-size.ensures.value)) in
+    let a = c.args in
+    let all-worded = c.loop-i.invariant.1 ∙ worded_end a.c a.b c.loop-i.i (omega (arith, c.fixed_size-size.ensures.value)) in
     rest_other a.c a.b a.n a.first all-worded c.if-b-eq12.false

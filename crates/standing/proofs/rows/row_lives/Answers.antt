@@ -13,27 +13,22 @@ loop-v-init c = let a = c.args in none_yet (rest_lives a.c a.b 2)
 
 pub rest_lives-requires : goal.rest_lives-requires
 rest_lives-requires c =
-    let n = c in
-    let s = n in
-    let few = callee_few s.args.c s.args.b 1 (search rules) n.operand_kind.ensures n.count-n.ensures.0 c.loop-v-test.true in
-    (s.requires.0, s.requires.1, s.requires.2, search rules, λ e. few e refl)
+    let few = callee_few c.args.c c.args.b 1 (search rules) c.operand_kind.ensures c.count-n.ensures.0 c.loop-v-test.true in
+    (c.requires.0, c.requires.1, c.requires.2, search rules, λ e. few e refl)
 
 pub returns-then-rest_lives : goal.returns-then-rest_lives
 returns-then-rest_lives c =
-    let n = c in
-    let a = n.args in
-    row_found a.c a.b n.fits.ensures n.operand_kind.ensures n.count-n.ensures.0 n.if-not-fits.false
+    let a = c.args in
+    row_found a.c a.b c.fits.ensures c.operand_kind.ensures c.count-n.ensures.0 c.if-not-fits.false
     c.loop-v.v c.loop-v-test.true c.rest_lives.ensures c.if-rest_lives.true
 
 pub loop-v-preserved : goal.loop-v-preserved
 loop-v-preserved c =
-    let l = c in
-    let a = l.args in
-    none_more (rest_lives a.c a.b 2) l.loop-v.v l.loop-v.invariant (sym c.rest_lives.ensures ∙ c.if-rest_lives.false)
+    let a = c.args in
+    none_more (rest_lives a.c a.b 2) c.loop-v.v c.loop-v.invariant (sym c.rest_lives.ensures ∙ c.if-rest_lives.false)
 
 pub returns : goal.returns
 returns c =
-    let n = c in
-    let a = n.args in
-    row_none a.c a.b n.fits.ensures n.operand_kind.ensures n.count-n.ensures.0 n.if-not-fits.false
+    let a = c.args in
+    row_none a.c a.b c.fits.ensures c.operand_kind.ensures c.count-n.ensures.0 c.if-not-fits.false
     c.loop-v.v (omega arith) c.loop-v.invariant

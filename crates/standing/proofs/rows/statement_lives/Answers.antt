@@ -10,14 +10,12 @@ loop-b-init c = (search rules, search rules, none_first (row_lives c.args.c))
 
 pub returns-then-row_lives : goal.returns-then-row_lives
 returns-then-row_lives c =
-    let l = c in
-    statement_found l.args.c l.loop-b.b (search rules) (search rules) c.row_lives.ensures c.if-row_lives.true
+    statement_found c.args.c c.loop-b.b (search rules) (search rules) c.row_lives.ensures c.if-row_lives.true
 
 pub loop-b-preserved : goal.loop-b-preserved
 loop-b-preserved c =
-    let l = c in
     let e = sym c.row_lives.ensures ∙ c.if-row_lives.false in
-    (search rules, search rules, none_next (row_lives l.args.c) l.loop-b.b (search rules) l.loop-b.invariant.2 e)
+    (search rules, search rules, none_next (row_lives c.args.c) c.loop-b.b (search rules) c.loop-b.invariant.2 e)
 
 pub returns : goal.returns
 returns c = statement_none c.args.c c.loop-b.b (omega arith) c.loop-b.invariant.2

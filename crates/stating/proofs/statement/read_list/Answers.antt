@@ -16,33 +16,29 @@ returns-then-n-eq0 c =
 pub read_numbers-requires : goal.read_numbers-requires
 unfolding Onto
 read_numbers-requires c =
-    let read = c in
-    let onto = subst (Onto _ _) read.in-At.is read.expect.ensures.onto in
+    let onto = subst (Onto _ _) c.in-At.is c.expect.ensures.onto in
     omega (arith, onto.1)
 
 pub returns-in-Not : goal.returns-in-Not
 unfolding Onto
 returns-in-Not c =
-    let called = c in record {
-      reads_list = list_not _ _ _ _ _ _ _ _ _ _ called.if-n-eq0.false (subst (Expects _ _ _ _ _ _) c.in-Not.is called.expect.ensures.expects);
+    record {
+      reads_list = list_not _ _ _ _ _ _ _ _ _ _ c.if-n-eq0.false (subst (Expects _ _ _ _ _ _) c.in-Not.is c.expect.ensures.expects);
       onto = tt;
     }
 
 pub returns-in-Begun : goal.returns-in-Begun
 unfolding Onto
 returns-in-Begun c =
-    let called = c in record {
-      reads_list = list_begun _ _ _ _ _ _ _ _ _ _ called.if-n-eq0.false (subst (Expects _ _ _ _ _ _) c.in-Begun.is called.expect.ensures.expects);
+    record {
+      reads_list = list_begun _ _ _ _ _ _ _ _ _ _ c.if-n-eq0.false (subst (Expects _ _ _ _ _ _) c.in-Begun.is c.expect.ensures.expects);
       onto = tt;
     }
 
 pub returns-in-At : goal.returns-in-At
 returns-in-At c =
-    let numbers = c in
-    let read = numbers in
-    let called = read in
-    let onto = subst (Onto _ _) read.in-At.is called.expect.ensures.onto in record {
-      reads_list = list_read _ _ _ _ _ _ _ _ _ _ _ _ called.if-n-eq0.false (subst (Expects _ _ _ _ _ _) read.in-At.is called.expect.ensures.expects)
-          numbers.read_numbers.ensures.reads_numbers;
-      onto = onto_then _ _ _ _ onto numbers.read_numbers.ensures.onto;
+    let onto = subst (Onto _ _) c.in-At.is c.expect.ensures.onto in record {
+      reads_list = list_read _ _ _ _ _ _ _ _ _ _ _ _ c.if-n-eq0.false (subst (Expects _ _ _ _ _ _) c.in-At.is c.expect.ensures.expects)
+          c.read_numbers.ensures.reads_numbers;
+      onto = onto_then _ _ _ _ onto c.read_numbers.ensures.onto;
     }

@@ -10,71 +10,58 @@ use Rattle.stating.proofs.statement.read_lists.Goals as goal
 pub returns-then-not-room : goal.returns-then-not-room
 unfolding Onto
 returns-then-not-room c =
-    let wrote = c in record {
-      reads_lists = lists_full _ _ _ _ _ _ _ _ _ wrote.unwritten-k.ensures wrote.unwritten-m.ensures _
+    record {
+      reads_lists = lists_full _ _ _ _ _ _ _ _ _ c.unwritten-k.ensures c.unwritten-m.ensures _
           (sym c.room.ensures ∙ c.if-not-room.true);
       onto = tt;
     }
 
 pub read_list-requires : goal.read_list-requires
 read_list-requires c =
-    let k = c in
-    let start = k in
-    let most = most_k _ _ start.requires.1.1 _ start.requires.2 in
-    omega (arith, most, k.unwritten-k.ensures)
+    let most = most_k _ _ c.requires.1.1 _ c.requires.2 in
+    omega (arith, most, c.unwritten-k.ensures)
 
 pub overflow_add-c-in-At : goal.overflow_add-c-in-At
 overflow_add-c-in-At c =
-    let start = c in
-    omega (arith, start.requires.1.1.fits)
+    omega (arith, c.requires.1.1.fits)
 
 pub overflow_add-c-in-At-2 : goal.overflow_add-c-in-At-2
 overflow_add-c-in-At-2 c =
-    let start = c in
-    omega (arith, start.requires.1.1.fits)
+    omega (arith, c.requires.1.1.fits)
 
 pub read_list-requires-in-At : goal.read_list-requires-in-At
 unfolding Onto
 read_list-requires-in-At c =
-    let read = c in
-    let called = read in
-    let wrote = called in
-    let start = wrote in
-    let k = most_k _ _ start.requires.1.1 _ start.requires.2 in
-    let m = most_m _ _ start.requires.1.1 _ start.requires.2 in
-    let onto = subst (Onto _ _) read.in-At.is called.read_list.ensures.onto in
-    omega (arith, k, m, onto.1, wrote.unwritten-m.ensures, wrote.unwritten-k.ensures, start.requires.1.1.fits)
+    let k = most_k _ _ c.requires.1.1 _ c.requires.2 in
+    let m = most_m _ _ c.requires.1.1 _ c.requires.2 in
+    let onto = subst (Onto _ _) c.in-At.is c.read_list.ensures.onto in
+    omega (arith, k, m, onto.1, c.unwritten-m.ensures, c.unwritten-k.ensures, c.requires.1.1.fits)
 
 pub returns-in-Not : goal.returns-in-Not
 unfolding Onto
 returns-in-Not c =
-    let called = c in
-    let wrote = called in record {
-      reads_lists = lists_not _ _ _ _ _ _ _ _ _ wrote.unwritten-k.ensures wrote.unwritten-m.ensures _ _ c.in-Not.is
-          (sym called.room.ensures ∙ called.if-not-room.false)
-          called.read_list.ensures.reads_list;
+    record {
+      reads_lists = lists_not _ _ _ _ _ _ _ _ _ c.unwritten-k.ensures c.unwritten-m.ensures _ _ c.in-Not.is
+          (sym c.room.ensures ∙ c.if-not-room.false)
+          c.read_list.ensures.reads_list;
       onto = tt;
     }
 
 pub returns-in-Begun : goal.returns-in-Begun
 unfolding Onto
 returns-in-Begun c =
-    let called = c in
-    let wrote = called in record {
-      reads_lists = lists_begun _ _ _ _ _ _ _ _ _ wrote.unwritten-k.ensures wrote.unwritten-m.ensures _ _ c.in-Begun.is
-          (sym called.room.ensures ∙ called.if-not-room.false)
-          called.read_list.ensures.reads_list;
+    record {
+      reads_lists = lists_begun _ _ _ _ _ _ _ _ _ c.unwritten-k.ensures c.unwritten-m.ensures _ _ c.in-Begun.is
+          (sym c.room.ensures ∙ c.if-not-room.false)
+          c.read_list.ensures.reads_list;
       onto = tt;
     }
 
 pub returns-in-At : goal.returns-in-At
 returns-in-At c =
-    let more = c in
-    let read = more in
-    let called = read in
-    let wrote = called in record {
-      reads_lists = lists_read _ _ _ _ _ _ _ _ _ wrote.unwritten-k.ensures wrote.unwritten-m.ensures _ _ _ _ _ read.in-At.is
-          (sym called.room.ensures ∙ called.if-not-room.false)
-          called.read_list.ensures.reads_list more.read_list-in-At.ensures.reads_list;
-      onto = onto_then _ _ _ _ (subst (Onto _ _) read.in-At.is called.read_list.ensures.onto) more.read_list-in-At.ensures.onto;
+    record {
+      reads_lists = lists_read _ _ _ _ _ _ _ _ _ c.unwritten-k.ensures c.unwritten-m.ensures _ _ _ _ _ c.in-At.is
+          (sym c.room.ensures ∙ c.if-not-room.false)
+          c.read_list.ensures.reads_list c.read_list-in-At.ensures.reads_list;
+      onto = onto_then _ _ _ _ (subst (Onto _ _) c.in-At.is c.read_list.ensures.onto) c.read_list-in-At.ensures.onto;
     }

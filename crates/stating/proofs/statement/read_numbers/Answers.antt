@@ -34,22 +34,19 @@ returns-in-Begun c =
 pub overflow_cast-v : goal.overflow_cast-v
 unfolding NumberOnto
 overflow_cast-v c =
-    let read = c in
-    let onto = subst (NumberOnto _ _ _) read.in-Is.is read.number_below.ensures.number_onto in
+    let onto = subst (NumberOnto _ _ _) c.in-Is.is c.number_below.ensures.number_onto in
     omega (arith, onto.0)
 
 pub loop-j-preserved : goal.loop-j-preserved
 unfolding NumberOnto
 loop-j-preserved c =
-    let read = c in
-    let called = read in
-    let loop = called.loop-j in
-    let onto = subst (NumberOnto _ _ _) read.in-Is.is called.number_below.ensures.number_onto in
-    let number = subst (Numbers _ _ _ _ _) read.in-Is.is called.number_below.ensures.numbers in (
-      omega (arith, called.loop-j-test.true),
+    let loop = c.loop-j in
+    let onto = subst (NumberOnto _ _ _) c.in-Is.is c.number_below.ensures.number_onto in
+    let number = subst (Numbers _ _ _ _ _) c.in-Is.is c.number_below.ensures.numbers in (
+      omega (arith, c.loop-j-test.true),
       omega (arith, onto.1),
       omega (arith, onto.2),
-      numbers_next _ _ _ _ _ _ _ _ _ _ _ loop.invariant.3 _ _ _ called.loop-j-test.true number c.put.ensures,
+      numbers_next _ _ _ _ _ _ _ _ _ _ _ loop.invariant.3 _ _ _ c.loop-j-test.true number c.put.ensures,
     )
 
 pub shape_of-out : goal.shape_of-out

@@ -23,10 +23,8 @@ loop-n-init c = (omega arith, omega arith, omega arith, omega arith, operands_no
 
 pub unwritten-requires : goal.unwritten-requires
 unwritten-requires c =
-    let asked = c in
-    let start = asked in
     let face = facing _ _ _ _ _ _ c.fixed_size-size.ensures.value c.loop-n-test.true c.operand_kind-kind.ensures c.is_silent.ensures c.if-is_silent.true in
-    let called = silent_call _ _ start.requires.2 start.requires.3 (omega arith) (omega arith) face.inside face.spoken in
+    let called = silent_call _ _ c.requires.2 c.requires.3 (omega arith) (omega arith) face.inside face.spoken in
     first_small _ _ _ _ _ _ _ _ _ _ _ c.loop-n.invariant.4 (few c.requires.1.1) called.0
 
 pub shape_of-out-in-Nothing : goal.shape_of-out-in-Nothing
@@ -35,31 +33,27 @@ shape_of-out-in-Nothing c = operands_length _ _ _ _ _ _ _ _ _ _ _ c.loop-n.invar
 pub returns-in-Nothing : goal.returns-in-Nothing
 unfolding Onto
 returns-in-Nothing c =
-    let next = c in
-    let asked = next in record {
-      reads_operands = operands_not _ _ _ _ _ _ _ _ _ _ _ asked.loop-n.invariant.4 _ _ _ _ (facing _ _ _ _ _ _ c.fixed_size-size.ensures.value c.loop-n-test.true c.operand_kind-kind.ensures c.is_silent.ensures c.if-is_silent.false) c.in-Nothing.is
-          next.next_word.ensures;
+    record {
+      reads_operands = operands_not _ _ _ _ _ _ _ _ _ _ _ c.loop-n.invariant.4 _ _ _ _ (facing _ _ _ _ _ _ c.fixed_size-size.ensures.value c.loop-n-test.true c.operand_kind-kind.ensures c.is_silent.ensures c.if-is_silent.false) c.in-Nothing.is
+          c.next_word.ensures;
       onto = (tt, first_small _ _ _ _ _ _ _ _ _ _ _ c.loop-n.invariant.4 (few c.requires.1.1));
     }
 
 pub operand_begins-requires : goal.operand_begins-requires
 unfolding NextWord
 operand_begins-requires c =
-    let next = c in
-    let asked = next in
-    let start = asked in
-    let mean = start.requires.1.1 in
+    let mean = c.requires.1.1 in
     let face = facing _ _ _ _ _ _ c.fixed_size-size.ensures.value c.loop-n-test.true c.operand_kind-kind.ensures c.is_silent.ensures c.if-is_silent.false in
-    let word = subst (NextWord _ _ _ _) c.in-Unfinished.is next.next_word.ensures in
-    let size = asked.fixed_size-size.ensures in record {
+    let word = subst (NextWord _ _ _ _) c.in-Unfinished.is c.next_word.ensures in
+    let size = c.fixed_size-size.ensures in record {
       small = (
         means_small _ _ mean,
         omega (arith, word.2),
-        omega (arith, start.requires.0),
-        start.requires.2,
-        start.requires.3,
+        omega (arith, c.requires.0),
+        c.requires.2,
+        c.requires.3,
         omega arith,
-        omega (arith, size, asked.loop-n-test.true),
+        omega (arith, size, c.loop-n-test.true),
         written_first _ _ (omega arith) face.inside face.spoken,
       );
       n_value = face.spoken;
@@ -71,11 +65,9 @@ shape_of-out-then-operand_begins c = operands_length _ _ _ _ _ _ _ _ _ _ _ c.loo
 pub returns-then-operand_begins : goal.returns-then-operand_begins
 unfolding Onto
 returns-then-operand_begins c =
-    let told = c in
-    let next = told in
-    let asked = next in record {
-      reads_operands = operands_begun _ _ _ _ _ _ _ _ _ _ _ asked.loop-n.invariant.4 _ _ _ _ _ (facing _ _ _ _ _ _ c.fixed_size-size.ensures.value c.loop-n-test.true c.operand_kind-kind.ensures c.is_silent.ensures c.if-is_silent.false) told.in-Unfinished.is
-          next.next_word.ensures c.operand_begins.ensures c.if-operand_begins.true;
+    record {
+      reads_operands = operands_begun _ _ _ _ _ _ _ _ _ _ _ c.loop-n.invariant.4 _ _ _ _ _ (facing _ _ _ _ _ _ c.fixed_size-size.ensures.value c.loop-n-test.true c.operand_kind-kind.ensures c.is_silent.ensures c.if-is_silent.false) c.in-Unfinished.is
+          c.next_word.ensures c.operand_begins.ensures c.if-operand_begins.true;
       onto = (tt, first_small _ _ _ _ _ _ _ _ _ _ _ c.loop-n.invariant.4 (few c.requires.1.1));
     }
 
@@ -85,21 +77,17 @@ shape_of-out-in-Unfinished c = operands_length _ _ _ _ _ _ _ _ _ _ _ c.loop-n.in
 pub returns-in-Unfinished : goal.returns-in-Unfinished
 unfolding Onto
 returns-in-Unfinished c =
-    let told = c in
-    let next = told in
-    let asked = next in record {
-      reads_operands = operands_unbegun _ _ _ _ _ _ _ _ _ _ _ asked.loop-n.invariant.4 _ _ _ _ _ (facing _ _ _ _ _ _ c.fixed_size-size.ensures.value c.loop-n-test.true c.operand_kind-kind.ensures c.is_silent.ensures c.if-is_silent.false) told.in-Unfinished.is
-          next.next_word.ensures c.operand_begins.ensures c.if-operand_begins.false;
+    record {
+      reads_operands = operands_unbegun _ _ _ _ _ _ _ _ _ _ _ c.loop-n.invariant.4 _ _ _ _ _ (facing _ _ _ _ _ _ c.fixed_size-size.ensures.value c.loop-n-test.true c.operand_kind-kind.ensures c.is_silent.ensures c.if-is_silent.false) c.in-Unfinished.is
+          c.next_word.ensures c.operand_begins.ensures c.if-operand_begins.false;
       onto = (tt, first_small _ _ _ _ _ _ _ _ _ _ _ c.loop-n.invariant.4 (few c.requires.1.1));
     }
 
 pub value-v-requires : goal.value-v-requires
 unfolding NextWord
 value-v-requires c =
-    let next = c in
-    let asked = next in
-    let word = subst (NextWord _ _ _ _) c.in-To.is next.next_word.ensures in
-    (omega (arith, word.2), omega (arith, word.3, asked.requires.0), sym asked.is_silent.ensures ∙ next.if-is_silent.false)
+    let word = subst (NextWord _ _ _ _) c.in-To.is c.next_word.ensures in
+    (omega (arith, word.2), omega (arith, word.3, c.requires.0), sym c.is_silent.ensures ∙ c.if-is_silent.false)
 
 pub shape_of-out-then-count-v : goal.shape_of-out-then-count-v
 shape_of-out-then-count-v c = operands_length _ _ _ _ _ _ _ _ _ _ _ c.loop-n.invariant.4 c.args.out.now c.args.c.used c.args.b c.put.ensures
@@ -107,11 +95,9 @@ shape_of-out-then-count-v c = operands_length _ _ _ _ _ _ _ _ _ _ _ c.loop-n.inv
 pub returns-then-count-v : goal.returns-then-count-v
 unfolding Onto
 returns-then-count-v c =
-    let to = c in
-    let next = to in
-    let asked = next in record {
-      reads_operands = operands_above _ _ _ _ _ _ _ _ _ _ _ asked.loop-n.invariant.4 _ _ _ _ _ _ _ (facing _ _ _ _ _ _ c.fixed_size-size.ensures.value c.loop-n-test.true c.operand_kind-kind.ensures c.is_silent.ensures c.if-is_silent.false) to.in-To.is
-          next.next_word.ensures c.value-v.ensures c.count.ensures.0 c.if-count-v.true;
+    record {
+      reads_operands = operands_above _ _ _ _ _ _ _ _ _ _ _ c.loop-n.invariant.4 _ _ _ _ _ _ _ (facing _ _ _ _ _ _ c.fixed_size-size.ensures.value c.loop-n-test.true c.operand_kind-kind.ensures c.is_silent.ensures c.if-is_silent.false) c.in-To.is
+          c.next_word.ensures c.value-v.ensures c.count.ensures.0 c.if-count-v.true;
       onto = (tt, first_small _ _ _ _ _ _ _ _ _ _ _ c.loop-n.invariant.4 (few c.requires.1.1));
     }
 
@@ -126,19 +112,17 @@ overflow_add-at c =
 pub loop-n-preserved : goal.loop-n-preserved
 unfolding NextWord
 loop-n-preserved c =
-    let asked = c in
-    let start = asked in
-    let read = asked.loop-n.invariant.4 in
-    let size = asked.fixed_size-size.ensures in
-    let inside = asked.loop-n-test.true in
+    let read = c.loop-n.invariant.4 in
+    let size = c.fixed_size-size.ensures in
+    let inside = c.loop-n-test.true in
     elim c.if-is_silent.branch [
       | then-is_silent w ↦
-          let face = facing _ _ _ _ _ _ size.value inside asked.operand_kind-kind.ensures asked.is_silent.ensures w.if-is_silent.true in
-          let next = operands_silent _ _ _ _ _ _ _ _ _ _ _ read _ _ _ start.requires.2 start.requires.3 (omega (arith, size, inside)) face
+          let face = facing _ _ _ _ _ _ size.value inside c.operand_kind-kind.ensures c.is_silent.ensures w.if-is_silent.true in
+          let next = operands_silent _ _ _ _ _ _ _ _ _ _ _ read _ _ _ c.requires.2 c.requires.3 (omega (arith, size, inside)) face
           w.unwritten.ensures (w.out-is ∙ w.put-then-is_silent.ensures) in
           (omega (arith, w.at-is), omega (arith, w.at-is), omega arith, omega (arith, inside), operands_as _ _ _ _ _ _ _ _ _ _ _ next _ _ w.at-is w.first-is)
       | else-is_silent+in-To+else-count-v w ↦
-          let face = facing _ _ _ _ _ _ size.value inside asked.operand_kind-kind.ensures asked.is_silent.ensures w.if-is_silent.false in
+          let face = facing _ _ _ _ _ _ size.value inside c.operand_kind-kind.ensures c.is_silent.ensures w.if-is_silent.false in
           let word = subst (NextWord _ _ _ _) w.in-To.is w.next_word.ensures in
           let next = operands_word _ _ _ _ _ _ _ _ _ _ _ read _ _ _ _ _ _ _ face w.in-To.is w.next_word.ensures w.value-v.ensures
           w.count.ensures.0 w.if-count-v.false
@@ -161,9 +145,8 @@ shape_of-out c = operands_length _ _ _ _ _ _ _ _ _ _ _ c.loop-n.invariant.4 c.ar
 pub returns : goal.returns
 unfolding Onto
 returns c =
-    let l = c in
-    let size = l.fixed_size-size.ensures in record {
-      reads_operands = operands_all _ _ _ _ _ _ _ _ _ _ _ l.loop-n.invariant.4 _ l.put.ensures (omega (arith, size)) (omega (arith, size))
+    let size = c.fixed_size-size.ensures in record {
+      reads_operands = operands_all _ _ _ _ _ _ _ _ _ _ _ c.loop-n.invariant.4 _ c.put.ensures (omega (arith, size)) (omega (arith, size))
           (omega (arith, size, c.loop-n-test.false));
       onto = ((omega arith, omega arith), first_small _ _ _ _ _ _ _ _ _ _ _ c.loop-n.invariant.4 (few c.requires.1.1));
     }

@@ -42,13 +42,12 @@ type_if-type_block-first-requires t c =
 
 pub type_if-type_block-requires : goal.type_if-type_block-requires
 type_if-type_block-requires t c =
-    let at_first = c in
-    let h = at_first.requires in
+    let h = c.requires in
     let u = h.statement_case in
-    let slot = at_first.operand.ensures.0 in
-    let kind = at_first.kind_at.ensures.value u.side u.places u.entry u.is in
-    let is = at_first.if-kind_at-ne-BOOL.false in
-    let typed = at_first.type_block-first.ensures in
+    let slot = c.operand.ensures.0 in
+    let kind = c.kind_at.ensures.value u.side u.places u.entry u.is in
+    let is = c.if-kind_at-ne-BOOL.false in
+    let typed = c.type_block-first.ensures in
     let past = c.in-At.is in
     let m = middle_moves u h.at_value slot kind is typed past in
     (omega arith, else_case u h.at_value slot kind is typed past)
@@ -56,21 +55,19 @@ type_if-type_block-requires t c =
 pub type_if-returns-in-At : goal.type_if-returns-in-At
 type_if-returns-in-At t c =
     λ u.
-    let at_first = c in
-    let byte = at_first.requires.at_value in
-    let slot = at_first.operand.ensures.0 in
-    let kind = at_first.kind_at.ensures.value u.side u.places u.entry u.is in
+    let byte = c.requires.at_value in
+    let slot = c.operand.ensures.0 in
+    let kind = c.kind_at.ensures.value u.side u.places u.entry u.is in
     let past = c.in-At.is in
-    if_joins u byte slot kind at_first.if-kind_at-ne-BOOL.false at_first.type_block-first.ensures past c.type_block.ensures c.join.ensures
+    if_joins u byte slot kind c.if-kind_at-ne-BOOL.false c.type_block-first.ensures past c.type_block.ensures c.join.ensures
 
 pub type_if-returns-in-Refused : goal.type_if-returns-in-Refused
 type_if-returns-in-Refused t c =
     λ u.
-    let at_first = c in
-    let byte = at_first.requires.at_value in
-    let slot = at_first.operand.ensures.0 in
-    let kind = at_first.kind_at.ensures.value u.side u.places u.entry u.is in
-    if_stops u byte slot kind at_first.if-kind_at-ne-BOOL.false at_first.type_block-first.ensures c.in-Refused.is
+    let byte = c.requires.at_value in
+    let slot = c.operand.ensures.0 in
+    let kind = c.kind_at.ensures.value u.side u.places u.entry u.is in
+    if_stops u byte slot kind c.if-kind_at-ne-BOOL.false c.type_block-first.ensures c.in-Refused.is
 
 pub type_statement-bounds-s-at : goal.type_statement-bounds-s-at
 type_statement-bounds-s-at t c = let y = statement_byte c.requires.stands in omega arith
@@ -126,19 +123,17 @@ pub type_statements-type_statement-t-requires : goal.type_statements-type_statem
 type_statements-type_statement-t-requires t c =
     let l = c.loop-p in
     let w = c.word_at in
-    let s = c in
-    let b = s.requires in
+    let b = c.requires in
     let k = block_end b in
-    let less : l.p < s.args.at + 2 + w.result = omega arith in
+    let less : l.p < c.args.at + 2 + w.result = omega arith in
     (omega arith, statement_case b _ (l.invariant.2 b) less)
 
 pub type_statements-loop-p-smaller : goal.type_statements-loop-p-smaller
 type_statements-loop-p-smaller t c =
     let l = c.loop-p in
     let w = c.word_at in
-    let s = c in
-    let b = s.requires in
-    let less : l.p < s.args.at + 2 + w.result = omega arith in
+    let b = c.requires in
+    let less : l.p < c.args.at + 2 + w.result = omega arith in
     let k = moves b _ (l.invariant.2 b) less c.type_statement-t.ensures c.in-At.is in
     omega arith
 
@@ -146,9 +141,8 @@ pub type_statements-loop-p-preserved : goal.type_statements-loop-p-preserved
 type_statements-loop-p-preserved t c =
     let l = c.loop-p in
     let w = c.word_at in
-    let s = c in
-    let b = s.requires in
-    let less : l.p < s.args.at + 2 + w.result = omega arith in
+    let b = c.requires in
+    let less : l.p < c.args.at + 2 + w.result = omega arith in
     let typed = c.type_statement-t.ensures in
     let past = c.in-At.is in
     let k = moves b _ (l.invariant.2 b) less typed past in
@@ -159,8 +153,7 @@ type_statements-returns-in-Refused t c =
     λ b.
     let l = c.loop-p in
     let w = c.word_at in
-    let s = c in
-    let less : l.p < s.args.at + 2 + w.result = omega arith in
+    let less : l.p < c.args.at + 2 + w.result = omega arith in
     stops b _ (l.invariant.2 b) less c.type_statement-t.ensures c.in-Refused.is
 
 pub type_statements-returns : goal.type_statements-returns
@@ -191,8 +184,7 @@ type_while-type_block-requires t c =
 pub type_while-returns : goal.type_while-returns
 type_while-returns t c =
     λ u.
-    let at_body = c in
-    let byte = at_body.requires.at_value in
-    let slot = at_body.operand.ensures.0 in
-    let kind = at_body.kind_at.ensures.value u.side u.places u.entry u.is in
-    while_again u byte slot kind at_body.if-kind_at-ne-REFERENCE.false at_body.type_block.ensures c.again.ensures
+    let byte = c.requires.at_value in
+    let slot = c.operand.ensures.0 in
+    let kind = c.kind_at.ensures.value u.side u.places u.entry u.is in
+    while_again u byte slot kind c.if-kind_at-ne-REFERENCE.false c.type_block.ensures c.again.ensures

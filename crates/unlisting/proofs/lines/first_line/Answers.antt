@@ -6,8 +6,7 @@ use Rattle.unlisting.proofs.lines.first_line.Goals as goal
 
 pub expect-requires-in-At : goal.expect-requires-in-At
 expect-requires-in-At c =
-    let at-expect = c in
-    let on = onto_at _ _ at-expect.expect.ensures.onto c.in-At.is in
+    let on = onto_at _ _ c.expect.ensures.onto c.in-At.is in
     omega arith
 
 pub returns-in-Not : goal.returns-in-Not
@@ -18,25 +17,14 @@ returns-in-Begun c = first_begun _ _ _ _ _ c.expect.ensures.expects c.in-Begun.i
 
 pub returns-in-Not-expect : goal.returns-in-Not-expect
 returns-in-Not-expect c =
-    let at-expect2 = c in
-    let at_p = at-expect2 in
-    let at-expect = at_p in
-    second_not _ _ _ _ _ at-expect.expect.ensures.expects at_p.in-At.is at-expect2.expect-in-At.ensures.expects c.in-Not-expect.is c.not-in-Not-expect.ensures
+    second_not _ _ _ _ _ c.expect.ensures.expects c.in-At.is c.expect-in-At.ensures.expects c.in-Not-expect.is c.not-in-Not-expect.ensures
 
 pub returns-in-Begun-expect : goal.returns-in-Begun-expect
 returns-in-Begun-expect c =
-    let at-expect2 = c in
-    let at_p = at-expect2 in
-    let at-expect = at_p in
-    second_begun _ _ _ _ _ at-expect.expect.ensures.expects at_p.in-At.is at-expect2.expect-in-At.ensures.expects c.in-Begun-expect.is c.begun-in-Begun-expect.ensures
+    second_begun _ _ _ _ _ c.expect.ensures.expects c.in-At.is c.expect-in-At.ensures.expects c.in-Begun-expect.is c.begun-in-Begun-expect.ensures
 
 pub returns-in-At-expect : goal.returns-in-At-expect
 returns-in-At-expect c =
-    let at-q = c in
-    let at-expect2 = at-q in
-    let at_p = at-expect2 in
-    let at-expect = at_p in
-    let start = at-expect in
-    let on = onto_at _ _ at-expect2.expect-in-At.ensures.onto at-q.in-At-expect.is in
-    second_ends _ _ _ _ _ at-expect.expect.ensures.expects at_p.in-At.is at-expect2.expect-in-At.ensures.expects at-q.in-At-expect.is on.1 start.requires.1
+    let on = onto_at _ _ c.expect-in-At.ensures.onto c.in-At-expect.is in
+    second_ends _ _ _ _ _ c.expect.ensures.expects c.in-At.is c.expect-in-At.ensures.expects c.in-At-expect.is on.1 c.requires.1
     c.begun-in-At-expect.ensures c.ends.ensures

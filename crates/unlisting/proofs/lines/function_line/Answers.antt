@@ -8,232 +8,146 @@ use Rattle.unlisting.proofs.lines.function_line.Goals as goal
 
 pub returns-then-not-room : goal.returns-then-not-room
 returns-then-not-room c =
-    let at_room = c in
-    let start = at_room in record {
-      reads_line = line_without_room _ _ _ _ _ start.requires.2 start.requires.3 _ _ (sym at_room.room.ensures ∙ c.if-not-room.true)
+    record {
+      reads_line = line_without_room _ _ _ _ _ c.requires.2 c.requires.3 _ _ (sym c.room.ensures ∙ c.if-not-room.true)
           c.not.ensures;
       out_unchanged = λ e. refl;
     }
 
 pub returns-then-c-eq-MOST_FUNCTIONS : goal.returns-then-c-eq-MOST_FUNCTIONS
 returns-then-c-eq-MOST_FUNCTIONS c =
-    let at-if1 = c in
-    let at_room = at-if1 in
-    let start = at_room in record {
-      reads_line = line_of_too_many _ _ _ _ _ start.requires.2 start.requires.3 _ _ (sym at_room.room.ensures ∙ at-if1.if-not-room.false)
+    record {
+      reads_line = line_of_too_many _ _ _ _ _ c.requires.2 c.requires.3 _ _ (sym c.room.ensures ∙ c.if-not-room.false)
           c.if-c-eq-MOST_FUNCTIONS.true c.not-then-c-eq-MOST_FUNCTIONS.ensures;
       out_unchanged = λ e. refl;
     }
 
 pub function_words-requires : goal.function_words-requires
 function_words-requires c =
-    let start = c in
-    omega (arith, few_functions _ _ start.requires.1.1 start.requires.3)
+    omega (arith, few_functions _ _ c.requires.1.1 c.requires.3)
 
 pub number_below-requires : goal.number_below-requires
 number_below-requires c =
-    let at-function-words = c in
-    let on = onto_at _ _ at-function-words.function_words.ensures.onto c.in-At.is in
+    let on = onto_at _ _ c.function_words.ensures.onto c.in-At.is in
     omega arith
 
 pub read_arguments-requires : goal.read_arguments-requires
 read_arguments-requires c =
-    let at-number-below = c in
-    let start = at-number-below in
-    let on = number_onto _ _ _ at-number-below.number_below.ensures.number_onto c.in-Is.is in
-    omega (arith, start.requires.0)
+    let on = number_onto _ _ _ c.number_below.ensures.number_onto c.in-Is.is in
+    omega (arith, c.requires.0)
 
 pub returns-then-e-end : goal.returns-then-e-end
 returns-then-e-end c =
-    let at-m = c in
-    let at-read-arguments = at-m in
-    let at-k = at-read-arguments in
-    let at-number-below = at-k in
-    let at_p = at-number-below in
-    let at-function-words = at_p in
-    let at-if1 = at-function-words in
-    let at_room = at-if1 in
-    let start = at_room in record {
-      reads_line = more_not _ _ _ _ _ start.requires.2 start.requires.3 _ _ (sym at_room.room.ensures ∙ at-if1.if-not-room.false)
-          (omega (arith, few_functions _ _ start.requires.1.1 start.requires.3)) at-function-words.function_words.ensures.function_words at_p.in-At.is
-          at-number-below.number_below.ensures.numbers at-k.in-Is.is at-read-arguments.read_arguments.ensures.arguments at-m.in-Is-read_arguments.is
+    record {
+      reads_line = more_not _ _ _ _ _ c.requires.2 c.requires.3 _ _ (sym c.room.ensures ∙ c.if-not-room.false)
+          (omega (arith, few_functions _ _ c.requires.1.1 c.requires.3)) c.function_words.ensures.function_words c.in-At.is
+          c.number_below.ensures.numbers c.in-Is.is c.read_arguments.ensures.arguments c.in-Is-read_arguments.is
           c.if-e-end.true c.not-then-e-end.ensures;
       out_unchanged = λ e. refl;
     }
 
 pub overflow_cast-k : goal.overflow_cast-k
 overflow_cast-k c =
-    let at-k = c in
-    let at-number-below = at-k in
-    let on = number_onto _ _ _ at-number-below.number_below.ensures.number_onto at-k.in-Is.is in
+    let on = number_onto _ _ _ c.number_below.ensures.number_onto c.in-Is.is in
     omega arith
 
 pub overflow_add-c : goal.overflow_add-c
 overflow_add-c c =
-    let back = c in
-    let start = back in
-    omega (arith, start.requires.1.1.fits)
+    omega (arith, c.requires.1.1.fits)
 
 pub overflow_cast-m : goal.overflow_cast-m
 overflow_cast-m c =
-    let at-m = c in
-    let at-read-arguments = at-m in
-    let on = number_onto _ _ _ at-read-arguments.read_arguments.ensures.number_onto at-m.in-Is-read_arguments.is in
+    let on = number_onto _ _ _ c.read_arguments.ensures.number_onto c.in-Is-read_arguments.is in
     omega arith
 
 pub overflow_add-c-in-Is-read_arguments : goal.overflow_add-c-in-Is-read_arguments
 overflow_add-c-in-Is-read_arguments c =
-    let back = c in
-    let back-30 = back in
-    let start = back-30 in
-    omega (arith, start.requires.1.1.fits)
+    omega (arith, c.requires.1.1.fits)
 
 pub overflow_add-c-in-Is-read_arguments-2 : goal.overflow_add-c-in-Is-read_arguments-2
 overflow_add-c-in-Is-read_arguments-2 c =
-    let back = c in
-    let back-35 = back in
-    let start = back-35 in
-    omega (arith, start.requires.1.1.fits)
+    omega (arith, c.requires.1.1.fits)
 
 pub overflow_cast-k-in-Is-read_arguments : goal.overflow_cast-k-in-Is-read_arguments
 overflow_cast-k-in-Is-read_arguments c =
-    let back = c in
-    let at-k = back in
-    let at-number-below = at-k in
-    let on = number_onto _ _ _ at-number-below.number_below.ensures.number_onto at-k.in-Is.is in
+    let on = number_onto _ _ _ c.number_below.ensures.number_onto c.in-Is.is in
     omega arith
 
 pub overflow_cast-m-in-Is-read_arguments : goal.overflow_cast-m-in-Is-read_arguments
 overflow_cast-m-in-Is-read_arguments c =
-    let back = c in
-    let at-m = back in
-    let at-read-arguments = at-m in
-    let on = number_onto _ _ _ at-read-arguments.read_arguments.ensures.number_onto at-m.in-Is-read_arguments.is in
+    let on = number_onto _ _ _ c.read_arguments.ensures.number_onto c.in-Is-read_arguments.is in
     omega arith
 
 pub function-requires : goal.function-requires
 function-requires c =
-    let back = c in
-    let back-32 = back in
-    let at-if2 = back-32 in
-    let start = at-if2 in
-    (omega (arith, start.requires.1.1.fits), omega (arith, few_functions _ _ start.requires.1.1 start.requires.3, at-if2.if-c-eq-MOST_FUNCTIONS.false))
+    (omega (arith, c.requires.1.1.fits), omega (arith, few_functions _ _ c.requires.1.1 c.requires.3, c.if-c-eq-MOST_FUNCTIONS.false))
 
 pub returns-in-Not : goal.returns-in-Not
 returns-in-Not c =
-    let at-function-words = c in
-    let at-if1 = at-function-words in
-    let at_room = at-if1 in
-    let start = at_room in record {
-      reads_line = words_not _ _ _ _ _ start.requires.2 start.requires.3 _ _ (sym at_room.room.ensures ∙ at-if1.if-not-room.false)
-          (omega (arith, few_functions _ _ start.requires.1.1 start.requires.3)) at-function-words.function_words.ensures.function_words
+    record {
+      reads_line = words_not _ _ _ _ _ c.requires.2 c.requires.3 _ _ (sym c.room.ensures ∙ c.if-not-room.false)
+          (omega (arith, few_functions _ _ c.requires.1.1 c.requires.3)) c.function_words.ensures.function_words
           c.in-Not.is c.not-in-Not.ensures;
       out_unchanged = λ e. refl;
     }
 
 pub returns-in-Begun : goal.returns-in-Begun
 returns-in-Begun c =
-    let at-function-words = c in
-    let at-if1 = at-function-words in
-    let at_room = at-if1 in
-    let start = at_room in record {
-      reads_line = words_begun _ _ _ _ _ start.requires.2 start.requires.3 _ _ (sym at_room.room.ensures ∙ at-if1.if-not-room.false)
-          (omega (arith, few_functions _ _ start.requires.1.1 start.requires.3)) at-function-words.function_words.ensures.function_words
+    record {
+      reads_line = words_begun _ _ _ _ _ c.requires.2 c.requires.3 _ _ (sym c.room.ensures ∙ c.if-not-room.false)
+          (omega (arith, few_functions _ _ c.requires.1.1 c.requires.3)) c.function_words.ensures.function_words
           c.in-Begun.is c.begun.ensures;
       out_unchanged = λ e. refl;
     }
 
 pub returns-in-Not-number_below : goal.returns-in-Not-number_below
 returns-in-Not-number_below c =
-    let at-number-below = c in
-    let at_p = at-number-below in
-    let at-function-words = at_p in
-    let at-if1 = at-function-words in
-    let at_room = at-if1 in
-    let start = at_room in record {
-      reads_line = locations_not _ _ _ _ _ start.requires.2 start.requires.3 _ _ (sym at_room.room.ensures ∙ at-if1.if-not-room.false)
-          (omega (arith, few_functions _ _ start.requires.1.1 start.requires.3)) at-function-words.function_words.ensures.function_words at_p.in-At.is
-          at-number-below.number_below.ensures.numbers c.in-Not-number_below.is c.not-in-Not-number_below.ensures;
+    record {
+      reads_line = locations_not _ _ _ _ _ c.requires.2 c.requires.3 _ _ (sym c.room.ensures ∙ c.if-not-room.false)
+          (omega (arith, few_functions _ _ c.requires.1.1 c.requires.3)) c.function_words.ensures.function_words c.in-At.is
+          c.number_below.ensures.numbers c.in-Not-number_below.is c.not-in-Not-number_below.ensures;
       out_unchanged = λ e. refl;
     }
 
 pub returns-in-Begun-number_below : goal.returns-in-Begun-number_below
 returns-in-Begun-number_below c =
-    let at-number-below = c in
-    let at_p = at-number-below in
-    let at-function-words = at_p in
-    let at-if1 = at-function-words in
-    let at_room = at-if1 in
-    let start = at_room in record {
-      reads_line = locations_begun _ _ _ _ _ start.requires.2 start.requires.3 _ _ (sym at_room.room.ensures ∙ at-if1.if-not-room.false)
-          (omega (arith, few_functions _ _ start.requires.1.1 start.requires.3)) at-function-words.function_words.ensures.function_words at_p.in-At.is
-          at-number-below.number_below.ensures.numbers c.in-Begun-number_below.is c.begun-in-Begun-number_below.ensures;
+    record {
+      reads_line = locations_begun _ _ _ _ _ c.requires.2 c.requires.3 _ _ (sym c.room.ensures ∙ c.if-not-room.false)
+          (omega (arith, few_functions _ _ c.requires.1.1 c.requires.3)) c.function_words.ensures.function_words c.in-At.is
+          c.number_below.ensures.numbers c.in-Begun-number_below.is c.begun-in-Begun-number_below.ensures;
       out_unchanged = λ e. refl;
     }
 
 pub returns-in-Not-read_arguments : goal.returns-in-Not-read_arguments
 returns-in-Not-read_arguments c =
-    let at-read-arguments = c in
-    let at-k = at-read-arguments in
-    let at-number-below = at-k in
-    let at_p = at-number-below in
-    let at-function-words = at_p in
-    let at-if1 = at-function-words in
-    let at_room = at-if1 in
-    let start = at_room in record {
-      reads_line = arguments_not _ _ _ _ _ start.requires.2 start.requires.3 _ _ (sym at_room.room.ensures ∙ at-if1.if-not-room.false)
-          (omega (arith, few_functions _ _ start.requires.1.1 start.requires.3)) at-function-words.function_words.ensures.function_words at_p.in-At.is
-          at-number-below.number_below.ensures.numbers at-k.in-Is.is at-read-arguments.read_arguments.ensures.arguments c.in-Not-read_arguments.is
+    record {
+      reads_line = arguments_not _ _ _ _ _ c.requires.2 c.requires.3 _ _ (sym c.room.ensures ∙ c.if-not-room.false)
+          (omega (arith, few_functions _ _ c.requires.1.1 c.requires.3)) c.function_words.ensures.function_words c.in-At.is
+          c.number_below.ensures.numbers c.in-Is.is c.read_arguments.ensures.arguments c.in-Not-read_arguments.is
           c.not-in-Not-read_arguments.ensures;
       out_unchanged = λ e. refl;
     }
 
 pub returns-in-Begun-read_arguments : goal.returns-in-Begun-read_arguments
 returns-in-Begun-read_arguments c =
-    let at-read-arguments = c in
-    let at-k = at-read-arguments in
-    let at-number-below = at-k in
-    let at_p = at-number-below in
-    let at-function-words = at_p in
-    let at-if1 = at-function-words in
-    let at_room = at-if1 in
-    let start = at_room in record {
-      reads_line = arguments_begun _ _ _ _ _ start.requires.2 start.requires.3 _ _ (sym at_room.room.ensures ∙ at-if1.if-not-room.false)
-          (omega (arith, few_functions _ _ start.requires.1.1 start.requires.3)) at-function-words.function_words.ensures.function_words at_p.in-At.is
-          at-number-below.number_below.ensures.numbers at-k.in-Is.is at-read-arguments.read_arguments.ensures.arguments c.in-Begun-read_arguments.is
+    record {
+      reads_line = arguments_begun _ _ _ _ _ c.requires.2 c.requires.3 _ _ (sym c.room.ensures ∙ c.if-not-room.false)
+          (omega (arith, few_functions _ _ c.requires.1.1 c.requires.3)) c.function_words.ensures.function_words c.in-At.is
+          c.number_below.ensures.numbers c.in-Is.is c.read_arguments.ensures.arguments c.in-Begun-read_arguments.is
           c.begun-in-Begun-read_arguments.ensures;
       out_unchanged = λ e. refl;
     }
 
 pub shape_of-out : goal.shape_of-out
 shape_of-out c =
-    let at-put4 = c in
-    let at-put3 = at-put4 in
-    let at-put2 = at-put3 in
-    let at-put = at-put2 in
-    omega (arith, at-put.put.auto, at-put2.put-in-Is-read_arguments.auto, at-put3.put-in-Is-read_arguments-2.auto, at-put4.put-in-Is-read_arguments-3.auto)
+    omega (arith, c.put.auto, c.put-in-Is-read_arguments.auto, c.put-in-Is-read_arguments-2.auto, c.put-in-Is-read_arguments-3.auto)
 
 pub returns-else-e-end : goal.returns-else-e-end
 returns-else-e-end c =
-    let at-put4 = c in
-    let at-put3 = at-put4 in
-    let at-put2 = at-put3 in
-    let at-put = at-put2 in
-    let at-if3 = at-put in
-    let at-m = at-if3 in
-    let at-read-arguments = at-m in
-    let at-k = at-read-arguments in
-    let at-number-below = at-k in
-    let at_p = at-number-below in
-    let at-function-words = at_p in
-    let at-if2 = at-function-words in
-    let at-if1 = at-if2 in
-    let at_room = at-if1 in
-    let start = at_room in
-    let locations = number_onto _ _ _ at-number-below.number_below.ensures.number_onto at-k.in-Is.is in
-    let arguments = number_onto _ _ _ at-read-arguments.read_arguments.ensures.number_onto at-m.in-Is-read_arguments.is in record {
-      reads_line = function_taken _ _ _ _ _ start.requires.2 start.requires.3 _ _ _ _ _ (sym at_room.room.ensures ∙ at-if1.if-not-room.false) (omega
-          (arith, few_functions _ _ start.requires.1.1 start.requires.3, at-if2.if-c-eq-MOST_FUNCTIONS.false)) at-function-words.function_words.ensures.function_words at_p.in-At.is at-number-below.number_below.ensures.numbers at-k.in-Is.is at-read-arguments.read_arguments.ensures.arguments at-m.in-Is-read_arguments.is locations.0 arguments.0 arguments.2
-          c.ends.ensures c.function.ensures at-put.put.ensures at-put2.put-in-Is-read_arguments.ensures at-put3.put-in-Is-read_arguments-2.ensures at-put4.put-in-Is-read_arguments-3.ensures;
-      out_unchanged = λ e. absurd (taken_not _ _ at-if3.if-e-end.false c.ends.ensures e);
+    let locations = number_onto _ _ _ c.number_below.ensures.number_onto c.in-Is.is in
+    let arguments = number_onto _ _ _ c.read_arguments.ensures.number_onto c.in-Is-read_arguments.is in record {
+      reads_line = function_taken _ _ _ _ _ c.requires.2 c.requires.3 _ _ _ _ _ (sym c.room.ensures ∙ c.if-not-room.false) (omega
+          (arith, few_functions _ _ c.requires.1.1 c.requires.3, c.if-c-eq-MOST_FUNCTIONS.false)) c.function_words.ensures.function_words c.in-At.is c.number_below.ensures.numbers c.in-Is.is c.read_arguments.ensures.arguments c.in-Is-read_arguments.is locations.0 arguments.0 arguments.2
+          c.ends.ensures c.function.ensures c.put.ensures c.put-in-Is-read_arguments.ensures c.put-in-Is-read_arguments-2.ensures c.put-in-Is-read_arguments-3.ensures;
+      out_unchanged = λ e. absurd (taken_not _ _ c.if-e-end.false c.ends.ensures e);
     }

@@ -7,14 +7,12 @@ use Rattle.unlisting.proofs.lines.function_words.Goals as goal
 
 pub expect-requires-in-At : goal.expect-requires-in-At
 expect-requires-in-At c =
-    let at-expect = c in
-    let on = onto_at _ _ at-expect.expect.ensures.onto c.in-At.is in
+    let on = onto_at _ _ c.expect.ensures.onto c.in-At.is in
     omega arith
 
 pub expect-requires-in-At-expect : goal.expect-requires-in-At-expect
 expect-requires-in-At-expect c =
-    let at-expect2 = c in
-    let on = onto_at _ _ at-expect2.expect-in-At.ensures.onto c.in-At-expect.is in
+    let on = onto_at _ _ c.expect-in-At.ensures.onto c.in-At-expect.is in
     omega arith
 
 pub returns-in-Not : goal.returns-in-Not
@@ -36,31 +34,23 @@ returns-in-Begun c =
 pub returns-in-Not-expect : goal.returns-in-Not-expect
 unfolding Onto
 returns-in-Not-expect c =
-    let at-expect2 = c in
-    let at_p = at-expect2 in
-    let at-expect = at_p in record {
-      function_words = function_number_not _ _ _ _ _ at-expect.expect.ensures.expects at_p.in-At.is at-expect2.expect-in-At.ensures.expects c.in-Not-expect.is;
+    record {
+      function_words = function_number_not _ _ _ _ _ c.expect.ensures.expects c.in-At.is c.expect-in-At.ensures.expects c.in-Not-expect.is;
       onto = tt;
     }
 
 pub returns-in-Begun-expect : goal.returns-in-Begun-expect
 unfolding Onto
 returns-in-Begun-expect c =
-    let at-expect2 = c in
-    let at_p = at-expect2 in
-    let at-expect = at_p in record {
-      function_words = function_number_begun _ _ _ _ _ at-expect.expect.ensures.expects at_p.in-At.is at-expect2.expect-in-At.ensures.expects c.in-Begun-expect.is;
+    record {
+      function_words = function_number_begun _ _ _ _ _ c.expect.ensures.expects c.in-At.is c.expect-in-At.ensures.expects c.in-Begun-expect.is;
       onto = tt;
     }
 
 pub returns-in-At-expect : goal.returns-in-At-expect
 returns-in-At-expect c =
-    let at-q = c in
-    let at-expect2 = at-q in
-    let at_p = at-expect2 in
-    let at-expect = at_p in
-    let on = onto_at _ _ at-expect.expect.ensures.onto at_p.in-At.is in
-    let next = onto_at _ _ at-expect2.expect-in-At.ensures.onto at-q.in-At-expect.is in record {
-      function_words = function_locations _ _ _ _ _ _ at-expect.expect.ensures.expects at_p.in-At.is at-expect2.expect-in-At.ensures.expects at-q.in-At-expect.is c.expect-in-At-expect.ensures.expects;
+    let on = onto_at _ _ c.expect.ensures.onto c.in-At.is in
+    let next = onto_at _ _ c.expect-in-At.ensures.onto c.in-At-expect.is in record {
+      function_words = function_locations _ _ _ _ _ _ c.expect.ensures.expects c.in-At.is c.expect-in-At.ensures.expects c.in-At-expect.is c.expect-in-At-expect.ensures.expects;
       onto = onto_from _ _ _ _ (omega arith) c.expect-in-At-expect.ensures.onto;
     }

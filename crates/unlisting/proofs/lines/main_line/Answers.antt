@@ -5,22 +5,13 @@ use Rattle.unlisting.proofs.lines.main_line.Goals as goal
 
 pub returns-in-Not : goal.returns-in-Not
 returns-in-Not c =
-    let at-expect = c in
-    let start = at-expect in
-    main_not _ _ _ _ _ start.requires.3 _ _ at-expect.expect.ensures.expects c.in-Not.is c.not.ensures
+    main_not _ _ _ _ _ c.requires.3 _ _ c.expect.ensures.expects c.in-Not.is c.not.ensures
 
 pub returns-in-Begun : goal.returns-in-Begun
 returns-in-Begun c =
-    let at-expect = c in
-    let start = at-expect in
-    main_begun_lem _ _ _ _ _ start.requires.3 _ _ at-expect.expect.ensures.expects c.in-Begun.is c.begun.ensures
+    main_begun_lem _ _ _ _ _ c.requires.3 _ _ c.expect.ensures.expects c.in-Begun.is c.begun.ensures
 
 pub returns-in-At : goal.returns-in-At
 returns-in-At c =
-    let at-put2 = c in
-    let at-put = at-put2 in
-    let at_p = at-put in
-    let at-expect = at_p in
-    let start = at-expect in
-    let on = onto_at _ _ at-expect.expect.ensures.onto at_p.in-At.is in
-    main_taken _ _ _ _ _ start.requires.3 start.requires.2 _ _ _ at-expect.expect.ensures.expects at_p.in-At.is on.1 c.ends.ensures c.main.ensures at-put.put.ensures at-put2.put-in-At.ensures
+    let on = onto_at _ _ c.expect.ensures.onto c.in-At.is in
+    main_taken _ _ _ _ _ c.requires.3 c.requires.2 _ _ _ c.expect.ensures.expects c.in-At.is on.1 c.ends.ensures c.main.ensures c.put.ensures c.put-in-At.ensures

@@ -7,10 +7,9 @@ use Rattle.unlisting.proofs.lines.put_innermost.Goals as goal
 
 pub overflow_sub-c : goal.overflow_sub-c
 overflow_sub-c c =
-    let start = c in
-    let m = start.requires.0 in
-    let w : get_or start.args.c.words (start.args.c.depth - 1) 0 + 2 ≤ start.args.c.used =
-    innermost_word _ _ m.1 start.requires.1 in
+    let m = c.requires.0 in
+    let w : get_or c.args.c.words (c.args.c.depth - 1) 0 + 2 ≤ c.args.c.used =
+    innermost_word _ _ m.1 c.requires.1 in
     omega arith
 
 pub overflow_sub-c-2 : goal.overflow_sub-c-2
@@ -18,9 +17,8 @@ overflow_sub-c-2 c = omega (arith, innermost_word _ _ c.requires.0.1 c.requires.
 
 pub put_length-requires : goal.put_length-requires
 put_length-requires c =
-    let start = c in
-    let m = start.requires.0 in
-    (omega (arith, m.1.fits, innermost_word _ _ m.1 start.requires.1), omega (arith, m.1.fits))
+    let m = c.requires.0 in
+    (omega (arith, m.1.fits, innermost_word _ _ m.1 c.requires.1), omega (arith, m.1.fits))
 
 pub returns : goal.returns
 returns c = closes_by _ _ _ c.put_length.ensures

@@ -8,11 +8,9 @@ use Rattle.unlisting.proofs.lines.put_length.Goals as goal
 
 pub returns : goal.returns
 returns c =
-    let at-put2 = c in
-    let at-put = at-put2 in
-    let start = at-put in
+    let start = c in
     let start = start in
     let e : start.args.at + 1 ≡ suc start.args.at = add-one start.args.at in
-    at-put2.put-2.ensures
-    ∙ ap (λ (l : List ℕ). set l (start.args.at + 1) (start.args.n % 256)) at-put.put.ensures
+    c.put-2.ensures
+    ∙ ap (λ (l : List ℕ). set l (start.args.at + 1) (start.args.n % 256)) c.put.ensures
     ∙ ap (λ (i : ℕ). set (set start.args.out.now start.args.at (start.args.n / 256)) i (start.args.n % 256)) e

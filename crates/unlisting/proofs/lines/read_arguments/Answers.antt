@@ -7,9 +7,7 @@ use Rattle.unlisting.proofs.lines.read_arguments.Goals as goal
 
 pub number_below-requires : goal.number_below-requires
 number_below-requires c =
-    let at_p = c in
-    let at-expect = at_p in
-    let on = onto_at _ _ at-expect.expect.ensures.onto at_p.in-At.is in
+    let on = onto_at _ _ c.expect.ensures.onto c.in-At.is in
     omega (arith, c.most_arguments.ensures.1)
 
 pub returns-in-Not : goal.returns-in-Not
@@ -30,9 +28,7 @@ returns-in-Begun c =
 
 pub returns-in-At : goal.returns-in-At
 returns-in-At c =
-    let at_p = c in
-    let at-expect = at_p in
-    let on = onto_at _ _ at-expect.expect.ensures.onto at_p.in-At.is in record {
-      arguments = arguments_number _ _ _ _ _ _ at-expect.expect.ensures.expects at_p.in-At.is c.most_arguments.ensures.0 c.number_below.ensures.numbers;
+    let on = onto_at _ _ c.expect.ensures.onto c.in-At.is in record {
+      arguments = arguments_number _ _ _ _ _ _ c.expect.ensures.expects c.in-At.is c.most_arguments.ensures.0 c.number_below.ensures.numbers;
       number_onto = number_from _ _ _ _ _ _ on.0 c.most_arguments.ensures.1 c.number_below.ensures.number_onto;
     }

@@ -20,109 +20,75 @@ loop-c-init c = (refl, reached_none _ _ _ _ _ _)
 
 pub statement_lives-requires : goal.statement_lives-requires
 statement_lives-requires c =
-    let at-loop = c in
-    let at-if1 = at-loop in
-    let pre = at-if1.requires in
-    means_small _ _ (now_means _ _ _ _ _ _ _ _ at-loop.loop-c.invariant.1 _ pre.1.1 (not-false _ at-if1.if-not-c.false)).1
+    let pre = c.requires in
+    means_small _ _ (now_means _ _ _ _ _ _ _ _ c.loop-c.invariant.1 _ pre.1.1 (not-false _ c.if-not-c.false)).1
 
 pub indent-requires : goal.indent-requires
 indent-requires c =
-    let at-loop = c in
-    let at-if1 = at-loop in
-    let pre = at-if1.requires in
-    let S = means_small _ _ (now_means _ _ _ _ _ _ _ _ at-loop.loop-c.invariant.1 _ pre.1.1 (not-false _ at-if1.if-not-c.false)).1 in
+    let pre = c.requires in
+    let S = means_small _ _ (now_means _ _ _ _ _ _ _ _ c.loop-c.invariant.1 _ pre.1.1 (not-false _ c.if-not-c.false)).1 in
     (pre.0, S.1)
 
 pub statement_line-requires : goal.statement_line-requires
 statement_line-requires c =
-    let at-indent = c in
-    let at-loop = at-indent in
-    let at-if1 = at-loop in
-    let pre = at-if1.requires in
-    let w = onto_at _ _ at-indent.indent.ensures.onto c.in-At.is in
-    (search rules, now_means _ _ _ _ _ _ _ _ at-loop.loop-c.invariant.1 _ pre.1.1 (not-false _ at-if1.if-not-c.false))
+    let pre = c.requires in
+    let w = onto_at _ _ c.indent.ensures.onto c.in-At.is in
+    (search rules, now_means _ _ _ _ _ _ _ _ c.loop-c.invariant.1 _ pre.1.1 (not-false _ c.if-not-c.false))
 
 pub returns-in-At : goal.returns-in-At
 returns-in-At c =
-    let at_p = c in
-    let at-indent = at_p in
-    let at-lives = at-indent in
-    let at-loop = at-lives in
-    let started = (not-false _ at-loop.if-not-c.false) in
+    let started = (not-false _ c.if-not-c.false) in
     any_line _ _ _ _ _ _ started _ _
-    (line_statement _ _ _ _ _ _ _ _ at-loop.loop-c.invariant.1 (search rules) _ at-lives.statement_lives.ensures _ _ at_p.in-At.is
-    at-indent.indent.ensures.indents at-indent.indent.ensures.blank _ _ c.statement_line.ensures)
+    (line_statement _ _ _ _ _ _ _ _ c.loop-c.invariant.1 (search rules) _ c.statement_lives.ensures _ _ c.in-At.is
+    c.indent.ensures.indents c.indent.ensures.blank _ _ c.statement_line.ensures)
 
 pub returns-in-Begun : goal.returns-in-Begun
 returns-in-Begun c =
-    let at-indent = c in
-    let at-lives = at-indent in
-    let at-loop = at-lives in
-    let started = (not-false _ at-loop.if-not-c.false) in
+    let started = (not-false _ c.if-not-c.false) in
     any_line _ _ _ _ _ _ started _ _
-    (line_begun _ _ _ _ _ _ _ _ at-loop.loop-c.invariant.1 (search rules) _ at-lives.statement_lives.ensures _ c.in-Begun.is
-    at-indent.indent.ensures.indents _ c.begun.ensures _)
+    (line_begun _ _ _ _ _ _ _ _ c.loop-c.invariant.1 (search rules) _ c.statement_lives.ensures _ c.in-Begun.is
+    c.indent.ensures.indents _ c.begun.ensures _)
 
 pub bounds-dues-c : goal.bounds-dues-c
 bounds-dues-c c =
-    let at-loop = c in
-    let at-if1 = at-loop in
-    let pre = at-if1.requires in
-    let M = (now_means _ _ _ _ _ _ _ _ at-loop.loop-c.invariant.1 _ pre.1.1 (not-false _ at-if1.if-not-c.false)).1 in
+    let pre = c.requires in
+    let M = (now_means _ _ _ _ _ _ _ _ c.loop-c.invariant.1 _ pre.1.1 (not-false _ c.if-not-c.false)).1 in
     let h = below_eight _ _ M (search rules) in
     search rules
 
 pub else_line-requires : goal.else_line-requires
 else_line-requires c =
-    let at-loop = c in
-    let at-if1 = at-loop in
-    let pre = at-if1.requires in
-    (pre.0, now_means _ _ _ _ _ _ _ _ at-loop.loop-c.invariant.1 _ pre.1.1 (not-false _ at-if1.if-not-c.false), search rules, c.if-dues-c.true)
+    let pre = c.requires in
+    (pre.0, now_means _ _ _ _ _ _ _ _ c.loop-c.invariant.1 _ pre.1.1 (not-false _ c.if-not-c.false), search rules, c.if-dues-c.true)
 
 pub returns-then-dues-c : goal.returns-then-dues-c
 returns-then-dues-c c =
-    let at-if3 = c in
-    let at_told = at-if3 in
-    let at-indent = at_told in
-    let at-lives = at-indent in
-    let at-loop = at-lives in
-    let started = (not-false _ at-loop.if-not-c.false) in
+    let started = (not-false _ c.if-not-c.false) in
     any_line _ _ _ _ _ _ started _ _
-    (line_else _ _ _ _ _ _ _ _ at-loop.loop-c.invariant.1 (search rules) _ at-lives.statement_lives.ensures _ at_told.in-Not.is
-    at-indent.indent.ensures.indents at-if3.if-dues-c.true _ _ c.else_line.ensures)
+    (line_else _ _ _ _ _ _ _ _ c.loop-c.invariant.1 (search rules) _ c.statement_lives.ensures _ c.in-Not.is
+    c.indent.ensures.indents c.if-dues-c.true _ _ c.else_line.ensures)
 
 pub put_innermost-requires : goal.put_innermost-requires
 put_innermost-requires c =
-    let at-loop = c in
-    let at-if1 = at-loop in
-    let pre = at-if1.requires in
-    (now_means _ _ _ _ _ _ _ _ at-loop.loop-c.invariant.1 _ pre.1.1 (not-false _ at-if1.if-not-c.false), search rules)
+    let pre = c.requires in
+    (now_means _ _ _ _ _ _ _ _ c.loop-c.invariant.1 _ pre.1.1 (not-false _ c.if-not-c.false), search rules)
 
 pub loop-c-smaller : goal.loop-c-smaller
 loop-c-smaller c = one_fewer _ _ c.closed-c.ensures (search rules)
 
 pub loop-c-preserved : goal.loop-c-preserved
-loop-c-preserved c =
-    let at-put = c in
-    let at-if3 = at-put in
-    let at_told = at-if3 in
-    let at-indent = at_told in
-    let at-lives = at-indent in
-    let at-loop = at-lives in (
-      search rules,
-      reached_more _ _ _ _ _ _ _ _ at-loop.loop-c.invariant.1 (search rules) _ at-lives.statement_lives.ensures _ at_told.in-Not.is
-          at-indent.indent.ensures.indents at-if3.if-dues-c.false _ at-put.put_innermost.ensures _ c.closed-c.ensures,
-    )
+loop-c-preserved c = (
+  search rules,
+  reached_more _ _ _ _ _ _ _ _ c.loop-c.invariant.1 (search rules) _ c.statement_lives.ensures _ c.in-Not.is
+      c.indent.ensures.indents c.if-dues-c.false _ c.put_innermost.ensures _ c.closed-c.ensures,
+)
 
 pub top_line-requires : goal.top_line-requires
 top_line-requires c =
-    let at-loop = c in
-    let at-if1 = at-loop in
-    let pre = at-if1.requires in
-    (pre.0, now_means _ _ _ _ _ _ _ _ at-loop.loop-c.invariant.1 _ pre.1.1 (not-false _ at-if1.if-not-c.false), search rules)
+    let pre = c.requires in
+    (pre.0, now_means _ _ _ _ _ _ _ _ c.loop-c.invariant.1 _ pre.1.1 (not-false _ c.if-not-c.false), search rules)
 
 pub returns : goal.returns
 returns c =
-    let at-loop = c in
-    let started = (not-false _ at-loop.if-not-c.false) in
-    any_line _ _ _ _ _ _ started _ _ (line_top _ _ _ _ _ _ _ _ at-loop.loop-c.invariant.1 (search rules) _ _ c.top_line.ensures)
+    let started = (not-false _ c.if-not-c.false) in
+    any_line _ _ _ _ _ _ started _ _ (line_top _ _ _ _ _ _ _ _ c.loop-c.invariant.1 (search rules) _ _ c.top_line.ensures)

@@ -11,16 +11,10 @@ returns-then-c c = nothing_in_main _ _ _ _ _ _ _ c.if-c.true c.not.ensures
 
 pub returns-in-Not : goal.returns-in-Not
 returns-in-Not c =
-    let at-main-line = c in
-    let at-enum-told = at-main-line in
-    let at-function-line = at-enum-told in
-    let at-if1 = at-function-line in
-    main_after _ _ _ _ _ _ _ _ _ _ at-if1.if-c.false at-function-line.function_line-f.ensures.reads_line at-function-line.function_line-f.ensures.out_unchanged
-    at-enum-told.in-Not.is at-main-line.main_line.ensures
+    main_after _ _ _ _ _ _ _ _ _ _ c.if-c.false c.function_line-f.ensures.reads_line c.function_line-f.ensures.out_unchanged
+    c.in-Not.is c.main_line.ensures
 
 pub returns-in_default : goal.returns-in_default
 returns-in_default c =
-    let at-function-line = c in
-    let at-if1 = at-function-line in
-    function_stays _ _ _ _ _ _ _ _ at-if1.if-c.false at-function-line.function_line-f.ensures.reads_line (λ e. one_of_two _ (ap (tag_of the_type) e)
+    function_stays _ _ _ _ _ _ _ _ c.if-c.false c.function_line-f.ensures.reads_line (λ e. one_of_two _ (ap (tag_of the_type) e)
     (opened c.in_default.in_default-own.keys2))

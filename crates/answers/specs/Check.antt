@@ -4,6 +4,40 @@ use Rattle.std.specs.Prelude.{Bool, true, false, ℕ}
 use Rattle.answers.specs.declared.File.{File}
 use Rattle.answers.specs.declared.File.TheVariants.{NoFile}
 use Rattle.answers.specs.declared.Refusal.{Refusal}
+use Rattle.answers.specs.declared.Fault.{Fault}
+use Rattle.answers.specs.declared.Fault.TheVariants.{Short, Mark, Version, Limit, Length, Owner, Edge, NoRoom, NoStatement}
+use Rattle.answers.specs.declared.Fault.TheVariants.{Operand, NotHeld, Bound, Outside, Taken, Twice, Elsewhere, LeftLive, BranchesDiffer}
+use Rattle.answers.specs.declared.Fault.TheVariants.{LoopChanges, TooManyCommands, NoPath, TooManySteps, NoTurn, NoSpace, NoJob, MapLength, NoLine}
+
+-- the number of a fault
+abbrev pub number_of : Fault → ℕ
+number_of Short = 1
+number_of Mark = 2
+number_of Version = 3
+number_of Limit = 4
+number_of Length = 5
+number_of Owner = 6
+number_of Edge = 7
+number_of NoRoom = 8
+number_of NoStatement = 9
+number_of Operand = 10
+number_of NotHeld = 11
+number_of Bound = 12
+number_of Outside = 13
+number_of Taken = 14
+number_of Twice = 15
+number_of Elsewhere = 16
+number_of LeftLive = 17
+number_of BranchesDiffer = 18
+number_of LoopChanges = 19
+number_of TooManyCommands = 20
+number_of NoPath = 21
+number_of TooManySteps = 22
+number_of NoTurn = 23
+number_of NoSpace = 24
+number_of NoJob = 25
+number_of MapLength = 26
+number_of NoLine = 27
 
 -- number n at place o, the file not said yet, or in none
 abbrev pub refusal : ℕ → ℕ → Refusal

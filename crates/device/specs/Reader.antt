@@ -6,13 +6,6 @@ use Rattle.rules.specs.Device.{Device, read_device}
 use Rattle.rules.specs.Region.{Region, owns, joined}
 use Rattle.sets.specs.declared.LocationSet.{LocationSet}
 use Rattle.sets.specs.Sets.{has, row_of}
-use Rattle.device.specs.declared.DeviceAnswer.{DeviceAnswer}
-use Rattle.device.specs.declared.DeviceAnswer.TheVariants.{Read, Refused}
-
--- the reader's answer: the numbers of the device, or the refusal
-abbrev pub device_said : DeviceAnswer → Check DeviceHeader
-device_said (Read h) = ok h
-device_said (Refused r) = refused r
 
 -- the numbers of a device that reads, or its refusal
 unfoldable pub device_read : List ℕ → Check DeviceHeader

@@ -1,11 +1,11 @@
 // The edges of a device file, two bytes each.
 ghost use Rattle.std.proofs.Math.Option.{none};
 ghost use Rattle.std.specs.Prelude.{◌≡◌, ◌+◌, ◌*◌, ◌≤◌, ◌<◌, length};
-ghost use Rattle.answers.specs.Said.{read_said};
+ghost use Rattle.answers.specs.Said.{said};
 ghost use Rattle.rules.specs.Device.{edges, increases};
 ghost use Rattle.device.specs.Parts.{tested, edge_at, edge_before, edge_stands};
 
-use answers::{ReadAnswer, Refusal};
+use answers::{Fault, Refusal};
 use rules::bytes::wide;
 use rules::device::DeviceHeader;
 
@@ -42,17 +42,15 @@ fn stands(s: &[u8], n: usize, start: usize, i: usize) -> bool
 }
 
 // Tests e edges between n locations: 7 at the first that does not stand.
-pub fn test_edges(s: &[u8], n: usize, e: usize) -> ReadAnswer
+pub fn test_edges(s: &[u8], n: usize, e: usize) -> Result<(), Refusal>
     requires { 9 + n + 2 * e ≤ length s.now }
-    ensures { read_said result ≡ tested (edges s.now n none (9 + n) e) }
+    ensures { said result ≡ tested (edges s.now n none (9 + n) e) }
 {
     let start = DeviceHeader::BYTES + n;
-    let mut i: usize = 0;
-    while i < e {
+    for i in 0..e {
         if !stands(s, n, start, i) {
-            return ReadAnswer::Refused(Refusal::new(7, start + 2 * i));
+            return Err(Fault::Edge.at(start + 2 * i));
         }
-        i += 1;
     }
-    ReadAnswer::Readable
+    Ok(())
 }

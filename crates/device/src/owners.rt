@@ -1,10 +1,10 @@
 // The owner bytes of a device file.
 ghost use Rattle.std.specs.Prelude.{◌≡◌, ◌+◌, ◌≤◌, ◌<◌, length};
-ghost use Rattle.answers.specs.Said.{read_said};
+ghost use Rattle.answers.specs.Said.{said};
 ghost use Rattle.rules.specs.Device.{owners};
 ghost use Rattle.device.specs.Parts.{tested, owned_by};
 
-use answers::{ReadAnswer, Refusal};
+use answers::{Fault, Refusal};
 use rules::device::DeviceHeader;
 
 // Whether a location is the job's.
@@ -16,17 +16,15 @@ pub fn is_owner(s: &[u8], job: u8, x: usize) -> bool
 }
 
 // Tests n owner bytes: 6 at the first that names neither nobody nor a job.
-pub fn test_owners(s: &[u8], n: usize) -> ReadAnswer
+pub fn test_owners(s: &[u8], n: usize) -> Result<(), Refusal>
     requires { 9 + n ≤ length s.now }
-    ensures { read_said result ≡ tested (owners s.now 9 n) }
+    ensures { said result ≡ tested (owners s.now 9 n) }
 {
-    let mut i: usize = 0;
-    while i < n {
+    for i in 0..n {
         let at = DeviceHeader::BYTES + i;
         if DeviceHeader::MOST_JOBS < s[at] {
-            return ReadAnswer::Refused(Refusal::new(6, at));
+            return Err(Fault::Owner.at(at));
         }
-        i += 1;
     }
-    ReadAnswer::Readable
+    Ok(())
 }

@@ -3,8 +3,6 @@ use Rattle.std.specs.Prelude.{Bool, true, ◌&&◌, ◌||◌, List, [], ◌∷�
 use Rattle.std.proofs.Math.Option.{Option, none, some}
 use Rattle.answers.specs.Check.{Check, ok, refused, ◌>>=◌, ◌>>◌, need}
 use Rattle.rules.specs.declared.device.DeviceHeader.{DeviceHeader}
-use Rattle.rules.specs.declared.device.DeviceHeaderAnswer.{DeviceHeaderAnswer}
-use Rattle.rules.specs.declared.device.DeviceHeaderAnswer.TheVariants.{Made, Refused}
 use Rattle.rules.specs.Basics.{byte, word, has_mark}
 
 pub record Edge : Type 0 where
@@ -21,11 +19,6 @@ device_header n e = do
   need (leb 1 n && leb n 256) 4 5
   need (leb e 1024) 4 7
   ok (record { locations = n; edges = e })
-
--- what the header's constructor answers
-abbrev pub device_header_said : DeviceHeaderAnswer → Check DeviceHeader
-device_header_said (Made h) = ok h
-device_header_said (Refused r) = refused r
 
 -- m owner bytes from i on: 0 nobody, 1 or 2 that job
 abbrev pub owners : List ℕ → ℕ → ℕ → Check (List ℕ)

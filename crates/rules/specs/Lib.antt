@@ -13,6 +13,7 @@ pub mod Typing
 pub mod Figures
 pub mod Machine
 pub mod Run
+pub mod Kinds
 pub mod Listing
 pub mod Grammar
 pub mod Unlisting

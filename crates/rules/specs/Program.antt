@@ -4,11 +4,7 @@ use Rattle.std.specs.Prelude.{Bool, true, false, ◌&&◌, List, [], ◌∷◌, 
 use Rattle.std.proofs.Math.Option.{Option, none, some}
 use Rattle.answers.specs.Check.{Check, ok, refused, refusal, ◌>>=◌, ◌>>◌, need}
 use Rattle.rules.specs.declared.program.ProgramHeader.{ProgramHeader}
-use Rattle.rules.specs.declared.program.ProgramHeaderAnswer.{ProgramHeaderAnswer}
-use Rattle.rules.specs.declared.program.ProgramHeaderAnswer.TheVariants.{Made as MadeProgram, Refused as NotProgram}
 use Rattle.rules.specs.declared.program.FunctionHeader.{FunctionHeader}
-use Rattle.rules.specs.declared.program.FunctionHeaderAnswer.{FunctionHeaderAnswer}
-use Rattle.rules.specs.declared.program.FunctionHeaderAnswer.TheVariants.{Made as MadeFunction, Refused as NotFunction}
 use Rattle.rules.specs.declared.statements.Operand.{Operand}
 use Rattle.rules.specs.declared.statements.Operand.TheVariants.{Slot, Location, Gate, Basis, Value, Callee, CalleeK, CalleeM, Nothing}
 use Rattle.rules.specs.Basics.{up_to, byte, word, has_mark}
@@ -28,15 +24,6 @@ function_header i k m = do
   need (leb k 16) 4 i
   need (leb m 8 && leb m k) 4 (i + 1)
   ok (record { locations = k; arguments = m })
-
--- what the headers' constructors answer
-abbrev pub program_header_said : ProgramHeaderAnswer → Check ProgramHeader
-program_header_said (MadeProgram h) = ok h
-program_header_said (NotProgram r) = refused r
-
-abbrev pub function_header_said : FunctionHeaderAnswer → Check FunctionHeader
-function_header_said (MadeFunction h) = ok h
-function_header_said (NotFunction r) = refused r
 
 -- a value read, and the position after it
 pub record Read (A : Type 0) : Type 0 where

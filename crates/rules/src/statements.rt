@@ -1,9 +1,13 @@
-// The one table of the thirteen statement kinds: fixed size and operand kinds by statement byte.
+// The one table of the thirteen statement kinds: by kind its byte and what its operands are.
 ghost use Rattle.std.specs.Prelude.{◌≡◌, ◌+◌, ◌≤◌, ◌<◌};
 ghost use Rattle.rules.specs.Table.{size_of, operand_at};
+ghost use Rattle.rules.specs.Kinds.{byte_of, kind_of, operands_of};
+
+use crate::statements::Operand::{Basis, Callee, CalleeK, CalleeM, Gate, Location, Slot, Value};
+use answers::Fault;
 
 // What an operand byte is. A call's k and m are its callee's.
-#[derive(Clone, Copy)]
+#[derive(Clone, Copy, Debug, PartialEq, Eq)]
 pub enum Operand {
     Slot,
     Location,
@@ -16,50 +20,122 @@ pub enum Operand {
     Nothing,
 }
 
-// Six bytes for each statement byte from 0 on: the size of the fixed part, then the kinds of at most five operands, 0 where there is none.
-const STATEMENTS: [[u8; 6]; 14] = [
-    [0, 0, 0, 0, 0, 0],
-    [3, 1, 2, 0, 0, 0],
-    [3, 1, 2, 0, 0, 0],
-    [2, 1, 0, 0, 0, 0],
-    [3, 3, 1, 0, 0, 0],
-    [4, 1, 4, 1, 0, 0],
-    [6, 1, 4, 1, 4, 1],
-    [3, 1, 1, 0, 0, 0],
-    [3, 1, 1, 0, 0, 0],
-    [3, 1, 1, 0, 0, 0],
-    [2, 1, 0, 0, 0, 0],
-    [2, 1, 0, 0, 0, 0],
-    [4, 6, 7, 8, 0, 0],
-    [3, 1, 5, 0, 0, 0],
-];
-
-// The fixed part of a statement: its byte and the operands before any block or list.
-pub fn fixed_size(statement: u8) -> usize
-    requires { (0 < statement) × (statement < 14) }
-    ensures value { result ≡ size_of statement }
-    ensures lower_bound { (2 ≤ result) × (result ≤ 6) }
-{
-    let row = STATEMENTS[statement as usize];
-    row[0] as usize
+// The statement kinds, in the order of their bytes, from 1 on.
+#[derive(Clone, Copy, Debug, PartialEq, Eq)]
+pub enum Kind {
+    Init,
+    Magic,
+    Free,
+    Gate,
+    Measure,
+    Merge,
+    Ref,
+    Get,
+    Set,
+    If,
+    While,
+    Call,
+    Bool,
 }
 
-// The kind of operand number `i`, from 1 on.
-pub fn operand_kind(statement: u8, i: usize) -> Operand
-    requires { (statement < 14) × (0 < i) × (i < 6) }
-    ensures { result ≡ operand_at statement i }
-{
-    let row = STATEMENTS[statement as usize];
-    let kind = row[i];
-    match kind {
-        1 => Operand::Slot,
-        2 => Operand::Location,
-        3 => Operand::Gate,
-        4 => Operand::Basis,
-        5 => Operand::Value,
-        6 => Operand::Callee,
-        7 => Operand::CalleeK,
-        8 => Operand::CalleeM,
-        _ => Operand::Nothing,
+const KINDS: [Kind; 13] = [
+    Kind::Init,
+    Kind::Magic,
+    Kind::Free,
+    Kind::Gate,
+    Kind::Measure,
+    Kind::Merge,
+    Kind::Ref,
+    Kind::Get,
+    Kind::Set,
+    Kind::If,
+    Kind::While,
+    Kind::Call,
+    Kind::Bool,
+];
+
+impl TryFrom<u8> for Kind {
+    type Error = Fault;
+
+    fn try_from(byte: u8) -> Result<Kind, Fault>
+        ensures { result ≡ kind_of byte }
+    {
+        if byte == 0 || 13 < byte {
+            return Err(Fault::NoStatement);
+        }
+        Ok(Kind::known(byte))
+    }
+}
+
+impl Kind {
+    // The kind of a byte that begins a statement.
+    pub fn known(byte: u8) -> Kind
+        requires { (0 < byte) × (byte < 14) }
+        ensures { byte_of result ≡ byte }
+    {
+        KINDS[byte as usize - 1]
+    }
+
+    pub fn byte(self) -> u8
+        ensures value { result ≡ byte_of self }
+        ensures between { (0 < result) × (result < 14) }
+    {
+        match self {
+            Kind::Init => 1,
+            Kind::Magic => 2,
+            Kind::Free => 3,
+            Kind::Gate => 4,
+            Kind::Measure => 5,
+            Kind::Merge => 6,
+            Kind::Ref => 7,
+            Kind::Get => 8,
+            Kind::Set => 9,
+            Kind::If => 10,
+            Kind::While => 11,
+            Kind::Call => 12,
+            Kind::Bool => 13,
+        }
+    }
+
+    // What the operands of the fixed part are, in their order.
+    pub fn operands(self) -> &'static [Operand]
+        ensures { result.now ≡ operands_of (byte_of self) }
+    {
+        match self {
+            Kind::Init => &[Slot, Location],
+            Kind::Magic => &[Slot, Location],
+            Kind::Free => &[Slot],
+            Kind::Gate => &[Gate, Slot],
+            Kind::Measure => &[Slot, Basis, Slot],
+            Kind::Merge => &[Slot, Basis, Slot, Basis, Slot],
+            Kind::Ref => &[Slot, Slot],
+            Kind::Get => &[Slot, Slot],
+            Kind::Set => &[Slot, Slot],
+            Kind::If => &[Slot],
+            Kind::While => &[Slot],
+            Kind::Call => &[Callee, CalleeK, CalleeM],
+            Kind::Bool => &[Slot, Value],
+        }
+    }
+
+    // The fixed part of a statement: its byte and the operands before any block or list.
+    pub fn size(self) -> usize
+        ensures value { result ≡ size_of (byte_of self) }
+        ensures between { (2 ≤ result) × (result ≤ 6) }
+    {
+        1 + self.operands().len()
+    }
+
+    // What operand number `i` is, from 1 on; nothing where there is none.
+    pub fn operand(self, i: usize) -> Operand
+        requires { 0 < i }
+        ensures { result ≡ operand_at (byte_of self) i }
+    {
+        let operands = self.operands();
+        if i <= operands.len() {
+            operands[i - 1]
+        } else {
+            Operand::Nothing
+        }
     }
 }

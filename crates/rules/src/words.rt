@@ -1,72 +1,82 @@
-// The words of a listing, and their letters. The names of the statement kinds stand last, in the order of the statement bytes.
-ghost use Rattle.std.specs.Prelude.{◌≡◌, ◌+◌, ◌≤◌, ◌<◌, get_or, length};
-ghost use Rattle.rules.specs.Table.{word_of};
+// The words of a listing, and their letters.
+ghost use Rattle.std.specs.Prelude.{◌≡◌, ◌≤◌, length};
+ghost use Rattle.rules.specs.Kinds.{text_of, gate_word};
 
-// Ten bytes for each word: how many letters it has, then its letters, 0 after them.
-const WORDS: [[u8; 10]; 26] = [
-    [0, 0, 0, 0, 0, 0, 0, 0, 0, 0],
-    [7, 112, 114, 111, 103, 114, 97, 109, 0, 0], // program
-    [8, 102, 117, 110, 99, 116, 105, 111, 110, 0], // function
-    [9, 108, 111, 99, 97, 116, 105, 111, 110, 115], // locations
-    [9, 97, 114, 103, 117, 109, 101, 110, 116, 115], // arguments
-    [4, 109, 97, 105, 110, 0, 0, 0, 0, 0], // main
-    [4, 101, 108, 115, 101, 0, 0, 0, 0, 0], // else
-    [2, 97, 116, 0, 0, 0, 0, 0, 0, 0], // at
-    [4, 119, 105, 116, 104, 0, 0, 0, 0, 0], // with
-    [1, 88, 0, 0, 0, 0, 0, 0, 0, 0], // X
-    [1, 90, 0, 0, 0, 0, 0, 0, 0, 0], // Z
-    [1, 72, 0, 0, 0, 0, 0, 0, 0, 0], // H
-    [1, 83, 0, 0, 0, 0, 0, 0, 0, 0], // S
-    [4, 105, 110, 105, 116, 0, 0, 0, 0, 0], // init
-    [5, 109, 97, 103, 105, 99, 0, 0, 0, 0], // magic
-    [4, 102, 114, 101, 101, 0, 0, 0, 0, 0], // free
-    [4, 103, 97, 116, 101, 0, 0, 0, 0, 0], // gate
-    [7, 109, 101, 97, 115, 117, 114, 101, 0, 0], // measure
-    [5, 109, 101, 114, 103, 101, 0, 0, 0, 0], // merge
-    [3, 114, 101, 102, 0, 0, 0, 0, 0, 0], // ref
-    [3, 103, 101, 116, 0, 0, 0, 0, 0, 0], // get
-    [3, 115, 101, 116, 0, 0, 0, 0, 0, 0], // set
-    [2, 105, 102, 0, 0, 0, 0, 0, 0, 0], // if
-    [5, 119, 104, 105, 108, 101, 0, 0, 0, 0], // while
-    [4, 99, 97, 108, 108, 0, 0, 0, 0, 0], // call
-    [4, 98, 111, 111, 108, 0, 0, 0, 0, 0], // bool
-];
+use crate::statements::Kind;
 
-pub const PROGRAM: usize = 1;
-
-pub const FUNCTION: usize = 2;
-
-pub const LOCATIONS: usize = 3;
-
-pub const ARGUMENTS: usize = 4;
-
-pub const MAIN: usize = 5;
-
-pub const ELSE: usize = 6;
-
-pub const AT: usize = 7;
-
-pub const WITH: usize = 8;
-// The first of the four gates; bases are its first two.
-pub const GATES: usize = 9;
-// The name of statement byte b is this many words after.
-pub const NAMES: usize = 12;
-
-// How many letters word `w` has.
-pub fn letters(w: usize) -> usize
-    requires { w < 26 }
-    ensures value { result ≡ length (word_of w) }
-    ensures upper_bound { result ≤ 9 }
-{
-    let row = WORDS[w];
-    row[0] as usize
+// The words around names, the letters of gates and bases, and the names of the statement kinds.
+#[derive(Clone, Copy, Debug, PartialEq, Eq)]
+pub enum Word {
+    Program,
+    Function,
+    Locations,
+    Arguments,
+    Main,
+    Else,
+    At,
+    With,
+    X,
+    Z,
+    H,
+    S,
+    Name(Kind),
 }
 
-// Letter `i` of word `w`.
-pub fn letter(w: usize, i: usize) -> u8
-    requires { (w < 26) × (i < 9) }
-    ensures { result ≡ get_or (word_of w) i 0 }
+// The four gates; bases are the first two.
+const GATES: [Word; 4] = [Word::X, Word::Z, Word::H, Word::S];
+
+impl Word {
+    // The word of a gate or a basis, by its number.
+    pub fn gate(number: u8) -> Option<Word>
+        ensures { result ≡ gate_word number }
+    {
+        if number < 4 {
+            Some(GATES[number as usize])
+        } else {
+            None
+        }
+    }
+
+    pub fn letters(self) -> &'static [u8]
+        ensures value { result.now ≡ text_of self }
+        ensures few { length result.now ≤ 9 }
+    {
+        match self {
+            Word::Program => b"program",
+            Word::Function => b"function",
+            Word::Locations => b"locations",
+            Word::Arguments => b"arguments",
+            Word::Main => b"main",
+            Word::Else => b"else",
+            Word::At => b"at",
+            Word::With => b"with",
+            Word::X => b"X",
+            Word::Z => b"Z",
+            Word::H => b"H",
+            Word::S => b"S",
+            Word::Name(kind) => name(kind),
+        }
+    }
+}
+
+// The name of a statement kind.
+fn name(kind: Kind) -> &'static [u8]
+    ensures value { result.now ≡ text_of (Word.Name kind) }
+    ensures few { length result.now ≤ 9 }
 {
-    let row = WORDS[w];
-    row[i + 1]
+    match kind {
+        Kind::Init => b"init",
+        Kind::Magic => b"magic",
+        Kind::Free => b"free",
+        Kind::Gate => b"gate",
+        Kind::Measure => b"measure",
+        Kind::Merge => b"merge",
+        Kind::Ref => b"ref",
+        Kind::Get => b"get",
+        Kind::Set => b"set",
+        Kind::If => b"if",
+        Kind::While => b"while",
+        Kind::Call => b"call",
+        Kind::Bool => b"bool",
+    }
 }

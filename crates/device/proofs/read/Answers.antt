@@ -2,43 +2,39 @@
 use mathlib.Core.Bool.{true}
 use mathlib.Core.Path.{◌≡◌, sym, ap, ◌∙◌}
 use Rattle.answers.specs.Check.{refused}
+use Rattle.answers.proofs.Passed.{passed_on}
 use Rattle.rules.specs.Basics.{word, has_mark}
-use Rattle.rules.specs.Device.{device_header_said}
 use Rattle.device.proofs.HeaderLaws.{read_short, read_mark, read_version, read_header, read_past, made_few}
 use Rattle.device.proofs.read.Goals as goal
 
 pub returns-then-s-lt-BYTES : goal.returns-then-s-lt-BYTES
-returns-then-s-lt-BYTES c = ap refused c.new.ensures ∙ read_short _ c.if-s-lt-BYTES.true
+returns-then-s-lt-BYTES c = ap refused c.at.ensures ∙ read_short _ c.if-s-lt-BYTES.true
 
 pub returns-then-not-has_mark : goal.returns-then-not-has_mark
 returns-then-not-has_mark c =
     let m = sym c.has_mark.ensures ∙ c.if-not-has_mark.true in
-    ap refused c.new-then-not-has_mark.ensures ∙ read_mark _ c.if-s-lt-BYTES.false m
+    ap refused c.at-then-not-has_mark.ensures ∙ read_mark _ c.if-s-lt-BYTES.false m
 
 pub returns-then-word_at-ne-VERSION : goal.returns-then-word_at-ne-VERSION
 returns-then-word_at-ne-VERSION c =
     let marked : has_mark c.args.s.now 0x47 ≡ true =
     sym c.has_mark.ensures ∙ c.if-not-has_mark.false in
     let w = c.word_at.ensures.0 in
-    ap refused c.new-then-word_at-ne-VERSION.ensures ∙ read_version _ c.if-s-lt-BYTES.false marked (λ e. c.if-word_at-ne-VERSION.true (w ∙ e))
+    ap refused c.at-then-word_at-ne-VERSION.ensures ∙ read_version _ c.if-s-lt-BYTES.false marked (λ e. c.if-word_at-ne-VERSION.true (w ∙ e))
 
 pub read_body-requires : goal.read_body-requires
-read_body-requires c =
-    let n = c.word_at-n.result in
-    let e = c.word_at-e.result in
-    made_few n e _ (sym (ap device_header_said c.in-Made.is) ∙ c.new-header.ensures)
+read_body-requires c = made_few c.word_at-n.result c.word_at-e.result _ c.in_ok-h.ensures
 
 -- where the header is made the tests before it are passed, and its numbers are those of the bytes
-pub returns-in-Made : goal.returns-in-Made
-returns-in-Made c =
+pub returns : goal.returns
+returns c =
     let marked : has_mark c.args.s.now 0x47 ≡ true = sym c.has_mark.ensures ∙ c.if-not-has_mark.false in
     let version : word c.args.s.now 3 ≡ 1 = sym c.word_at.ensures.0 ∙ c.if-word_at-ne-VERSION.false in
-    let made = sym (ap device_header_said c.in-Made.is) ∙ c.new-header.ensures in
-    c.read_body.ensures ∙ sym (read_past c.args.s.now c.if-s-lt-BYTES.false marked version _ _ c.word_at-n.ensures.0 c.word_at-e.ensures.0 _ made)
+    c.read_body.ensures ∙ sym (read_past c.args.s.now c.if-s-lt-BYTES.false marked version _ _ c.word_at-n.ensures.0 c.word_at-e.ensures.0 _ c.in_ok-h.ensures)
 
-pub returns-in-Refused : goal.returns-in-Refused
-returns-in-Refused c =
+pub returns-in_err-h : goal.returns-in_err-h
+returns-in_err-h c =
     let marked : has_mark c.args.s.now 0x47 ≡ true = sym c.has_mark.ensures ∙ c.if-not-has_mark.false in
     let version : word c.args.s.now 3 ≡ 1 = sym c.word_at.ensures.0 ∙ c.if-word_at-ne-VERSION.false in
-    let made = sym (ap device_header_said c.in-Refused.is) ∙ c.new-header.ensures in
-    read_header c.args.s.now c.if-s-lt-BYTES.false marked version _ _ c.word_at-n.ensures.0 c.word_at-e.ensures.0 _ made
+    passed_on _ c.from_residual.ensures.1
+    ∙ read_header c.args.s.now c.if-s-lt-BYTES.false marked version _ _ c.word_at-n.ensures.0 c.word_at-e.ensures.0 _ c.in_err-h.ensures

@@ -1,27 +1,20 @@
 -- The length, then what the tests of the owners and of the edges answer.
 use mathlib.Core.Path.{sym, ap, ◌∙◌}
 use Rattle.answers.specs.Check.{refused}
-use Rattle.answers.specs.Said.{read_said}
+use Rattle.answers.proofs.Passed.{passed_on}
 use Rattle.device.proofs.HeaderLaws.{body_length, body_owners, body_edges, body_read_lem}
 use Rattle.device.proofs.read_body.Goals as goal
 
 pub returns-then-s-n : goal.returns-then-s-n
-returns-then-s-n c = ap refused c.new.ensures ∙ body_length _ _ c.if-s-n.true
+returns-then-s-n c = ap refused c.at.ensures ∙ body_length _ _ c.if-s-n.true
 
-pub returns-in-Refused : goal.returns-in-Refused
-returns-in-Refused c =
-    let o = sym (ap read_said c.in-Refused.is) ∙ c.test_owners-owned.ensures in
-    body_owners _ _ c.if-s-n.false _ o
+pub returns-in_err-test_owners : goal.returns-in_err-test_owners
+returns-in_err-test_owners c = passed_on _ c.from_residual.ensures.1 ∙ body_owners _ _ c.if-s-n.false _ c.in_err-test_owners.ensures
 
-pub returns-in-Readable : goal.returns-in-Readable
-returns-in-Readable c =
-    let o = sym (ap read_said c.in_default.is) ∙ c.test_owners-owned.ensures in
-    let e = sym (ap read_said c.in-Readable.is) ∙ c.test_edges-joined.ensures in
-    body_read_lem _ _ c.if-s-n.false o e
+pub returns-in_err-test_edges : goal.returns-in_err-test_edges
+returns-in_err-test_edges c =
+    passed_on _ c.from_residual-in_err-test_edges.ensures.1
+    ∙ body_edges _ _ c.if-s-n.false _ c.in_ok-test_owners.ensures c.in_err-test_edges.ensures
 
-pub returns-in-Refused-joined : goal.returns-in-Refused-joined
-returns-in-Refused-joined c =
-    let t = c.test_owners-owned in
-    let o = sym (ap read_said c.in_default.is) ∙ t.ensures in
-    let e = sym (ap read_said c.in-Refused-joined.is) ∙ c.test_edges-joined.ensures in
-    body_edges _ _ c.if-s-n.false _ o e
+pub returns : goal.returns
+returns c = body_read_lem _ _ c.if-s-n.false c.in_ok-test_owners.ensures c.in_ok-test_edges.ensures

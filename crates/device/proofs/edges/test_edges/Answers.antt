@@ -12,7 +12,7 @@ returns-then-not-stands c =
     let a = c.args in
     let l = c.loop-i in
     let b = sym c.stands.ensures ∙ c.if-not-stands.true in
-    edge_bad a.s.now a.n (9 + a.n) a.e l.i l.invariant.1 (omega arith) b _ c.new.ensures
+    edge_bad a.s.now a.n (9 + a.n) a.e l.i l.invariant.1 (omega arith) b _ c.at.ensures
 
 pub loop-i-preserved : goal.loop-i-preserved
 loop-i-preserved c =

@@ -8,6 +8,3 @@ use Rattle.device.proofs.edges.test_edges.Given as goal
 
 abbrev pub invariant-loop-i : goal.invariant-loop-i
 invariant-loop-i l = (l.i ≤ l.e) × (tested (edges l.s l.n none l.start l.e) ≡ tested (edges l.s l.n (edge_before l.s l.start l.i) (l.start + 2 * l.i) (l.e - l.i)))
-
-abbrev pub decreases-loop-i : goal.decreases-loop-i
-decreases-loop-i l = l.e - l.i

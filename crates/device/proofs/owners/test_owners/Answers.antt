@@ -9,7 +9,7 @@ pub returns-then-s-at-gt-MOST_JOBS : goal.returns-then-s-at-gt-MOST_JOBS
 returns-then-s-at-gt-MOST_JOBS c =
     let a = c.args in
     let l = c.loop-i in
-    owner_bad a.s.now a.n l.i l.invariant.1 (omega arith) c.if-s-at-gt-MOST_JOBS.true _ c.new.ensures
+    owner_bad a.s.now a.n l.i l.invariant.1 (omega arith) c.if-s-at-gt-MOST_JOBS.true _ c.at.ensures
 
 pub loop-i-preserved : goal.loop-i-preserved
 loop-i-preserved c =

@@ -7,6 +7,3 @@ use Rattle.device.proofs.owners.test_owners.Given as goal
 
 abbrev pub invariant-loop-i : goal.invariant-loop-i
 invariant-loop-i l = (l.i ≤ l.n) × (tested (owners l.s 9 l.n) ≡ tested (owners l.s (9 + l.i) (l.n - l.i)))
-
-abbrev pub decreases-loop-i : goal.decreases-loop-i
-decreases-loop-i l = l.n - l.i

@@ -5,7 +5,7 @@ use Rattle.rules.proofs.program.ProgramHeader.new.Goals as goal
 
 pub returns-then-functions-gt-MOST_FUNCTIONS : goal.returns-then-functions-gt-MOST_FUNCTIONS
 unfolding ◌>>=◌ ◌>>◌
-returns-then-functions-gt-MOST_FUNCTIONS c = rw (c.new.ensures, lt-leb _ 15 c.if-functions-gt-MOST_FUNCTIONS.true)
+returns-then-functions-gt-MOST_FUNCTIONS c = rw (c.at.ensures, lt-leb _ 15 c.if-functions-gt-MOST_FUNCTIONS.true)
 
 pub returns : goal.returns
 unfolding ◌>>=◌ ◌>>◌

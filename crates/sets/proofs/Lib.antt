@@ -1,6 +1,6 @@
 pub mod Bits
 pub mod Bools
 pub mod FirstLaws
+pub mod LowBits
 pub mod RowLaws
 pub mod SetLaws
-pub mod Sweep

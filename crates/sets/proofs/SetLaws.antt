@@ -1,20 +1,22 @@
 -- Laws of the sets, one for each function of a set that makes or asks one. A member is a bit of one of four words, so each law is a law of bits, at the
 -- word and the bit where the member stands. With the laws of rows this is the only file that looks into `has`.
 use mathlib.Core.Bool.{Bool, true, false, not, ◌&&◌, ◌||◌}
-use mathlib.Core.List.{[], ◌∷◌}
 use mathlib.Core.Logic.{⊎_elim}
 use mathlib.Core.Path.{◌≡◌, refl, sym, ap, ◌∙◌}
 use native.Mathlib.Decide.{ℕ_discrete}
 use native.Mathlib.Omega.{arith}
-use Prim.Native.Nat.{ℕ, zero, suc, ◌+◌, ◌*◌, ◌/◌, ◌%◌, ◌^◌, ◌≤◌, ◌<◌}
+use Prim.Native.Nat.{ℕ, zero, suc, ◌+◌, ◌-◌, ◌*◌, ◌/◌, ◌%◌, ◌^◌, ◌≤◌, ◌<◌}
 use borrow.Author.Tests.{eq-eqb, ne_eqb, lt-ltb, le-ltb}
-use lib.Bits.{bit_and, bit_or, bit_xor}
+use lib.Bits.{bit_and, bit_or}
 use lib.Dec.{eqb, ltb}
-use lib.ListN.{length, get_or, set}
+use lib.ListN.{length, get_or, set, replicate}
+use lib.Pow.{pow-lt}
 use lib.Seq.{get_or-set_same, get_or-set_other}
+use mir.Syntax.{w64}
+use Rattle.std.specs.Int.{bit_not}
 use Rattle.sets.specs.declared.LocationSet.{LocationSet}
 use Rattle.sets.specs.Sets.{bit_of, has}
-use Rattle.sets.proofs.Bits.{or_bit, and_bit, xor_bit, no_bit, bit_lt, with_bit, without_bit, has_bit, pick_n}
+use Rattle.sets.proofs.Bits.{or_bit, and_bit, not_bit, no_bit, bit_lt, with_bit, without_bit, has_bit, pick_n}
 use Rattle.sets.proofs.Bools.{side, clash}
 
 -- no set has a number from 256 on, so a member is a location
@@ -41,25 +43,23 @@ off_word s y i j e h k b =
     rw (lt-ltb y 256 (omega arith), d, m, b)
 
 -- ---- one number
-zeros_at : (i : ℕ) → get_or {A = ℕ} (0 ∷ 0 ∷ 0 ∷ 0 ∷ []) i 0 ≡ 0
-zeros_at zero = refl
-zeros_at (suc zero) = refl
-zeros_at (suc (suc zero)) = refl
-zeros_at (suc (suc (suc zero))) = refl
-zeros_at (suc (suc (suc (suc i)))) = refl
-
 and_false : (t : Bool) → (t && false) ≡ false
 and_false true = refl
 and_false false = refl
 
-pub empty_has : (y : ℕ) → has (record { words = 0 ∷ 0 ∷ 0 ∷ 0 ∷ [] }) y ≡ false
-unfolding has
-empty_has y = rw (zeros_at (y / 64), no_bit (y % 64)) (and_false (ltb y 256))
+pub zeros_at : (n i : ℕ) → get_or {A = ℕ} (replicate n 0) i 0 ≡ 0
+zeros_at zero i = refl
+zeros_at (suc n) zero = refl
+zeros_at (suc n) (suc i) = zeros_at n i
 
-pub contains_has : (s : LocationSet) (x : ℕ) → x < 256
-    → not (eqb (bit_and (get_or s.words (x / 64) 0) (1 * 2 ^ (x % 64) % 18446744073709551616)) 0) ≡ has s x
+-- words of zero have no member
+pub zero_has : (s : LocationSet) (y : ℕ) → ((i : ℕ) → get_or s.words i 0 ≡ 0) → has s y ≡ false
 unfolding has
-contains_has s x h = rw (lt-ltb x 256 h) (has_bit (get_or s.words (x / 64) 0) (x % 64) (omega arith))
+zero_has s y z = rw (z (y / 64), no_bit (y % 64)) (and_false (ltb y 256))
+
+pub contains_has : (s : LocationSet) (x : ℕ) → x < 256 → not (eqb (bit_and (get_or s.words (x / 64) 0) (2 ^ (x % 64))) 0) ≡ has s x
+unfolding has
+contains_has s x h = rw (lt-ltb x 256 h) (has_bit (get_or s.words (x / 64) 0) (x % 64))
 
 pub pick_on : (t : Bool) (n : ℕ) → eqb (pick_n t 1 n) 1 ≡ (t || eqb n 1)
 pick_on true n = refl
@@ -82,7 +82,7 @@ same_place x y e =
 
 -- a set in which one word is changed, at the bit of x alone: g says how
 module _ (s : LocationSet) (x new : ℕ) (g : Bool → Bool → Bool) (n : length s.words ≡ 4) (h : x < 256) (off : (t : Bool) → g false t ≡ t)
-    (bit : (j : ℕ) → eqb (bit_of new j) 1 ≡ g (eqb j (x % 64)) (eqb (bit_of (get_or s.words (x / 64) 0) j) 1)) where
+    (bit : (j : ℕ) → j < 64 → eqb (bit_of new j) 1 ≡ g (eqb j (x % 64)) (eqb (bit_of (get_or s.words (x / 64) 0) j) 1)) where
   changed_has : (y : ℕ) → has (record { words = set s.words (x / 64) new }) y ≡ g (eqb y x) (has s y)
   unfolding has
   changed_has y =
@@ -91,58 +91,44 @@ module _ (s : LocationSet) (x new : ℕ) (g : Bool → Bool → Bool) (n : lengt
       go : y < 256 → Dec (y / 64 ≡ x / 64) → has (record { words = set s.words (x / 64) new }) y ≡ g (eqb y x) (has s y)
       go b (yes e) =
           rw (lt-ltb y 256 b, e, get_or-set_same s.words (x / 64) new 0 (omega arith))
-          (bit (y % 64) ∙ ap (λ (t : Bool). g t (eqb (bit_of (get_or s.words (x / 64) 0) (y % 64)) 1)) (same_place x y e))
+          (bit (y % 64) (omega arith) ∙ ap (λ (t : Bool). g t (eqb (bit_of (get_or s.words (x / 64) 0) (y % 64)) 1)) (same_place x y e))
       go b (no e) =
           rw (lt-ltb y 256 b, get_or-set_other s.words (x / 64) (y / 64) new 0 e, ne_eqb y x (λ q. e (ap (λ (m : ℕ). m / 64) q))) (sym (off _))
 
 pub add_has : (s : LocationSet) (x : ℕ) → length s.words ≡ 4 → x < 256 → (y : ℕ)
-    → has (record { words = set s.words (x / 64) (bit_or (get_or s.words (x / 64) 0) (1 * 2 ^ (x % 64) % 18446744073709551616)) }) y
-    ≡ (eqb y x || has s y)
+    → has (record { words = set s.words (x / 64) (bit_or (get_or s.words (x / 64) 0) (2 ^ (x % 64))) }) y ≡ (eqb y x || has s y)
 add_has s x n h =
     changed_has s x _ ◌||◌ n h (λ t. refl)
-    (λ j. ap (λ (m : ℕ). eqb m 1) (with_bit (get_or s.words (x / 64) 0) (x % 64) (omega arith) j) ∙ pick_on (eqb j (x % 64)) _)
+    (λ j _. ap (λ (m : ℕ). eqb m 1) (with_bit (get_or s.words (x / 64) 0) (x % 64) j) ∙ pick_on (eqb j (x % 64)) _)
 
 pub remove_has : (s : LocationSet) (x : ℕ) → length s.words ≡ 4 → x < 256 → (y : ℕ)
-    → has
-    (record {
-      words = set s.words (x / 64) (bit_xor (get_or s.words (x / 64) 0) (bit_and (get_or s.words (x / 64) 0) (1 * 2 ^ (x % 64) % 18446744073709551616)));
-    })
-    y
-    ≡ (not (eqb y x) && has s y)
+    → has (record { words = set s.words (x / 64) (bit_and (get_or s.words (x / 64) 0) (bit_not w64 (2 ^ (x % 64)))) }) y ≡ (not (eqb y x) && has s y)
 remove_has s x n h =
     changed_has s x _ (λ p q. not p && q) n h (λ t. refl)
-    (λ j. ap (λ (m : ℕ). eqb m 1) (without_bit (get_or s.words (x / 64) 0) (x % 64) (omega arith) j) ∙ pick_off (eqb j (x % 64)) _)
+    (λ j k. ap (λ (m : ℕ). eqb m 1) (without_bit (get_or s.words (x / 64) 0) (x % 64) j (pow-lt {i = x % 64} {j = 64} (omega arith)) k) ∙ pick_off (eqb j (x % 64)) _)
 
 -- ---- two sets, word by word: one law over the operation f on words and what it is on tests, g
-abbrev pub four : (ℕ → ℕ → ℕ) → LocationSet → LocationSet → LocationSet
-four f s t = record { words = at 0 ∷ at 1 ∷ at 2 ∷ at 3 ∷ [] }
-  where
-    at : ℕ → ℕ
-    at i = f (get_or s.words i 0) (get_or t.words i 0)
-
-four_at : (f : ℕ → ℕ → ℕ) (s t : LocationSet) (i : ℕ) → i < 4 → get_or (four f s t).words i 0 ≡ f (get_or s.words i 0) (get_or t.words i 0)
-four_at f s t zero h = refl
-four_at f s t (suc zero) h = refl
-four_at f s t (suc (suc zero)) h = refl
-four_at f s t (suc (suc (suc zero))) h = refl
-four_at f s t (suc (suc (suc (suc i)))) h = absurd (omega arith)
-
--- f goes bit by bit, and on bits it is g
 record Bitwise (f : ℕ → ℕ → ℕ) (g : Bool → Bool → Bool) : Type 0 where
   none : g false false ≡ false
-  bitwise : (a b j : ℕ) → bit_of (f a b) j ≡ f (bit_of a j) (bit_of b j)
-  on_bits : (x y : ℕ) → x < 2 → y < 2 → eqb (f x y) 1 ≡ g (eqb x 1) (eqb y 1)
+  bitwise : (a b j : ℕ) → b < 2 ^ 64 → j < 64 → eqb (bit_of (f a b) j) 1 ≡ g (eqb (bit_of a j) 1) (eqb (bit_of b j) 1)
 
-four_has : {f : ℕ → ℕ → ℕ} {g : Bool → Bool → Bool} → Bitwise f g → (s t : LocationSet) (y : ℕ)
-    → has (four f s t) y ≡ g (has s y) (has t y)
+-- each word of r is made by f of the words of s and t
+abbrev Made : (ℕ → ℕ → ℕ) → LocationSet → LocationSet → LocationSet → Type 0
+Made f s t r = (i : ℕ) → i < 4 → get_or r.words i 0 ≡ f (get_or s.words i 0) (get_or t.words i 0)
+
+abbrev Words : LocationSet → Type 0
+Words t = (i : ℕ) → i < 4 → get_or t.words i 0 < 2 ^ 64
+
+made_has : {f : ℕ → ℕ → ℕ} {g : Bool → Bool → Bool} → Bitwise f g → (s t r : LocationSet) → Words t → Made f s t r → (y : ℕ) → has r y ≡ g (has s y) (has t y)
 unfolding has
-four_has {f} {g} B s t y = ⊎_elim (λ h. below h) (λ h. rw (le-ltb y 256 h) (sym B.none)) (side y 256)
+made_has {f} {g} B s t r w m y = ⊎_elim (λ h. below h) (λ h. rw (le-ltb y 256 h) (sym B.none)) (side y 256)
   where
-    below : y < 256 → has (four f s t) y ≡ g (has s y) (has t y)
+    below : y < 256 → has r y ≡ g (has s y) (has t y)
     below h =
-        rw (lt-ltb y 256 h, four_at f s t (y / 64) (omega arith), B.bitwise (get_or s.words (y / 64) 0) (get_or t.words (y / 64) 0) (y % 64))
-        (B.on_bits _ _ (bit_lt _ _) (bit_lt _ _))
+        rw (lt-ltb y 256 h, m (y / 64) (omega arith))
+        (B.bitwise (get_or s.words (y / 64) 0) (get_or t.words (y / 64) 0) (y % 64) (w (y / 64) (omega arith)) (omega arith))
 
+-- what holds of the bits 0 and 1 holds of the bits of two words
 two : (P : ℕ → ℕ → Type 0) → P 0 0 → P 0 1 → P 1 0 → P 1 1 → (x y : ℕ) → x < 2 → y < 2 → P x y
 two P a b c d zero zero h k = a
 two P a b c d zero (suc zero) h k = b
@@ -153,16 +139,25 @@ two P a b c d zero (suc (suc y)) h k = absurd (omega arith)
 two P a b c d (suc zero) (suc (suc y)) h k = absurd (omega arith)
 
 abbrev pub lacks : ℕ → ℕ → ℕ
-lacks a b = bit_xor a (bit_and a b)
+lacks a b = bit_and a (bit_not w64 b)
 
-pub union_has : (s t : LocationSet) (y : ℕ) → has (four bit_or s t) y ≡ (has s y || has t y)
-union_has = four_has {g = ◌||◌} (record { none = refl; bitwise = or_bit; on_bits = two _ refl refl refl refl })
+pub union_has : (s t r : LocationSet) → Words t → Made bit_or s t r → (y : ℕ) → has r y ≡ (has s y || has t y)
+union_has = made_has {g = ◌||◌} (record {
+  none = refl;
+  bitwise = λ a b j _ _. ap (λ (n : ℕ). eqb n 1) (or_bit a b j)
+      ∙ two (λ x y. eqb (bit_or x y) 1 ≡ (eqb x 1 || eqb y 1)) refl refl refl refl _ _ (bit_lt a j) (bit_lt b j);
+})
 
-pub common_has : (s t : LocationSet) (y : ℕ) → has (four bit_and s t) y ≡ (has s y && has t y)
-common_has = four_has {g = ◌&&◌} (record { none = refl; bitwise = and_bit; on_bits = two _ refl refl refl refl })
+pub common_has : (s t r : LocationSet) → Words t → Made bit_and s t r → (y : ℕ) → has r y ≡ (has s y && has t y)
+common_has = made_has {g = ◌&&◌} (record {
+  none = refl;
+  bitwise = λ a b j _ _. ap (λ (n : ℕ). eqb n 1) (and_bit a b j)
+      ∙ two (λ x y. eqb (bit_and x y) 1 ≡ (eqb x 1 && eqb y 1)) refl refl refl refl _ _ (bit_lt a j) (bit_lt b j);
+})
 
-pub without_has : (s t : LocationSet) (y : ℕ) → has (four lacks s t) y ≡ (has s y && not (has t y))
-without_has = four_has {g = λ p q. p && not q} (record { none = refl; bitwise = bitwise; on_bits = two _ refl refl refl refl })
-  where
-    bitwise : (a b j : ℕ) → bit_of (lacks a b) j ≡ lacks (bit_of a j) (bit_of b j)
-    bitwise a b j = xor_bit a (bit_and a b) j ∙ ap (bit_xor (bit_of a j)) (and_bit a b j)
+pub without_has : (s t r : LocationSet) → Words t → Made lacks s t r → (y : ℕ) → has r y ≡ (has s y && not (has t y))
+without_has = made_has {g = λ p q. p && not q} (record {
+  none = refl;
+  bitwise = λ a b j h k. ap (λ (n : ℕ). eqb n 1) (and_bit a _ j ∙ ap (bit_and (bit_of a j)) (not_bit b j h k))
+      ∙ two (λ x y. eqb (bit_and x (1 - y)) 1 ≡ (eqb x 1 && not (eqb y 1))) refl refl refl refl _ _ (bit_lt a j) (bit_lt b j);
+})

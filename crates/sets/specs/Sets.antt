@@ -1,6 +1,7 @@
 -- Sets of locations as 256 bits: which locations a set has. Nothing but the functions of the set looks into `has`.
-use Rattle.std.specs.Prelude.{Bool, true, false, ◌&&◌, List, [], ◌∷◌, ◌≡◌, ℕ, ◌+◌, ◌*◌, ◌/◌, ◌%◌, ◌^◌, ◌≤◌, ◌<◌, eqb, ltb, get_or}
+use Rattle.std.specs.Prelude.{Bool, true, false, ◌&&◌, [], ◌≡◌, ℕ, ◌/◌, ◌%◌, ◌^◌, ◌<◌, eqb, ltb, get_or}
 use Rattle.sets.specs.declared.LocationSet.{LocationSet}
+use Rattle.sets.specs.declared.rows.Rows.{Rows}
 
 -- bit j of x: 0 or 1
 unfoldable pub bit_of : ℕ → ℕ → ℕ
@@ -10,13 +11,23 @@ bit_of x j = x / 2 ^ j % 2
 unfoldable pub has : LocationSet → ℕ → Bool
 has s y = ltb y 256 && eqb (bit_of (get_or s.words (y / 64) 0) (y % 64)) 1
 
--- row x of a table of 256 rows of four words: the locations joined to x
-abbrev pub row_of : List ℕ → ℕ → LocationSet
-row_of rows x = record { words = get_or rows (x * 4) 0 ∷ get_or rows (x * 4 + 1) 0 ∷ get_or rows (x * 4 + 2) 0 ∷ get_or rows (x * 4 + 3) 0 ∷ [] }
+-- row x of a table: the locations joined to x, none where the table has no such row
+abbrev pub row_of : Rows → ℕ → LocationSet
+row_of t x = get_or t.rows x (record { words = [] })
 
--- r is the first member of s from a number on, 256 where there is none
-pub record FirstFrom (s : LocationSet) (start r : ℕ) : Type 0 where
-  pub least : start ≤ r
-  pub most : r ≤ 256
-  pub member : r < 256 → has s r ≡ true
-  pub passed : (j : ℕ) → start ≤ j → j < r → has s j ≡ false
+-- x is the first member of s
+pub record First (s : LocationSet) (x : ℕ) : Type 0 where
+  pub member : has s x ≡ true
+  pub passed : (j : ℕ) → j < x → has s j ≡ false
+
+-- t is the lowest bit of w that is set
+pub record Lowest (w t : ℕ) : Type 0 where
+  pub small : t < 64
+  pub on : bit_of w t ≡ 1
+  pub below : (j : ℕ) → j < t → bit_of w j ≡ 0
+
+-- r is w without its lowest bit
+pub record Cleared (w r : ℕ) : Type 0 where
+  pub less : r < w
+  pub off : (t : ℕ) → Lowest w t → bit_of r t ≡ 0
+  pub same : (t j : ℕ) → Lowest w t → (j ≡ t → ⊥) → bit_of r j ≡ bit_of w j

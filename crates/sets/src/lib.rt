@@ -1,10 +1,13 @@
 // Sets of the device's locations, as 256 bits. What a function does is said pointwise over `has`, for every number: from 256 on no set has any.
 #![tactic(auto)]
 
-ghost use Rattle.std.specs.Prelude.{true, false, not, ◌&&◌, ◌||◌, ◌≡◌, ℕ, ◌≤◌, ◌<◌, eqb};
-ghost use Rattle.sets.specs.Sets.{bit_of, has, FirstFrom};
+ghost use Rattle.std.specs.Prelude.{true, false, not, ◌&&◌, ◌||◌, MatchOption, ◌≡◌, ℕ, ◌/◌, ◌%◌, ◌^◌, ◌<◌, eqb, get_or};
+ghost use Rattle.sets.specs.Sets.{has, First};
 
 pub mod rows;
+pub mod words;
+
+use words::low;
 
 #[derive(Clone, Copy)]
 pub struct LocationSet {
@@ -15,118 +18,100 @@ impl LocationSet {
     pub fn empty() -> Self
         ensures { (y : ℕ) → has result y ≡ false }
     {
-        LocationSet {
-            words: [0, 0, 0, 0],
-        }
+        LocationSet { words: [0; 4] }
     }
 
-    pub fn contains(self, x: usize) -> bool
-        requires { x < 256 }
+    pub fn contains(self, x: u8) -> bool
         ensures { result ≡ has self x }
     {
-        let i = x / 64;
-        let w = self.words[i];
-        (w & (1 << (x % 64))) != 0
+        self.words[word_of(x)] & bit(x) != 0
     }
 
-    pub fn add(mut self, x: usize) -> Self
-        requires { x < 256 }
+    pub fn add(mut self, x: u8) -> Self
         ensures { (y : ℕ) → has result y ≡ (eqb y x || has self y) }
     {
-        let i = x / 64;
-        let w = self.words[i];
-        self.words[i] = w | (1 << (x % 64));
+        self.words[word_of(x)] |= bit(x);
         self
     }
 
-    pub fn remove(mut self, x: usize) -> Self
-        requires { x < 256 }
+    pub fn remove(mut self, x: u8) -> Self
         ensures { (y : ℕ) → has result y ≡ (not (eqb y x) && has self y) }
     {
-        let i = x / 64;
-        let w = self.words[i];
-        self.words[i] = w ^ (w & (1 << (x % 64)));
+        self.words[word_of(x)] &= !bit(x);
         self
+    }
+
+    // With x, where a test says so.
+    pub fn add_if(self, x: u8, test: bool) -> Self
+        ensures { (y : ℕ) → has result y ≡ ((test && eqb y x) || has self y) }
+    {
+        if test { self.add(x) } else { self }
     }
 
     // The members of either.
     pub fn union(self, o: LocationSet) -> Self
         ensures { (y : ℕ) → has result y ≡ (has self y || has o y) }
     {
-        LocationSet {
-            words: [
-                self.words[0] | o.words[0],
-                self.words[1] | o.words[1],
-                self.words[2] | o.words[2],
-                self.words[3] | o.words[3],
-            ],
-        }
+        self.zip_with(o, |v, w| v | w)
     }
 
     // The members of both.
     pub fn common(self, o: LocationSet) -> Self
         ensures { (y : ℕ) → has result y ≡ (has self y && has o y) }
     {
-        LocationSet {
-            words: [
-                self.words[0] & o.words[0],
-                self.words[1] & o.words[1],
-                self.words[2] & o.words[2],
-                self.words[3] & o.words[3],
-            ],
-        }
+        self.zip_with(o, |v, w| v & w)
     }
 
     // The members that the other has not.
     pub fn without(self, o: LocationSet) -> Self
         ensures { (y : ℕ) → has result y ≡ (has self y && not (has o y)) }
     {
+        self.zip_with(o, |v, w| v & !w)
+    }
+
+    // The set whose words are made of the words of two.
+    fn zip_with<F: Fn(u64, u64) -> u64>(self, o: LocationSet, f: F) -> Self
+        requires { F.IsAlwaysCallable f }
+        ensures { (i : ℕ) → i < 4 → F.post f (get_or self.words i 0) (get_or o.words i 0) (get_or result.words i 0) }
+    {
+        let [a, b, c, d] = self.words;
+        let [p, q, r, s] = o.words;
         LocationSet {
-            words: [
-                self.words[0] ^ (self.words[0] & o.words[0]),
-                self.words[1] ^ (self.words[1] & o.words[1]),
-                self.words[2] ^ (self.words[2] & o.words[2]),
-                self.words[3] ^ (self.words[3] & o.words[3]),
-            ],
+            words: [f(a, p), f(b, q), f(c, r), f(d, s)],
         }
     }
 
-    // The first member from a number on; 256 where there is none.
-    pub fn first_from(self, start: usize) -> usize
-        requires { start ≤ 256 }
-        ensures { FirstFrom self start result }
+    // The first member, if any.
+    pub fn first(self) -> Option<u8>
+        ensures { MatchOption result ((y : ℕ) → has self y ≡ false) (First self) }
     {
-        if start == 256 {
-            return 256;
-        }
-        let mut i = start / 64;
-        let w = self.words[i] >> (start % 64);
-        if w != 0 {
-            return start + low(w);
-        }
-        i += 1;
-        while i < 4 {
-            let v = self.words[i];
-            if v != 0 {
-                return i * 64 + low(v);
+        for i in 0..4u8 {
+            let w = self.words[i as usize];
+            if w != 0 {
+                return Some(i * 64 + low(w));
             }
-            i += 1;
         }
-        256
+        None
     }
 
     pub fn is_empty(self) -> bool
-        ensures y_value { result ≡ true → (y : ℕ) → has self y ≡ false }
-        ensures by_index { result ≡ false → (y : ℕ) × (has self y ≡ true) }
+        ensures none { result ≡ true → (y : ℕ) → has self y ≡ false }
+        ensures some { result ≡ false → (y : ℕ) × (has self y ≡ true) }
     {
-        (self.words[0] | self.words[1] | self.words[2] | self.words[3]) == 0
+        self.words == [0; 4]
     }
 }
 
-// The lowest bit of a word that is set.
-fn low(w: u64) -> usize
-    requires { 0 < w }
-    ensures { (result < 64) × (bit_of w result ≡ 1) × ((j : ℕ) → j < result → bit_of w j ≡ 0) }
+// The word of a set that has the bit of a location.
+fn word_of(x: u8) -> usize
+    ensures { result ≡ x / 64 }
 {
-    u64::trailing_zeros(w) as usize
+    (x / 64) as usize
+}
+
+// The bit of a location in its word.
+fn bit(x: u8) -> u64
+    ensures { result ≡ 2 ^ (x % 64) }
+{
+    1 << (x % 64)
 }

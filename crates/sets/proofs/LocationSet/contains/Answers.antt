@@ -4,4 +4,4 @@ use borrow.Author.Rules.{rules}
 use Rattle.sets.proofs.LocationSet.contains.Goals as goal
 
 pub returns : goal.returns
-returns c = contains_has _ _ (search rules)
+returns c = rw (c.word_of.ensures, c.bit.ensures) (contains_has c.args.self c.args.x (search rules))

@@ -4,4 +4,4 @@ use borrow.Author.Rules.{rules}
 use Rattle.sets.proofs.LocationSet.remove.Goals as goal
 
 pub returns : goal.returns
-returns c = remove_has _ _ (search rules) (search rules)
+returns c = rw (c.word_of.ensures, c.bit.ensures) (remove_has c.args.self c.args.x (search rules) (search rules))

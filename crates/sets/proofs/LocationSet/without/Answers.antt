@@ -1,6 +1,7 @@
--- Bit by bit, in each of the four words; that each word read is there is found by search.
+-- Bit by bit, in each of the four words.
 use Rattle.sets.proofs.SetLaws.{without_has}
+use borrow.Author.Rules.{rules}
 use Rattle.sets.proofs.LocationSet.without.Goals as goal
 
 pub returns : goal.returns
-returns c = without_has _ _
+returns c = without_has _ _ _ (λ i h. search rules) (λ i h. let e = c.zip_with.ensures i h in search rules)

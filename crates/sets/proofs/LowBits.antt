@@ -8,10 +8,9 @@ use native.Mathlib.Omega.{arith}
 use Prim.Native.Nat.{ℕ, zero, suc, ◌-◌, ◌/◌, ◌%◌, ◌<◌}
 use lib.Bits.{bit_and, and_zero_l, and_zero_r, and_self, and_le_r}
 use lib.Pow.{shr-shr}
-use Rattle.sets.specs.Sets.{bit_of}
+use Rattle.sets.specs.Sets.{bit_of, Cleared}
 use Rattle.sets.proofs.Bits.{and_bit}
 use Rattle.sets.proofs.Bools.{side}
-use Rattle.route.specs.Sweeps.{Cleared}
 
 half_bit : (w j : ℕ) → bit_of w (suc j) ≡ bit_of (w / 2) j
 unfolding bit_of

@@ -7,3 +7,8 @@ use Rattle.answers.specs.declared.Refusal.{Refusal}
 abbrev pub said : {A : Type 0} → Result A Refusal → Check A
 said (Ok a) = ok a
 said (Err r) = refused r
+
+-- whether it refuses, and with what
+abbrev pub passed : {A : Type 0} → Result A Refusal → Check (Unit {0})
+passed (Ok a) = ok tt
+passed (Err r) = refused r

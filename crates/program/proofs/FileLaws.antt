@@ -7,26 +7,21 @@ use Prim.Native.Nat.{ℕ, ◌<◌, ◌≤◌}
 use borrow.Author.Tests.{lt-leb, le-leb, eq-eqb, ne_eqb, leb-true}
 use lib.Dec.{leb, eqb}
 use lib.ListN.{length}
-use Rattle.answers.specs.declared.File.{File}
-use Rattle.answers.specs.declared.ReadAnswer.{ReadAnswer}
-use Rattle.answers.specs.declared.ReadAnswer.TheVariants.{Readable, Refused as NotReadable}
+use Rattle.std.specs.Prelude.{Result, Ok, Err}
 use Rattle.answers.specs.declared.Refusal.{Refusal}
-use Rattle.answers.specs.Said.{read_said}
-use Rattle.answers.specs.Check.{Check, ok, refused, refusal, ◌>>=◌, ◌>>◌, need, in_file, within}
+use Rattle.answers.specs.Said.{said}
+use Rattle.answers.specs.Check.{Check, ok, refused, refusal, ◌>>=◌, ◌>>◌, need}
 use Rattle.answers.proofs.Laws.{Holds, holds_then, holds_need, holds_at, by, ok_not_refused}
 use Rattle.rules.specs.declared.program.ProgramHeader.{ProgramHeader}
-use Rattle.rules.specs.declared.program.ProgramHeaderAnswer.{ProgramHeaderAnswer}
-use Rattle.rules.specs.declared.program.ProgramHeaderAnswer.TheVariants.{Made, Refused as NotMade}
 use Rattle.rules.specs.Basics.{byte, word, has_mark}
 use Rattle.rules.specs.Syntax.{device, Function, Program, Block}
-use Rattle.rules.specs.Program.{Scope, Read, program_header, program_header_said, read_block, functions_at, read_program}
-use Rattle.program.specs.declared.blocks.Past.TheVariants.{At, Refused}
+use Rattle.rules.specs.Program.{Scope, Read, program_header, read_block, functions_at, read_program}
 use Rattle.program.specs.declared.functions.FunctionTable.{FunctionTable}
 use Rattle.program.specs.declared.functions.Functions.{Functions}
 use Rattle.program.specs.declared.ReadProgram.{ReadProgram}
 use Rattle.program.specs.In.{offset_of}
 use Rattle.program.specs.Reader.{block_past, Heads, Tabled, FunctionsAs, head_of, main_at, body_at, ReadAs}
-use Rattle.program.proofs.PastLaws.{next_ok, next_refused, said_at, said_no}
+use Rattle.program.proofs.PastLaws.{next_ok, next_refused}
 use Rattle.program.proofs.FunctionLaws.{block_offset}
 
 module _ (s : List ℕ) where
@@ -72,10 +67,15 @@ module _ (s : List ℕ) where
           holds_then (holds_need (leb (byte s 5) 15) 4 5) λ u f.
           by (record { long = leb-true _ _ a; short = leb-true _ _ b; few = leb-true _ _ f })
 
+abbrev forget : {A : Type 0} → Check A → Check (Unit {0})
+forget (ok a) = ok tt
+forget (refused r) = refused r
+
 -- a read that refuses says nothing of a table
-pub read_refused : (m : Check Program) (r : ReadProgram) (x : Refusal) → m ≡ refused x → r.answer ≡ NotReadable x → ReadAs m r
+pub read_refused : (m : Check Program) (r : Result ReadProgram Refusal) (x : Refusal) → m ≡ refused x → said r ≡ refused x → ReadAs m r
 unfolding ◌>>◌
-read_refused m r x e a = record { answers = ap read_said a ∙ rw e; tables = λ p f. ok_not_refused (sym f ∙ e) }
+read_refused m (Ok t) x e a = ok_not_refused a
+read_refused m (Err y) x e a = record { answers = ap (λ (c : Check ReadProgram). forget c) a ∙ rw e; tables = λ p f. tt }
 
 -- Main.
 module _ (s : List ℕ) (i : ℕ) (fs : List Function) where
@@ -109,29 +109,29 @@ module _ (s : List ℕ) (i : ℕ) (fs : List Function) where
   main_more q e n = (main_read q e).reads ∙ rw (ne_eqb q (length s) n)
 
   pub main_made : (t : FunctionTable) → Heads fs t → (q : ℕ) → block_past s device S 8 i (length s) ≡ ok q → q ≡ length s
-      → ReadAs (main_at s i fs) (record { answer = Readable; functions = t; main = i })
+      → ReadAs (main_at s i fs) (Ok (record { functions = t; main = i }))
   unfolding ◌>>◌
   main_made t h q e l = let m = main_read q e in go m.main m.at (m.reads ∙ rw (eq-eqb q (length s) l))
     where
       go : (b : Block device) → offset_of b ≡ i → main_at s i fs ≡ ok (record { functions = fs; main = b })
-          → ReadAs (main_at s i fs) (record { answer = Readable; functions = t; main = i })
+          → ReadAs (main_at s i fs) (Ok (record { functions = t; main = i }))
       go b o f = record { answers = rw f; tables = λ p g. tabled p (sym g ∙ f) }
         where
           tabled : (p : Program) → ok p ≡ ok (record { functions = fs; main = b }) → Tabled p t i
           tabled p g = let w : p ≡ record { functions = fs; main = b } = cc in rw w (record { heads = h; main_at_lem = sym o })
 
 -- The functions, then main.
-module _ (s : List ℕ) (n : ℕ) (f : Functions) (h : FunctionsAs (functions_at s n 6 []) f) where
-  pub body_refused : (x : Refusal) → f.past ≡ Refused x → body_at s n ≡ refused x
+module _ (s : List ℕ) (n : ℕ) where
+  pub body_refused : (x : Refusal) → FunctionsAs (functions_at s n 6 []) (Err x) → body_at s n ≡ refused x
   unfolding body_at ◌>>=◌
-  body_refused x e = rw (next_refused (functions_at s n 6 []) x (said_no f.past x _ e h.answers))
+  body_refused x h = rw (next_refused (functions_at s n 6 []) x (sym h.answers))
 
-  pub body_made : (p : ℕ) (r : ReadProgram) → f.past ≡ At p
-      → ((fs : List Function) → Heads fs f.table → ReadAs (main_at s p fs) r) → ReadAs (body_at s n) r
+  pub body_made : (f : Functions) (r : Result ReadProgram Refusal) → FunctionsAs (functions_at s n 6 []) (Ok f)
+      → ((fs : List Function) → Heads fs f.table → ReadAs (main_at s f.next fs) r) → ReadAs (body_at s n) r
   unfolding body_at ◌>>=◌
-  body_made p r e g = let (fs, ef, en) = next_ok (functions_at s n 6 []) p (said_at f.past p _ e h.answers) in go fs ef en (h.tables fs ef)
+  body_made f r h g = let (fs, ef, en) = next_ok (functions_at s n 6 []) f.next (sym h.answers) in go fs ef en (h.tables fs ef)
     where
-      go : (fs : Read (List Function)) → functions_at s n 6 [] ≡ ok fs → fs.next ≡ p → Heads fs.it f.table → ReadAs (body_at s n) r
+      go : (fs : Read (List Function)) → functions_at s n 6 [] ≡ ok fs → fs.next ≡ f.next → Heads fs.it f.table → ReadAs (body_at s n) r
       go fs ef en hs = rw (ef, en) (g fs.it hs)
 
 -- The file: its header, then its bodies.
@@ -150,34 +150,14 @@ by_head s =
     after_five (need (leb 8 (length s)) 1 0) (need (leb (length s) 4096) 4 0) (need (has_mark s 0x53) 2 0) (need (eqb (word s 3) 1) 3 3)
     (program_header (byte s 5)) (λ h. body_at s h.functions)
 
-module _ (s : List ℕ) (a : ProgramHeaderAnswer) (ea : program_header_said a ≡ head_of s) where
-  pub head_told : (h : ProgramHeader) → a ≡ Made h → head_of s ≡ ok h
-  head_told h e = sym ea ∙ ap program_header_said e
-
-  pub file_refused : (x : Refusal) → a ≡ NotMade x → read_program s ≡ refused x
+module _ (s : List ℕ) where
+  pub file_refused : (x : Refusal) → head_of s ≡ refused x → read_program s ≡ refused x
   unfolding ◌>>=◌
-  file_refused x e = let g : head_of s ≡ refused x = sym ea ∙ ap program_header_said e in by_head s ∙ rw g
+  file_refused x e = by_head s ∙ rw e
 
-  pub file_made : (h : ProgramHeader) (r : ReadProgram) → a ≡ Made h → ReadAs (body_at s h.functions) r → ReadAs (read_program s) r
+  pub file_made : (h : ProgramHeader) (r : Result ReadProgram Refusal) → head_of s ≡ ok h → ReadAs (body_at s h.functions) r
+      → ReadAs (read_program s) r
   unfolding ◌>>=◌
   file_made h r e b =
-      let g : head_of s ≡ ok h = head_told h e in
-      let q : read_program s ≡ body_at s h.functions = by_head s ∙ rw g in
+      let q : read_program s ≡ body_at s h.functions = by_head s ∙ rw e in
       subst (λ (m : Check Program). ReadAs m r) (sym q) b
-
--- The file's name.
-module _ (m : Check Program) (r : ReadProgram) (h : ReadAs m r) where
-  pub named_readable : (f : File) → r.answer ≡ Readable → read_said r.answer ≡ within f (m >> ok tt)
-  named_readable f a = let e : (m >> ok tt) ≡ ok tt = sym h.answers ∙ ap read_said a in ap read_said a ∙ rw e
-
-  module _ (x : Refusal) (a : r.answer ≡ NotReadable x) where
-    told : (m >> ok (tt {0})) ≡ refused x
-    told = sym h.answers ∙ ap read_said a
-
-    pub named_refused : (f : File) (b : ReadAnswer) (y : Refusal) → b ≡ NotReadable y → y ≡ in_file f x → read_said b ≡ within f (m >> ok tt)
-    named_refused f b y e g = ap read_said e ∙ rw (told, g)
-
-    -- and there is no program
-    pub named_none : {X : Type 0} (p : Program) → m ≡ ok p → X
-    unfolding ◌>>◌
-    named_none p e = ok_not_refused (ap (λ (c : Check Program). c >> ok (tt {0})) (sym e) ∙ told)

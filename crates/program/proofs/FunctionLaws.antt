@@ -12,19 +12,18 @@ use borrow.Author.Tests.{lt-leb, le-leb}
 use lib.Dec.{leb}
 use lib.ListN.{get_or, length, replicate, set, length-set, length-append}
 use lib.Seq.{get_or-set_same, get_or-set_other, get_or_at}
+use Rattle.std.specs.Prelude.{Ok, Err}
 use Rattle.answers.specs.declared.Refusal.{Refusal}
 use Rattle.answers.specs.Check.{Check, ok, refused, refusal, ◌>>=◌, ◌>>◌, need}
-use Rattle.answers.proofs.Laws.{Holds, not_ok, by, holds_then, holds_bind, holds_need, holds_any, holds_at, ok_not_refused}
+use Rattle.answers.proofs.Laws.{Holds, not_ok, by, holds_then, holds_bind, holds_need, holds_any, holds_at}
 use Rattle.rules.specs.declared.program.FunctionHeader.{FunctionHeader}
-use Rattle.rules.specs.declared.program.FunctionHeaderAnswer.{FunctionHeaderAnswer}
-use Rattle.rules.specs.declared.program.FunctionHeaderAnswer.TheVariants.{Made, Refused as NotMade}
 use Rattle.rules.specs.Basics.{byte, word}
 use Rattle.rules.specs.Syntax.{Side, parameter, Function, function}
-use Rattle.rules.specs.Program.{Scope, Read, function_header, function_header_said, read_block, statements, functions_at}
-use Rattle.program.specs.declared.blocks.Past.TheVariants.{At, Refused}
+use Rattle.rules.specs.Program.{Scope, Read, function_header, read_block, statements, functions_at}
+use Rattle.program.specs.declared.functions.Head.{Head}
 use Rattle.program.specs.declared.functions.FunctionTable.{FunctionTable}
 use Rattle.program.specs.In.{offset_of}
-use Rattle.program.specs.Reader.{next_of, block_past, Heads, no_functions, one_more, function_at, FunctionsAs}
+use Rattle.program.specs.Reader.{next_of, block_past, Heads, no_head, no_functions, one_more, function_at, FunctionsAs}
 use Rattle.program.proofs.PastLaws.{next_ok, next_refused, next_map}
 
 -- The function at i.
@@ -33,21 +32,17 @@ module _ (s : List ℕ) (i : ℕ) (fs : List Function) where
   unfolding function_at next_of ◌>>=◌ ◌>>◌
   fn_short h = rw (lt-leb (i + 2) (length s) h)
 
-  module _ (h : i + 2 ≤ length s) (k m : ℕ) (ek : k ≡ byte s i) (em : m ≡ byte s (i + 1))
-      (r : FunctionHeaderAnswer) (er : function_header_said r ≡ function_header i k m) where
-    said : function_header_said r ≡ function_header i (byte s i) (byte s (i + 1))
-    said = er ∙ ap (λ (a : ℕ). function_header i a m) ek ∙ ap (function_header i (byte s i)) em
-
-    pub fn_head : (x : Refusal) → r ≡ NotMade x → next_of (function_at s i fs) ≡ refused x
+  module _ (h : i + 2 ≤ length s) where
+    pub fn_head : (x : Refusal) → function_header i (byte s i) (byte s (i + 1)) ≡ refused x → next_of (function_at s i fs) ≡ refused x
     unfolding function_at next_of ◌>>=◌ ◌>>◌
-    fn_head x e = rw (le-leb (i + 2) (length s) h, sym said ∙ ap function_header_said e)
+    fn_head x e = rw (le-leb (i + 2) (length s) h, e)
 
-    pub fn_body : (a : FunctionHeader) → r ≡ Made a
+    pub fn_body : (a : FunctionHeader) → function_header i (byte s i) (byte s (i + 1)) ≡ ok a
         → next_of (function_at s i fs) ≡ block_past s parameter (record { places = a.locations; earlier = fs }) 8 (i + 2) (length s)
     unfolding function_at block_past ◌>>=◌ ◌>>◌
     fn_body a e =
         let body = read_block s parameter (record { places = a.locations; earlier = fs }) 8 (i + 2) (length s) in
-        rw (le-leb (i + 2) (length s) h, sym said ∙ ap function_header_said e) (next_map body _)
+        rw (le-leb (i + 2) (length s) h, e) (next_map body _)
 
 -- a block says where its length word stands
 pub block_offset : (s : List ℕ) (d : Side) (S : Scope) (depths i limit : ℕ) → Holds (λ b. offset_of b.it ≡ i) (read_block s d S depths i limit)
@@ -80,22 +75,26 @@ fn_headed s i fs =
 
 -- The table.
 
--- each of its columns has an entry for every function that a program may have
+-- it has a head for every function that a program may have
 pub record Full (t : FunctionTable) : Type 0 where
-  pub ks : length t.ks ≡ 16
-  pub ms : length t.ms ≡ 16
-  pub bodies : length t.bodies ≡ 16
+  pub heads : length t.heads ≡ 16
 
-zeros : (n g : ℕ) → ◌≡◌ {A = ℕ} (get_or (replicate n 0) g 0) 0
+zeros : (n g : ℕ) → get_or (replicate n no_head) g no_head ≡ no_head
 zeros zero g = refl
 zeros (suc n) zero = refl
 zeros (suc n) (suc g) = zeros n g
 
 pub heads_none : (t : FunctionTable) → t ≡ no_functions → Heads [] t
-heads_none t e = rw e (record { count = refl; few = omega arith; ks = zeros 16; ms = zeros 16; bodies = λ g h. absurd (omega arith) })
+heads_none t e = rw e (record {
+  count = refl;
+  few = omega arith;
+  ks = λ g. ap (λ (h : Head). h.locations) (zeros 16 g);
+  ms = λ g. ap (λ (h : Head). h.arguments) (zeros 16 g);
+  bodies = λ g h. absurd (omega arith);
+})
 
 pub full_none : (t : FunctionTable) → t ≡ no_functions → Full t
-full_none t e = rw e (record { ks = refl; ms = refl; bodies = refl })
+full_none t e = rw e (record { heads = refl })
 
 -- one function more changes no other
 other : (fs : List Function) (f : Function) (g : ℕ) → g ≢ length fs → function (fs ++ (f ∷ [])) g ≡ function fs g
@@ -104,38 +103,37 @@ other [] f (suc g) n = refl
 other (x ∷ xs) f zero n = refl
 other (x ∷ xs) f (suc g) n = other xs f g (λ e. n (ap suc e))
 
--- a column with one entry more
-column : (F : Function → ℕ) (col : List ℕ) (n v : ℕ) (fs : List Function) (f : Function) → n ≡ length fs → n < length col → F f ≡ v
-    → (g : ℕ) → (g ≢ n → get_or col g 0 ≡ F (function fs g)) → get_or (set col n v) g 0 ≡ F (function (fs ++ (f ∷ [])) g)
-column F col n v fs f en l ev g old = go (ℕ_discrete g n)
+-- what a head says of each function, with one function more
+column : (F : Function → ℕ) (H : Head → ℕ) (hs : List Head) (n : ℕ) (head : Head) (fs : List Function) (f : Function) → n ≡ length fs
+    → n < length hs → F f ≡ H head → (g : ℕ) → (g ≢ n → H (get_or hs g no_head) ≡ F (function fs g))
+    → H (get_or (set hs n head) g no_head) ≡ F (function (fs ++ (f ∷ [])) g)
+column F H hs n head fs f en l ev g old = go (ℕ_discrete g n)
   where
-    go : Dec (g ≡ n) → get_or (set col n v) g 0 ≡ F (function (fs ++ (f ∷ [])) g)
-    go (yes e) = rw e (get_or-set_same col n v 0 l ∙ sym ev ∙ ap F (sym (get_or_at fs f [] _ n (sym en))))
-    go (no ne) = get_or-set_other col n g v 0 ne ∙ old ne ∙ ap F (sym (other fs f g (λ e. ne (e ∙ sym en))))
+    go : Dec (g ≡ n) → H (get_or (set hs n head) g no_head) ≡ F (function (fs ++ (f ∷ [])) g)
+    go (yes e) = rw e (ap H (get_or-set_same hs n head no_head l) ∙ sym ev ∙ ap F (sym (get_or_at fs f [] _ n (sym en))))
+    go (no ne) = ap H (get_or-set_other hs n g head no_head ne) ∙ old ne ∙ ap F (sym (other fs f g (λ e. ne (e ∙ sym en))))
 
-module _ (fs : List Function) (t : FunctionTable) (h : Heads fs t) (a : Full t) (u : FunctionTable) (k m body : ℕ)
-    (eu : u ≡ one_more t k m body) (l : length fs < 15) where
-  more_heads : (f : Function) → f.k ≡ k → f.m ≡ m → offset_of f.body ≡ body → Heads (fs ++ (f ∷ [])) (one_more t k m body)
+module _ (fs : List Function) (t : FunctionTable) (h : Heads fs t) (a : Full t) (u : FunctionTable) (head : Head)
+    (eu : u ≡ one_more t head) (l : length fs < 15) where
+  more_heads : (f : Function) → f.k ≡ head.locations → f.m ≡ head.arguments → offset_of f.body ≡ head.body
+      → Heads (fs ++ (f ∷ [])) (one_more t head)
   more_heads f ek em eb =
       let n : length (fs ++ (f ∷ [])) ≡ length fs + 1 = length-append fs (f ∷ []) in
       let c : t.count ≡ length fs = h.count in
+      let b : t.count < length t.heads = omega (arith, a.heads) in
       record {
         count = omega arith;
         few = omega arith;
-        ks = λ g. column (λ x. x.k) t.ks t.count k fs f c (omega arith) ek g (λ ne. h.ks g);
-        ms = λ g. column (λ x. x.m) t.ms t.count m fs f c (omega arith) em g (λ ne. h.ms g);
-        bodies = λ g b. column (λ x. offset_of x.body) t.bodies t.count body fs f c (omega arith) eb g (λ ne. h.bodies g (omega arith));
+        ks = λ g. column (λ x. x.k) (λ x. x.locations) t.heads t.count head fs f c b ek g (λ ne. h.ks g);
+        ms = λ g. column (λ x. x.m) (λ x. x.arguments) t.heads t.count head fs f c b em g (λ ne. h.ms g);
+        bodies = λ g k. column (λ x. offset_of x.body) (λ x. x.body) t.heads t.count head fs f c b eb g (λ ne. h.bodies g (omega arith));
       }
 
-  pub heads_more : (f : Function) → f.k ≡ k → f.m ≡ m → offset_of f.body ≡ body → Heads (fs ++ (f ∷ [])) u
+  pub heads_more : (f : Function) → f.k ≡ head.locations → f.m ≡ head.arguments → offset_of f.body ≡ head.body → Heads (fs ++ (f ∷ [])) u
   heads_more f ek em eb = rw eu (more_heads f ek em eb)
 
   pub full_more : Full u
-  full_more = rw eu (record {
-    ks = length-set t.ks t.count k ∙ a.ks;
-    ms = length-set t.ms t.count m ∙ a.ms;
-    bodies = length-set t.bodies t.count body ∙ a.bodies;
-  })
+  full_more = rw eu (record { heads = length-set t.heads t.count head ∙ a.heads })
 
 -- The functions left.
 
@@ -177,7 +175,7 @@ left_start s n p t e = record {
 }
 
 module _ (s : List ℕ) (m : Check (Read (List Function))) (n p i : ℕ) (t : FunctionTable) (h : FunctionsLeft s m n p i t) where
-  pub left_end : n ≤ i → FunctionsAs m (record { past = At p; table = t })
+  pub left_end : n ≤ i → FunctionsAs m (Ok (record { table = t; next = p }))
   unfolding next_of ◌>>=◌
   left_end l = record { answers = sym (ap next_of given); tables = λ fs e. heads_of fs (sym e ∙ given) }
     where
@@ -192,15 +190,19 @@ module _ (s : List ℕ) (m : Check (Read (List Function))) (n p i : ℕ) (t : Fu
       let z : n - i ≡ suc (n - (i + 1)) = omega arith in
       h.same ∙ ap (λ (c : ℕ). functions_at s c p h.read) z ∙ first_of s (n - (i + 1)) p h.read
 
-  pub left_refused : i < n → (x : Refusal) → next_of (function_at s p h.read) ≡ refused x → FunctionsAs m (record { past = Refused x; table = t })
+  pub left_refused : i < n → (x : Refusal) → next_of (function_at s p h.read) ≡ refused x → FunctionsAs m (Err x)
   unfolding next_of ◌>>=◌
-  left_refused l x e = record { answers = sym (ap next_of given); tables = λ fs f. ok_not_refused (sym f ∙ given) }
+  left_refused l x e = record { answers = sym (ap next_of given); tables = λ fs f. tt }
     where
       given : m ≡ refused x
       given = by_first l ∙ rw (next_refused (function_at s p h.read) x e)
 
+  -- the head of the function at a position
+  abbrev head_at : ℕ → Head
+  head_at o = record { locations = byte s o; arguments = byte s (o + 1); body = o + 2 }
+
   pub left_more : i < n → n ≤ 15 → (q : ℕ) (u : FunctionTable) → next_of (function_at s p h.read) ≡ ok q
-      → u ≡ one_more t (byte s p) (byte s (p + 1)) (p + 2) → FunctionsLeft s m n q (i + 1) u
+      → u ≡ one_more t (head_at p) → FunctionsLeft s m n q (i + 1) u
   unfolding ◌>>=◌
   left_more l few q u e eu = let (f, ef, en) = next_ok (function_at s p h.read) q e in go f ef en (holds_at (fn_headed s p h.read) ef)
     where
@@ -209,8 +211,8 @@ module _ (s : List ℕ) (m : Check (Read (List Function))) (n p i : ℕ) (t : Fu
           let c : length h.read < 15 = omega (arith, h.many) in
           record {
             read = h.read ++ (f.it ∷ []);
-            heads = heads_more h.read t h.heads h.full u (byte s p) (byte s (p + 1)) (p + 2) eu c f.it b.ks b.ms b.bodies;
-            full = full_more h.read t h.heads h.full u (byte s p) (byte s (p + 1)) (p + 2) eu c;
+            heads = heads_more h.read t h.heads h.full u (head_at p) eu c f.it b.ks b.ms b.bodies;
+            full = full_more h.read t h.heads h.full u (head_at p) eu c;
             many = length-append h.read (f.it ∷ []) ∙ ap (λ (c : ℕ). c + 1) h.many;
             same = by_first l ∙ rw (ef, en);
           }

@@ -5,21 +5,23 @@ use mathlib.Core.List.{List, [], ◌++◌, append-nil}
 use mathlib.Core.Option.{none, some}
 use mathlib.Core.Path.{◌≡◌, refl, sym, ap, ◌∙◌}
 use native.Mathlib.Omega.{arith}
-use Prim.Native.Nat.{ℕ, ◌+◌, ◌<◌, ◌≤◌}
+use Prim.Native.Nat.{ℕ, zero, suc, ◌+◌, ◌<◌}
 use lib.Dec.{leb}
 use lib.ListN.{replicate}
+use Rattle.std.specs.Prelude.{Result}
 use Rattle.answers.specs.declared.Refusal.{Refusal}
 use Rattle.answers.specs.Check.{Check, ok, refused, refusal, ◌>>=◌, ◌>>◌, need}
 use Rattle.answers.proofs.Laws.{bind_under}
 use Rattle.rules.specs.declared.statements.Operand.TheVariants.{Slot, Location}
 use Rattle.rules.specs.Basics.{byte}
 use Rattle.rules.specs.Syntax.{Side, Op, Block}
+use Rattle.rules.specs.declared.statements.Kind.{Kind}
+use Rattle.rules.specs.declared.statements.Kind.TheVariants.{Init, Magic, Free, Gate, Measure, Merge, Ref, Get, Set, If, While, Call, Bool as Constant}
+use Rattle.rules.specs.Kinds.{byte_of}
 use Rattle.rules.specs.Table.{Meaning, simple, branches, loops, calls, Row, row_of, size, size_of}
 use Rattle.rules.specs.Program.{Scope, Read, operands, meant, statement, read_block}
-use Rattle.program.specs.declared.blocks.Past.{Past}
-use Rattle.program.specs.declared.blocks.Past.TheVariants.{At}
 use Rattle.program.specs.Reader.{next_of, Between, block_past, statement_past, fixed_part, BehindFixed, below, call_list}
-use Rattle.program.proofs.PastLaws.{between_past, between_wider, next_ok, next_refused, next_map}
+use Rattle.program.proofs.PastLaws.{between_wider, next_ok, next_refused, next_map}
 use Rattle.program.proofs.RowLaws.{row_known, row_simple, row_none, size_row}
 use Rattle.program.proofs.OperandLaws.{operands_below, below_at}
 
@@ -52,11 +54,12 @@ module _ (s : List ℕ) (d : Side) (S : Scope) (depths i e : ℕ) where
   unfolding statement_past next_of ◌>>=◌
   unknown h = rw h
 
-  pub st_zero : byte s i ≡ 0 → statement_past s d S depths i e ≡ refused (refusal 9 i)
-  st_zero h = unknown (ap row_of h)
-
-  pub st_high : 13 < byte s i → statement_past s d S depths i e ≡ refused (refusal 9 i)
-  st_high h = unknown (row_none (byte s i) h)
+  pub st_none : (0 < byte s i → 13 < byte s i) → statement_past s d S depths i e ≡ refused (refusal 9 i)
+  st_none h = go (byte s i) refl
+    where
+      go : (b : ℕ) → byte s i ≡ b → statement_past s d S depths i e ≡ refused (refusal 9 i)
+      go zero eb = unknown (ap row_of eb)
+      go (suc b) eb = unknown (row_none (byte s i) (h (omega arith)))
 
   module _ {r : Row} (er : row_of (byte s i) ≡ some r) where
     by_row : statement s d S inner i e ≡ (fixed_part s S i e >>= λ p. meant s d S inner r.meaning i p e)
@@ -84,11 +87,28 @@ module _ (s : List ℕ) (d : Side) (S : Scope) (depths i e : ℕ) where
   unfolding statement_past next_of ◌>>=◌
   st_refused x a b h = let (r, er) = row_known (byte s i) a b in ap next_of (by_row er) ∙ rw h
 
-  pub st_simple : 0 < byte s i → byte s i < 10 → statement_past s d S depths i e ≡ fixed_part s S i e
+  st_simple : 0 < byte s i → byte s i < 10 → statement_past s d S depths i e ≡ fixed_part s S i e
   st_simple a b = let (r, f, er, em) = row_simple (byte s i) a b in simple_past er f em
 
-  pub st_bool : byte s i ≡ 13 → statement_past s d S depths i e ≡ fixed_part s S i e
+  st_bool : byte s i ≡ 13 → statement_past s d S depths i e ≡ fixed_part s S i e
   st_bool h = simple_past (ap row_of h) _ refl
+
+  -- a kind that has no block and no list
+  pub st_operation : (k : Kind) → byte_of k ≡ byte s i → (k ≡ If → ⊥) → (k ≡ While → ⊥) → (k ≡ Call → ⊥)
+      → statement_past s d S depths i e ≡ fixed_part s S i e
+  st_operation Init b f g h = st_simple (omega (arith, b)) (omega (arith, b))
+  st_operation Magic b f g h = st_simple (omega (arith, b)) (omega (arith, b))
+  st_operation Free b f g h = st_simple (omega (arith, b)) (omega (arith, b))
+  st_operation Gate b f g h = st_simple (omega (arith, b)) (omega (arith, b))
+  st_operation Measure b f g h = st_simple (omega (arith, b)) (omega (arith, b))
+  st_operation Merge b f g h = st_simple (omega (arith, b)) (omega (arith, b))
+  st_operation Ref b f g h = st_simple (omega (arith, b)) (omega (arith, b))
+  st_operation Get b f g h = st_simple (omega (arith, b)) (omega (arith, b))
+  st_operation Set b f g h = st_simple (omega (arith, b)) (omega (arith, b))
+  st_operation If b f g h = absurd (f refl)
+  st_operation While b f g h = absurd (g refl)
+  st_operation Call b f g h = absurd (h refl)
+  st_operation Constant b f g h = st_bool (sym b)
 
   pub st_while : (p : ℕ) → byte s i ≡ 11 → fixed_part s S i e ≡ ok p → statement_past s d S depths i e ≡ block_past s d S depths p e
   unfolding statement_past block_past
@@ -151,16 +171,8 @@ module _ (s : List ℕ) (d : Side) (S : Scope) (depths i e : ℕ) where
   st_call p places h f g = ap next_of (by_meaning (ap row_of h) calls p refl f) ∙ call_past p (fixed_at (ap row_of h) p f) ∙ rw g
 
 -- where the answer for a fixed part lies
-module _ (s : List ℕ) (i e : ℕ) (r : Past) (h : BehindFixed s i e r) where
+module _ (s : List ℕ) (i e : ℕ) (r : Result ℕ Refusal) (h : BehindFixed s i e r) where
   pub fixed_between : 0 < byte s i → byte s i < 14 → Between (i + 1) e r
-  unfolding BehindFixed
   fixed_between a l =
       let (q, eq) = row_known (byte s i) a l in
       between_wider (i + size_of (byte s i)) e (i + 1) e r (omega (arith, size_row (byte s i) eq)) (omega arith) h
-
-  pub fixed_past : (p : ℕ) → 0 < byte s i → byte s i < 14 → r ≡ At p → (i + 1 ≤ p) × (p ≤ e)
-  fixed_past p a l er = between_past (i + 1) e p r er (fixed_between a l)
-
-  pub call_fits : (p : ℕ) → byte s i ≡ 12 → r ≡ At p → i + 4 ≤ e
-  unfolding BehindFixed
-  call_fits p eb er = let w = between_past (i + size_of (byte s i)) e p r er h in omega (arith, ap size_of eb)

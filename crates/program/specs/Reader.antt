@@ -1,39 +1,44 @@
 -- What the reader's own answers mean.
 use Rattle.std.specs.Prelude.{List, [], ◌≡◌, ℕ, zero, suc, ◌+◌, ◌<◌, ◌≤◌, leb, ltb, eqb, get_or, length, replicate, set}
-use Rattle.answers.specs.Check.{Check, ok, refused, ◌>>=◌, ◌>>◌, need}
-use Rattle.answers.specs.Said.{read_said}
+use Rattle.std.specs.Prelude.{Result, Ok, Err, IfOk}
+use Rattle.answers.specs.Check.{Check, ok, ◌>>=◌, ◌>>◌, need}
+use Rattle.answers.specs.Said.{said, passed}
+use Rattle.answers.specs.declared.Refusal.{Refusal}
 use Rattle.rules.specs.declared.program.ProgramHeader.{ProgramHeader}
 use Rattle.rules.specs.Basics.{byte, word, has_mark}
 use Rattle.rules.specs.Syntax.{Side, device, parameter, Function, function, Program}
 use Rattle.rules.specs.Table.{row_of, size, size_of}
 use Rattle.rules.specs.Program.{Scope, Read, program_header, function_header, known, operands, statement, read_block, functions_at}
 use Rattle.program.specs.declared.ReadProgram.{ReadProgram}
-use Rattle.program.specs.declared.blocks.Past.{Past}
-use Rattle.program.specs.declared.blocks.Past.TheVariants.{At, Refused}
+use Rattle.program.specs.declared.functions.Head.{Head}
 use Rattle.program.specs.declared.functions.FunctionTable.{FunctionTable}
+use Rattle.program.specs.declared.functions.Scope as code
 use Rattle.program.specs.declared.functions.Functions.{Functions}
 use Rattle.program.specs.In.{offset_of}
-
-abbrev pub past_said : Past → Check ℕ
-past_said (At p) = ok p
-past_said (Refused r) = refused r
 
 -- the position after what was read
 unfoldable pub next_of : {A : Type 0} → Check (Read A) → Check ℕ
 next_of m = m >>= λ r. ok r.next
 
 -- a position read up to lies from a on and not past e
-unfoldable pub Between : ℕ → ℕ → Past → Type 0
-Between a e (At p) = (a ≤ p) × (p ≤ e)
-Between a e (Refused r) = Unit
+abbrev pub Between : ℕ → ℕ → Result ℕ Refusal → Type 0
+Between a e (Ok p) = (a ≤ p) × (p ≤ e)
+Between a e (Err r) = Unit
+
+-- the head where there is no function, and the head of function g
+abbrev pub no_head : Head
+no_head = record { locations = 0; arguments = 0; body = 0 }
+
+abbrev pub entry : FunctionTable → ℕ → Head
+entry t g = get_or t.heads g no_head
 
 -- the table's heads are those of the functions read so far
 pub record Heads (fs : List Function) (t : FunctionTable) : Type 0 where
   pub count : t.count ≡ length fs
   pub few : length fs ≤ 15
-  pub ks : (g : ℕ) → get_or t.ks g 0 ≡ (function fs g).k
-  pub ms : (g : ℕ) → get_or t.ms g 0 ≡ (function fs g).m
-  pub bodies : (g : ℕ) → g < length fs → get_or t.bodies g 0 ≡ offset_of (function fs g).body
+  pub ks : (g : ℕ) → (entry t g).locations ≡ (function fs g).k
+  pub ms : (g : ℕ) → (entry t g).arguments ≡ (function fs g).m
+  pub bodies : (g : ℕ) → g < length fs → (entry t g).body ≡ offset_of (function fs g).body
 
 -- what a read program's table and main's place say of it
 pub record Tabled (p : Program) (t : FunctionTable) (main : ℕ) : Type 0 where
@@ -42,10 +47,10 @@ pub record Tabled (p : Program) (t : FunctionTable) (main : ℕ) : Type 0 where
 
 -- The parts of a read that the code has a function for.
 
--- the table and the number of places are those of a scope
-pub record Behind (S : Scope) (t : FunctionTable) (places : ℕ) : Type 0 where
-  pub places_are : S.places ≡ places
-  pub heads : Heads S.earlier t
+-- the code's scope is one of the rules
+pub record Behind (S : Scope) (c : code.Scope) : Type 0 where
+  pub places_are : S.places ≡ c.places
+  pub heads : Heads S.earlier c.functions.now
 
 -- the position after a block that has so many depths left, and after a statement whose inner blocks have
 unfoldable pub block_past : List ℕ → Side → Scope → ℕ → ℕ → ℕ → Check ℕ
@@ -63,7 +68,7 @@ fixed_part s S i e = do
   ok (i + size r)
 
 -- an answer for it lies behind it and not past e
-unfoldable pub BehindFixed : List ℕ → ℕ → ℕ → Past → Type 0
+abbrev pub BehindFixed : List ℕ → ℕ → ℕ → Result ℕ Refusal → Type 0
 BehindFixed s i e r = Between (i + size_of (byte s i)) e r
 
 -- n bytes from p on lie below a limit: the position after them
@@ -89,16 +94,21 @@ function_at s i fs = do
   ok (record { it = record { k = h.locations; m = h.arguments; body = b.it }; next = b.next })
 
 abbrev pub no_functions : FunctionTable
-no_functions = record { count = 0; ks = replicate 16 0; ms = replicate 16 0; bodies = replicate 16 0 }
+no_functions = record { count = 0; heads = replicate 16 no_head }
 
 -- one function more
-abbrev pub one_more : FunctionTable → ℕ → ℕ → ℕ → FunctionTable
-one_more t k m body = record { count = t.count + 1; ks = set t.ks t.count k; ms = set t.ms t.count m; bodies = set t.bodies t.count body }
+abbrev pub one_more : FunctionTable → Head → FunctionTable
+one_more t h = record { count = t.count + 1; heads = set t.heads t.count h }
+
+-- the position after the functions that were read
+abbrev pub next_said : Result Functions Refusal → Result ℕ Refusal
+next_said (Ok f) = Ok f.next
+next_said (Err r) = Err r
 
 -- a read of functions answers as the check does, and where that gives functions has their heads
-pub record FunctionsAs (m : Check (Read (List Function))) (r : Functions) : Type 0 where
-  pub answers : past_said r.past ≡ next_of m
-  pub tables : (fs : Read (List Function)) → m ≡ ok fs → Heads fs.it r.table
+pub record FunctionsAs (m : Check (Read (List Function))) (r : Result Functions Refusal) : Type 0 where
+  pub answers : said (next_said r) ≡ next_of m
+  pub tables : (fs : Read (List Function)) → m ≡ ok fs → IfOk r (λ f. Heads fs.it f.table)
 
 -- the file's own header
 unfoldable pub head_of : List ℕ → Check ProgramHeader
@@ -123,6 +133,6 @@ body_at s n = do
   main_at s fs.next fs.it
 
 -- a read answers as the check does, and where that gives a program has its table
-pub record ReadAs (m : Check Program) (r : ReadProgram) : Type 0 where
-  pub answers : read_said r.answer ≡ (m >> ok tt)
-  pub tables : (p : Program) → m ≡ ok p → Tabled p r.functions r.main
+pub record ReadAs (m : Check Program) (r : Result ReadProgram Refusal) : Type 0 where
+  pub answers : passed r ≡ (m >> ok tt)
+  pub tables : (p : Program) → m ≡ ok p → IfOk r (λ t. Tabled p t.functions t.main)

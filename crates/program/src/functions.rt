@@ -1,105 +1,116 @@
 // The functions of a program: their heads and where their bodies stand.
 ghost use Rattle.std.specs.Prelude.{◌≡◌, List, [], ◌+◌, ◌≤◌, ◌<◌, length};
+ghost use Rattle.answers.specs.Said.{said};
 ghost use Rattle.rules.specs.Syntax.{Function};
 ghost use Rattle.rules.specs.Program.{functions_at};
-ghost use Rattle.program.specs.Reader.{past_said, next_of, Between, Heads, no_functions, one_more, function_at, FunctionsAs};
+ghost use Rattle.program.specs.Reader.{next_of, Between, Heads, no_functions, one_more, entry, function_at, FunctionsAs, next_said};
 
 use crate::blocks;
-use crate::blocks::Past;
-use rules::bytes;
-use rules::program::{FunctionHeader, FunctionHeaderAnswer, ProgramHeader};
+use answers::{Fault, Refusal};
+use rules::program::{FunctionHeader, ProgramHeader};
 
-// How many functions there are, and for each its k, its m and the place of its body's length word.
+// A function's k, its m and the place of its body's length word.
+#[derive(Clone, Copy, Debug, PartialEq, Eq)]
+pub struct Head {
+    pub locations: u8,
+    pub arguments: u8,
+    pub body: usize,
+}
+
+// The heads of so many functions. No heap: a file has at most 15.
 #[derive(Clone, Copy)]
 pub struct FunctionTable {
     pub count: usize,
-    pub ks: [u8; 16],
-    pub ms: [u8; 16],
-    pub bodies: [usize; 16],
+    pub heads: [Head; 16],
 }
 
 impl FunctionTable {
     pub fn empty() -> Self
         ensures { result ≡ no_functions }
     {
+        let none = Head {
+            locations: 0,
+            arguments: 0,
+            body: 0,
+        };
         FunctionTable {
             count: 0,
-            ks: [0; 16],
-            ms: [0; 16],
-            bodies: [0; 16],
+            heads: [none; 16],
         }
     }
 
     // One function more.
-    pub fn with(mut self, k: u8, m: u8, body: usize) -> Self
-        requires { self.count < 16 }
-        ensures { result ≡ one_more self k m body }
+    pub fn add(&mut self, head: Head)
+        requires { self.old.count < 16 }
+        ensures { self.new ≡ one_more self.old head }
     {
-        let n = self.count;
-        self.ks[n] = k;
-        self.ms[n] = m;
-        self.bodies[n] = body;
-        self.count = n + 1;
-        self
+        self.heads[self.count] = head;
+        self.count += 1;
     }
-}
 
-// What reading the functions gives: the position after the last one, or the refusal; and the table.
-#[derive(Clone, Copy)]
-pub struct Functions {
-    pub past: Past,
-    pub table: FunctionTable,
-}
-
-// The function at `at`, after those of the table: its header, then its body.
-fn read_function(s: &[u8], at: usize, t: FunctionTable) -> Past
-    requires { (at ≤ length s.now) × (length s.now ≤ 4096) }
-    ensures result_value { (fs : List Function) → Heads fs t → past_said result ≡ next_of (function_at s.now at fs) }
-    ensures between { Between (at + 2) (length s.now) result }
-{
-    if s.len() - at < FunctionHeader::BYTES {
-        return blocks::refused(8, at);
-    }
-    let header = FunctionHeader::new(at, bytes::wide(s[at]), bytes::wide(s[at + 1]));
-    match header {
-        FunctionHeaderAnswer::Made(h) => blocks::read_block(
-            s,
-            at + 2,
-            s.len(),
-            ProgramHeader::DEEPEST,
-            t,
-            h.locations,
-        ),
-        FunctionHeaderAnswer::Refused(x) => Past::Refused(x),
-    }
-}
-
-// So many functions from `at` on.
-pub fn read_functions(s: &[u8], at: usize, n: usize) -> Functions
-    requires { (at ≤ length s.now) × (length s.now ≤ 4096) × (n ≤ 15) }
-    ensures functions_as { FunctionsAs (functions_at s.now n at []) result }
-    ensures between { Between at (length s.now) result.past }
-{
-    let mut t = FunctionTable::empty();
-    let mut p = at;
-    let mut i: usize = 0;
-    while i < n {
-        match read_function(s, p, t) {
-            Past::At(q) => {
-                t = t.with(s[p], s[p + 1], p + 2);
-                p = q;
-                i += 1;
-            }
-            Past::Refused(x) => {
-                return Functions {
-                    past: Past::Refused(x),
-                    table: t,
-                };
+    // The head of function `g`, one of zeros where there is none.
+    pub fn head(&self, g: u8) -> Head
+        ensures { result ≡ entry self.now g }
+    {
+        if g < 16 {
+            self.heads[g as usize]
+        } else {
+            Head {
+                locations: 0,
+                arguments: 0,
+                body: 0,
             }
         }
     }
-    Functions {
-        past: Past::At(p),
-        table: t,
+}
+
+// What a body may name: the functions before it, and places below a number.
+#[derive(Clone, Copy)]
+pub struct Scope<'a> {
+    pub functions: &'a FunctionTable,
+    pub places: usize,
+}
+
+// The functions that were read, and the position after the last one.
+#[derive(Clone, Copy)]
+pub struct Functions {
+    pub table: FunctionTable,
+    pub next: usize,
+}
+
+// The function at `at`, after those of the table: its header, then its body.
+fn read_function(s: &[u8], at: usize, table: &FunctionTable) -> Result<usize, Refusal>
+    requires { (at ≤ length s.now) × (length s.now ≤ 4096) }
+    ensures position { (fs : List Function) → Heads fs table.now → said result ≡ next_of (function_at s.now at fs) }
+    ensures between { Between (at + 2) (length s.now) result }
+{
+    if s.len() - at < FunctionHeader::BYTES {
+        return Err(Fault::NoRoom.at(at));
     }
+    let header = FunctionHeader::new(at, s[at] as usize, s[at + 1] as usize)?;
+    let scope = Scope {
+        functions: table,
+        places: header.locations,
+    };
+    blocks::read_block(s, at + 2, s.len(), ProgramHeader::DEEPEST, scope)
+}
+
+// So many functions from `at` on.
+pub fn read_functions(s: &[u8], at: usize, n: usize) -> Result<Functions, Refusal>
+    requires { (at ≤ length s.now) × (length s.now ≤ 4096) × (n ≤ 15) }
+    ensures functions_as { FunctionsAs (functions_at s.now n at []) result }
+    ensures between { Between at (length s.now) (next_said result) }
+{
+    let mut table = FunctionTable::empty();
+    let mut next = at;
+    for _ in 0..n {
+        let end = read_function(s, next, &table)?;
+        table.add(Head {
+            locations: s[next],
+            arguments: s[next + 1],
+            body: next + 2,
+        });
+        next = end;
+    }
+    Ok(Functions { table, next })
 }

@@ -1,6 +1,5 @@
 pub mod Basics
 pub mod Tests
 pub mod Fitting
-mod Table
-mod Vocabulary
 mod Marked
+pub mod KindBytes

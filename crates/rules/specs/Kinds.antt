@@ -1,9 +1,7 @@
 -- The statement kinds and the words of a listing by name: the byte of each kind, what the table says of it, and the text of each word. The table is by
 -- statement byte, and says what each of them means.
-use Rattle.std.specs.Prelude.{List, [], ◌∷◌, ℕ, zero, suc, get_or, Option, Some, None, Result, Ok, Err}
+use Rattle.std.specs.Prelude.{List, [], ◌∷◌, ℕ, get_or, Option, Some, None}
 use Rattle.std.proofs.Math.Option.{none, some}
-use Rattle.answers.specs.declared.Fault.{Fault}
-use Rattle.answers.specs.declared.Fault.TheVariants.{NoStatement}
 use Rattle.rules.specs.declared.statements.Operand.{Operand}
 use Rattle.rules.specs.declared.statements.Kind.{Kind}
 use Rattle.rules.specs.declared.statements.Kind.TheVariants.{Init, Magic, Free, Gate, Measure, Merge, Ref, Get, Set, If, While, Call, Bool}
@@ -27,17 +25,6 @@ byte_of If = 10
 byte_of While = 11
 byte_of Call = 12
 byte_of Bool = 13
-
--- the kinds in the order of their bytes, from 1 on
-abbrev pub kinds : List (Result Kind Fault)
-kinds =
-    Ok Init ∷ Ok Magic ∷ Ok Free ∷ Ok Gate ∷ Ok Measure ∷ Ok Merge ∷ Ok Ref ∷ Ok Get ∷ Ok Set
-    ∷ Ok If ∷ Ok While ∷ Ok Call ∷ Ok Bool ∷ []
-
--- the kind that a byte is of; 9 where it begins no statement
-abbrev pub kind_of : ℕ → Result Kind Fault
-kind_of zero = Err NoStatement
-kind_of (suc b) = get_or kinds b (Err NoStatement)
 
 -- the operands column, by statement byte
 abbrev pub operands_of : ℕ → List Operand

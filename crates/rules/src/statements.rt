@@ -1,7 +1,8 @@
 // The one table of the thirteen statement kinds: by kind its byte and what its operands are.
-ghost use Rattle.std.specs.Prelude.{◌≡◌, ◌+◌, ◌≤◌, ◌<◌};
+ghost use Rattle.std.specs.Prelude.{◌≡◌, ◌+◌, ◌≤◌, ◌<◌, IfOk, IfErr};
 ghost use Rattle.rules.specs.Table.{size_of, operand_at};
-ghost use Rattle.rules.specs.Kinds.{byte_of, kind_of, operands_of};
+ghost use Rattle.answers.specs.declared.Fault.TheVariants.{NoStatement};
+ghost use Rattle.rules.specs.Kinds.{byte_of, operands_of};
 
 use crate::statements::Operand::{Basis, Callee, CalleeK, CalleeM, Gate, Location, Slot, Value};
 use answers::Fault;
@@ -58,7 +59,8 @@ impl TryFrom<u8> for Kind {
     type Error = Fault;
 
     fn try_from(byte: u8) -> Result<Kind, Fault>
-        ensures { result ≡ kind_of byte }
+        ensures ok { IfOk result (λ kind. byte_of kind ≡ byte) }
+        ensures err { IfErr result (λ fault. (fault ≡ NoStatement) × (0 < byte → 13 < byte)) }
     {
         if byte == 0 || 13 < byte {
             return Err(Fault::NoStatement);

@@ -1,16 +1,14 @@
 -- A file is refused where its header is; else what follows it is read.
-use Rattle.program.proofs.FileLaws.{headed, head_told, read_refused, file_refused, file_made}
+use mathlib.Core.Path.{sym}
+use Rattle.answers.proofs.Passed.{passed_on}
+use Rattle.program.proofs.FileLaws.{headed, read_refused, file_refused, file_made}
 use Rattle.program.proofs.read_file.Goals as goal
 
 pub read_bodies-requires : goal.read_bodies-requires
-read_bodies-requires c =
-    let h = headed _ _ (head_told _ _ c.read_head-head.ensures _ c.in-Made.is) in
-    (h.long, h.short, h.few)
+read_bodies-requires c = let h = headed _ _ (sym c.in_ok-header.ensures) in (h.long, h.short, h.few)
 
-pub returns-in-Made : goal.returns-in-Made
-returns-in-Made c =
-    file_made _ _ c.read_head-head.ensures _ _ c.in-Made.is c.read_bodies.ensures
+pub returns : goal.returns
+returns c = file_made _ _ _ (sym c.in_ok-header.ensures) c.read_bodies.ensures
 
-pub returns-in-Refused : goal.returns-in-Refused
-returns-in-Refused c =
-    read_refused _ _ _ (file_refused _ _ c.read_head-head.ensures _ c.in-Refused.is) c.refused_in.ensures
+pub returns-in_err-header : goal.returns-in_err-header
+returns-in_err-header c = read_refused _ _ _ (file_refused _ _ (sym c.in_err-header.ensures)) (passed_on _ c.from_residual.ensures.1)

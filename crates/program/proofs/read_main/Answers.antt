@@ -1,30 +1,26 @@
 -- Main is refused where its block is or where it does not end the file; else the program is read.
 use mathlib.Core.List.{List}
-use mathlib.Core.Path.{refl, ap, ◌∙◌}
-use Rattle.answers.specs.declared.ReadAnswer.TheVariants.{Refused as NotReadable}
+use mathlib.Core.Path.{◌≡◌, refl, sym, ap}
+use Rattle.answers.specs.Check.{refused}
+use Rattle.answers.proofs.Passed.{passed_on}
 use Rattle.rules.specs.Syntax.{device, Function}
-use Rattle.program.specs.declared.functions.FunctionTable.{FunctionTable}
+use Rattle.program.specs.declared.functions.Scope as code
 use Rattle.program.specs.In.{main_scope}
 use Rattle.program.specs.Reader.{Heads, Behind}
-use Rattle.program.proofs.PastLaws.{said_at, said_no}
 use Rattle.program.proofs.FileLaws.{read_refused, main_refused, main_more, main_made}
 use Rattle.program.proofs.read_main.Goals as goal
 
 -- main's block is read in main's scope
-in_main_lem : {fs : List Function} {t : FunctionTable} → Heads fs t → Behind (main_scope fs) t 256
-in_main_lem h = record { places_are = refl; heads = h }
+abbrev in_main : {fs : List Function} {c : code.Scope} → Heads fs c.functions.now → c.places ≡ 256 → Behind (main_scope fs) c
+in_main h e = record { places_are = sym e; heads = h }
 
-pub returns-then-q-s : goal.returns-then-q-s
-returns-then-q-s c fs h =
-    let main = said_at _ _ _ c.in-At.is (c.read_block.ensures.result_value device _ (in_main_lem h)) in
-    read_refused _ _ _ (main_more _ _ fs _ main c.if-q-s.true) (c.refused_in.ensures ∙ ap NotReadable c.new.ensures)
+pub returns-then-end-s : goal.returns-then-end-s
+returns-then-end-s c fs h =
+    read_refused _ _ _ (main_more _ _ fs _ (sym (c.in_ok-end.ensures.position device _ (in_main h refl))) c.if-end-s.true) (ap refused c.at.ensures)
 
-pub returns-else-q-s : goal.returns-else-q-s
-returns-else-q-s c fs h =
-    let main = said_at _ _ _ c.in-At.is (c.read_block.ensures.result_value device _ (in_main_lem h)) in
-    main_made _ _ fs _ h _ main c.if-q-s.false
+pub returns : goal.returns
+returns c fs h = main_made _ _ fs _ h _ (sym (c.in_ok-end.ensures.position device _ (in_main h refl))) c.if-end-s.false
 
-pub returns-in-Refused : goal.returns-in-Refused
-returns-in-Refused c fs h =
-    let main = said_no _ _ _ c.in-Refused.is (c.read_block.ensures.result_value device _ (in_main_lem h)) in
-    read_refused _ _ _ (main_refused _ _ fs _ main) c.refused_in-in-Refused.ensures
+pub returns-in_err-end : goal.returns-in_err-end
+returns-in_err-end c fs h =
+    read_refused _ _ _ (main_refused _ _ fs _ (sym (c.in_err-end.ensures.position device _ (in_main h refl)))) (passed_on _ c.from_residual.ensures.1)

@@ -1,49 +1,30 @@
 use native.Mathlib.Omega.{arith}
-use Rattle.program.proofs.PastLaws.{said_at, said_no, between_past, between_none, between_at}
+use mathlib.Core.Path.{sym}
+use Rattle.answers.proofs.Passed.{passed_as}
 use Rattle.program.proofs.FunctionLaws.{left_start, left_end, left_refused, left_more}
-use borrow.Author.Rules.{rules}
 use Rattle.program.proofs.functions.read_functions.Goals as goal
 
-pub loop-i-init : goal.loop-i-init
-loop-i-init c = (search rules, search rules, search rules, left_start _ _ _ _ c.empty-t.ensures)
+pub loop-init : goal.loop-init
+loop-init c = (omega arith, omega arith, left_start _ _ _ _ c.empty-table.ensures)
 
-pub bounds-s-p : goal.bounds-s-p
-bounds-s-p c =
-    let w = between_past _ _ _ _ c.in-At.is c.read_function.ensures.between in omega arith
+pub add-requires : goal.add-requires
+add-requires c = let l = c.loop.invariant.2 in omega (arith, l.heads.count, l.many)
 
-pub overflow_add-p : goal.overflow_add-p
-overflow_add-p c =
-    let w = between_past _ _ _ _ c.in-At.is c.read_function.ensures.between in omega arith
+pub loop-preserved : goal.loop-preserved
+loop-preserved c =
+    let l = c.loop.invariant.2 in
+    let w = c.in_ok-end.ensures.between in
+    let one = sym (c.in_ok-end.ensures.position l.read l.heads) in
+    (omega (arith, w), omega (arith, w), left_more _ _ _ _ _ _ l c.loop-test.true (omega arith) _ _ one c.add.ensures)
 
-pub bounds-s-p-in-At : goal.bounds-s-p-in-At
-bounds-s-p-in-At c =
-    let w = between_past _ _ _ _ c.in-At.is c.read_function.ensures.between in omega arith
+pub returns-in_err-end-clause-functions_as : goal.returns-in_err-end-clause-functions_as
+returns-in_err-end-clause-functions_as c =
+    let l = c.loop.invariant.2 in
+    rw (passed_as _ c.from_residual.ensures.1)
+    (left_refused _ _ _ _ _ _ l c.loop-test.true _ (sym (c.in_err-end.ensures.position l.read l.heads)))
 
-pub overflow_add-p-in-At : goal.overflow_add-p-in-At
-overflow_add-p-in-At c =
-    let w = between_past _ _ _ _ c.in-At.is c.read_function.ensures.between in omega arith
+pub returns-in_err-end-clause-between : goal.returns-in_err-end-clause-between
+returns-in_err-end-clause-between c = rw (passed_as _ c.from_residual.ensures.1) tt
 
-pub with-t-requires : goal.with-t-requires
-with-t-requires c = let l = c.loop-i.invariant.3 in omega (arith, l.heads.count, l.many)
-
-pub loop-i-preserved : goal.loop-i-preserved
-loop-i-preserved c =
-    let w = between_past _ _ _ _ c.in-At.is c.read_function.ensures.between in
-    let l = c.loop-i.invariant.3 in
-    let one = said_at _ _ _ c.in-At.is (c.read_function.ensures.result_value l.read l.heads) in
-    (omega arith, omega arith, omega arith, left_more _ _ _ _ _ _ l c.loop-i-test.true (omega arith) _ _ one c.with-t.ensures)
-
-pub returns-in-Refused : goal.returns-in-Refused
-returns-in-Refused c =
-    let l = c.loop-i.invariant.3 in
-    let one = said_no _ _ _ c.in-Refused.is (c.read_function.ensures.result_value l.read l.heads) in record {
-      functions_as = left_refused _ _ _ _ _ _ l c.loop-i-test.true _ one;
-      between = between_none _ _ _;
-    }
-
-pub returns : goal.returns
-returns c =
-    record {
-      functions_as = left_end _ _ _ _ _ _ c.loop-i.invariant.3 c.loop-i-test.false;
-      between = between_at _ _ _ (omega arith) (omega arith);
-    }
+pub returns-clause-functions_as : goal.returns-clause-functions_as
+returns-clause-functions_as c = left_end _ _ _ _ _ _ c.loop.invariant.2 c.loop-test.false

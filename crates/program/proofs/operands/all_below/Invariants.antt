@@ -6,6 +6,3 @@ use Rattle.program.proofs.operands.all_below.Given as goal
 
 abbrev pub invariant-loop-p : goal.invariant-loop-p
 invariant-loop-p l = (l.p ≤ l.to) × (below l.s l.limit l.from (l.to - l.from) ≡ below l.s l.limit l.p (l.to - l.p))
-
-abbrev pub decreases-loop-p : goal.decreases-loop-p
-decreases-loop-p l = l.to - l.p

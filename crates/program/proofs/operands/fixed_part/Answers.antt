@@ -1,47 +1,42 @@
 use native.Mathlib.Omega.{arith}
 use mathlib.Core.Path.{sym, ap, ◌∙◌}
 use Prim.Native.Nat.{ℕ, ◌+◌}
-use Rattle.answers.specs.Check.{ok}
-use Rattle.program.specs.Reader.{BehindFixed}
-use Rattle.program.proofs.PastLaws.{said_refused, between_refused, between_at}
+use Rattle.answers.specs.Check.{ok, refused}
+use Rattle.rules.specs.Table.{size_of, operand_at}
+use Rattle.rules.proofs.KindBytes.{byte_above, byte_below}
 use Rattle.program.proofs.OperandLaws.{goods_none, goods_more, fixed_short, fixed_bad, fixed_good}
-use borrow.Author.Rules.{rules}
 use Rattle.program.proofs.operands.fixed_part.Goals as goal
 
-pub returns-then-end-at : goal.returns-then-end-at
-unfolding BehindFixed
-returns-then-end-at c =
-    let r = c.refused.ensures in record {
-      result_value = (λ S h. said_refused _ _ _ r (fixed_short _ _ _ _ (omega arith) (omega arith) (omega arith)));
-      behind_fixed = between_refused _ _ _ _ r;
-    }
+pub returns-then-end-at-clause-position : goal.returns-then-end-at-clause-position
+returns-then-end-at-clause-position c S h =
+    let e = c.requires.2 in
+    let z = c.size-size.ensures.value ∙ ap size_of e in
+    ap refused c.at.ensures ∙ sym (fixed_short _ S _ _ (byte_above c.args.kind e) (byte_below c.args.kind e) (omega (arith, z)))
 
 pub loop-n-init : goal.loop-n-init
-loop-n-init c = (search rules, search rules, λ S h. goods_none _ _ _ _)
+loop-n-init c = λ S h. goods_none _ _ _ _
 
-pub returns-then-not-in_range : goal.returns-then-not-in_range
-unfolding BehindFixed
-returns-then-not-in_range c =
-    let r = c.refused-then-not-in_range.ensures in
-    let kind = c.operand_kind.ensures in
-    let goods = c.loop-n.invariant.2 in record {
-      result_value = (λ S h. said_refused _ _ _ r (fixed_bad _ _ _ _ (omega arith) (omega arith) (omega arith) _ _ _ (omega arith) (omega arith) (goods S h)
-          kind (c.in_range.ensures S h) c.if-not-in_range.true));
-      behind_fixed = between_refused _ _ _ _ r;
-    }
+pub returns-then-not-in_range-clause-position : goal.returns-then-not-in_range-clause-position
+returns-then-not-in_range-clause-position c S h =
+    let e = c.requires.2 in
+    let z = c.size-size.ensures.value ∙ ap size_of e in
+    let operand = c.operand.ensures ∙ ap (λ (b : ℕ). operand_at b c.loop-n.n) e in
+    ap refused c.at-then-not-in_range.ensures
+    ∙ sym (fixed_bad _ S _ _ (byte_above c.args.kind e) (byte_below c.args.kind e) (omega (arith, z)) _ _ _ (omega arith) (omega (arith, z))
+    (c.loop-n.invariant S h) operand (c.in_range.ensures S h) c.if-not-in_range.true)
 
 pub loop-n-preserved : goal.loop-n-preserved
-loop-n-preserved c =
-    let kind = c.operand_kind.ensures in
-    let goods = c.loop-n.invariant.2 in
-    (search rules, search rules, λ S h. goods_more _ _ _ _ _ _ _ (goods S h) kind (c.in_range.ensures S h) c.if-not-in_range.false)
+loop-n-preserved c S h =
+    let operand = c.operand.ensures ∙ ap (λ (b : ℕ). operand_at b c.loop-n.n) c.requires.2 in
+    goods_more _ _ _ _ _ _ _ (c.loop-n.invariant S h) operand (c.in_range.ensures S h) c.if-not-in_range.false
 
-pub returns : goal.returns
-unfolding BehindFixed
-returns c =
-    let at = c.args.at in
-    let goods = c.loop-n.invariant.2 in record {
-      result_value = (λ S h. ap (λ (n : ℕ). ok (at + n)) c.fixed_size-size.ensures.value
-          ∙ sym (fixed_good _ S _ _ (omega arith) (omega arith) (omega arith) _ (omega arith) (goods S h)));
-      behind_fixed = between_at _ _ _ (omega arith) (omega arith);
-    }
+pub returns-clause-position : goal.returns-clause-position
+returns-clause-position c S h =
+    let e = c.requires.2 in
+    let z = c.size-size.ensures.value ∙ ap size_of e in
+    ap (λ (n : ℕ). ok (c.args.at + n)) z
+    ∙ sym (fixed_good _ S _ _ (byte_above c.args.kind e) (byte_below c.args.kind e) (omega (arith, z)) _ (omega (arith, z)) (c.loop-n.invariant S h))
+
+pub returns-clause-behind_fixed : goal.returns-clause-behind_fixed
+returns-clause-behind_fixed c =
+    let z = c.size-size.ensures.value ∙ ap size_of c.requires.2 in (omega (arith, z), omega arith)

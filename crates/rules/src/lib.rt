@@ -4,6 +4,7 @@
 pub mod bytes;
 pub mod device;
 pub mod place;
+pub mod positions;
 pub mod program;
 pub mod statements;
 pub mod words;

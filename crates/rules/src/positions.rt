@@ -1,0 +1,21 @@
+// Where a block and a call end, from the bytes that they begin with.
+ghost use Rattle.std.specs.Prelude.{◌≡◌, ◌+◌, ◌≤◌, length};
+ghost use Rattle.rules.specs.Basics.{byte, word};
+
+use crate::bytes::{wide, word_at};
+
+// The position after the block whose length word is at `at`.
+pub fn block_end(s: &[u8], at: usize) -> usize
+    requires { (at + 2 ≤ length s.now) × (length s.now ≤ 4096) }
+    ensures { result ≡ at + 2 + word s.now at }
+{
+    at + 2 + word_at(s, at)
+}
+
+// The position after the call at `at` and its lists.
+pub fn call_end(s: &[u8], at: usize) -> usize
+    requires { (at + 4 ≤ length s.now) × (length s.now ≤ 4096) }
+    ensures { result ≡ at + 4 + byte s.now (at + 2) + byte s.now (at + 3) }
+{
+    at + 4 + wide(s[at + 2]) + wide(s[at + 3])
+}

@@ -1,13 +1,13 @@
 -- Laws of the edges. The loop over them keeps that the edges not yet tested, after the one before them, decide as all of them do; each of its exits is
 -- a law here. And what the edges are, once they are read: two bytes each, the first below the second and the second below the number of locations.
-use mathlib.Core.Bool.{Bool, true, false, ◌&&◌, ◌||◌}
+use mathlib.Core.Bool.{Bool, true, false, ◌&&◌}
 use mathlib.Core.List.{List, ◌∷◌}
 use mathlib.Core.Option.{Option, none, some}
 use mathlib.Core.Path.{◌≡◌, refl, sym, ap, ap₂, ◌∙◌}
 use native.Mathlib.Numerals.{add-one}
 use native.Mathlib.Omega.{arith}
 use Prim.Native.Nat.{ℕ, zero, suc, ◌+◌, ◌-◌, ◌*◌, ◌≤◌, ◌<◌}
-use borrow.Author.Tests.{ltb-true, lt-ltb, le-ltb, eq-eqb, ne_eqb}
+use borrow.Author.Tests.{ltb-true}
 use lib.Dec.{ltb}
 use lib.ListN.{length, get_or}
 use Rattle.answers.proofs.Laws.{Holds, by, holds_bind, holds_then, holds_need}
@@ -18,47 +18,6 @@ use Rattle.rules.specs.Device.{Edge, edges, increases}
 use Rattle.sets.proofs.Bools.{and_both}
 use Rattle.device.specs.Parts.{tested, edge_at, edge_before, edge_stands}
 use Rattle.device.proofs.OwnerLaws.{tested_map}
-
--- an edge comes after the one before it
-module _ (s : List ℕ) (start i : ℕ) (h : i ≡ 0 → ⊥) where
-  before_is : edge_before s start i ≡ some (record { from = byte s (start + 2 * i - 2); to = byte s (start + 2 * i - 1) })
-  before_is = go i h
-    where
-      go : (i : ℕ) → (i ≡ 0 → ⊥) → edge_before s start i ≡ some (record { from = byte s (start + 2 * i - 2); to = byte s (start + 2 * i - 1) })
-      go zero h = absurd (h refl)
-      go (suc i) h =
-          let p : start + 2 * i ≡ start + 2 * suc i - 2 = omega arith in
-          let q : start + 2 * i + 1 ≡ start + 2 * suc i - 1 = omega arith in
-          ap₂ (λ (a b : ℕ). some (record { from = byte s a; to = byte s b })) p q
-
-  pub rises_other : (byte s (start + 2 * i - 2) ≡ byte s (start + 2 * i) → ⊥)
-      → ltb (byte s (start + 2 * i - 2)) (byte s (start + 2 * i)) ≡ increases (edge_before s start i) (edge_at s (start + 2 * i))
-  rises_other n = sym (rw (before_is, ne_eqb (byte s (start + 2 * i - 2)) (byte s (start + 2 * i)) n) (or_off _))
-    where
-      or_off : (t : Bool) → (t || false) ≡ t
-      or_off true = refl
-      or_off false = refl
-
-  pub rises_same : byte s (start + 2 * i - 2) ≡ byte s (start + 2 * i)
-      → ltb (byte s (start + 2 * i - 1)) (byte s (start + 2 * i + 1)) ≡ increases (edge_before s start i) (edge_at s (start + 2 * i))
-  rises_same e =
-      let l = le-ltb (byte s (start + 2 * i - 2)) (byte s (start + 2 * i)) (omega arith) in
-      sym (rw (before_is, eq-eqb (byte s (start + 2 * i - 2)) (byte s (start + 2 * i)) e, l))
-
--- the tests of an edge in a row
-module _ (s : List ℕ) (n start i : ℕ) where
-  pub stands_equal : byte s (start + 2 * i + 1) ≤ byte s (start + 2 * i) → false ≡ edge_stands s n start i
-  unfolding edge_stands
-  stands_equal h = sym (rw (le-ltb (byte s (start + 2 * i)) (byte s (start + 2 * i + 1)) h))
-
-  pub stands_beyond : byte s (start + 2 * i) < byte s (start + 2 * i + 1) → n ≤ byte s (start + 2 * i + 1) → false ≡ edge_stands s n start i
-  unfolding edge_stands
-  stands_beyond h k = sym (rw (lt-ltb (byte s (start + 2 * i)) (byte s (start + 2 * i + 1)) h, le-ltb (byte s (start + 2 * i + 1)) n k))
-
-  pub stands_within : byte s (start + 2 * i) < byte s (start + 2 * i + 1) → byte s (start + 2 * i + 1) < n
-      → increases (edge_before s start i) (edge_at s (start + 2 * i)) ≡ edge_stands s n start i
-  unfolding edge_stands
-  stands_within h k = sym (rw (lt-ltb (byte s (start + 2 * i)) (byte s (start + 2 * i + 1)) h, lt-ltb (byte s (start + 2 * i + 1)) n k))
 
 abbrev passes : List ℕ → ℕ → Option Edge → ℕ → Bool
 passes s n before i = ltb (byte s i) (byte s (i + 1)) && ltb (byte s (i + 1)) n && increases before (edge_at s i)
@@ -77,23 +36,15 @@ module _ (s : List ℕ) (n : ℕ) where
   abbrev tests_from : ℕ → ℕ → ℕ → Check (Unit {0})
   tests_from start i m = tested (edges s n (edge_before s start i) (start + 2 * i) m)
 
-  pub edge_start : (start e : ℕ) → tested (edges s n none start e) ≡ tests_from start 0 (e - 0)
-  edge_start start e =
-      let p : start ≡ start + 2 * 0 = omega arith in
-      let q : e ≡ e - 0 = omega arith in
-      ap₂ (λ (k m : ℕ). tested (edges s n none k m)) p q
-
   -- ---- the loop, at edge i of e
   module _ (start e i : ℕ) (same : tested (edges s n none start e) ≡ tests_from start i (e - i)) where
     pub edge_bad : i < e → edge_stands s n start i ≡ false → (x : Refusal) → x ≡ refusal 7 (start + 2 * i)
         → refused x ≡ tested (edges s n none start e)
-    unfolding edge_stands
     edge_bad h b x q =
         let c : e - i ≡ suc (e - (i + 1)) = omega arith in
         ap refused q ∙ sym (same ∙ ap (tests_from start i) c ∙ stop (edge_before s start i) (start + 2 * i) (e - (i + 1)) b)
 
     pub edge_good : i < e → edge_stands s n start i ≡ true → tested (edges s n none start e) ≡ tests_from start (i + 1) (e - (i + 1))
-    unfolding edge_stands
     edge_good h b =
         let c : e - i ≡ suc (e - (i + 1)) = omega arith in
         let p : start + 2 * i + 2 ≡ start + 2 * (i + 1) = omega arith in

@@ -30,9 +30,6 @@ module _ (s : List ℕ) where
   unfolding ◌>>◌ tested
   stop i m h = rw (lt-leb (byte s i) 2 h)
 
-  pub owner_start : (n : ℕ) → tested (owners s 9 n) ≡ tested (owners s (9 + 0) (n - 0))
-  owner_start n = let q : n ≡ n - 0 = omega arith in ap (λ (m : ℕ). tested (owners s 9 m)) q
-
   -- ---- the loop, at location i of n
   module _ (n i : ℕ) (same : tested (owners s 9 n) ≡ tested (owners s (9 + i) (n - i))) where
     pub owner_bad : i < n → 2 < byte s (9 + i) → (x : Refusal) → x ≡ refusal 6 (9 + i) → refused x ≡ tested (owners s 9 n)

@@ -1,12 +1,10 @@
 -- What the parts of the reader answer: the tests of the owner bytes, of an edge and of all edges, and what comes after the header.
-use Rattle.std.specs.Prelude.{Bool, not, ◌&&◌, ◌||◌, List, ℕ, zero, suc, ◌+◌, ◌*◌, eqb, ltb, length}
+use Rattle.std.specs.Prelude.{Bool, ◌&&◌, List, ℕ, zero, suc, ◌+◌, ◌*◌, eqb, ltb, length}
 use Rattle.std.proofs.Math.Option.{Option, none, some}
 use Rattle.answers.specs.Check.{Check, ok, refused, ◌>>◌, need}
 use Rattle.rules.specs.declared.device.DeviceHeader.{DeviceHeader}
 use Rattle.rules.specs.Basics.{byte}
 use Rattle.rules.specs.Device.{Edge, owners, edges, increases}
-use Rattle.sets.specs.declared.LocationSet.{LocationSet}
-use Rattle.sets.specs.Sets.{has}
 
 -- whether checks passed, without what they give
 unfoldable pub tested : {A : Type 0} → Check A → Check (Unit {0})
@@ -31,7 +29,7 @@ edge_before s start zero = none
 edge_before s start (suc i) = some (edge_at s (start + 2 * i))
 
 -- edge number i passes its test
-unfoldable pub edge_stands : List ℕ → ℕ → ℕ → ℕ → Bool
+abbrev pub edge_stands : List ℕ → ℕ → ℕ → ℕ → Bool
 edge_stands s n start i =
     let e = edge_at s (start + 2 * i) in
     ltb e.from e.to && ltb e.to n && increases (edge_before s start i) e
@@ -39,7 +37,3 @@ edge_stands s n start i =
 -- the owner byte of a location names the job
 abbrev pub owned_by : List ℕ → ℕ → ℕ → Bool
 owned_by s j x = eqb (byte s (9 + x)) j
-
--- a set without x where the map has it as taken
-abbrev pub thin : LocationSet → ℕ → ℕ → ℕ → Bool
-thin free x taken y = (eqb taken 0 || not (eqb y x)) && has free y

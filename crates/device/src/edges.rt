@@ -6,7 +6,6 @@ ghost use Rattle.rules.specs.Device.{edges, increases};
 ghost use Rattle.device.specs.Parts.{tested, edge_at, edge_before, edge_stands};
 
 use answers::{Fault, Refusal};
-use rules::bytes::wide;
 use rules::device::DeviceHeader;
 
 // Whether edge number i comes after the one before it, if any; the first edge is at `start`.
@@ -14,14 +13,8 @@ fn rises(s: &[u8], start: usize, i: usize) -> bool
     requires { start + 2 * i + 1 < length s.now }
     ensures { result ≡ increases (edge_before s.now start i) (edge_at s.now (start + 2 * i)) }
 {
-    if i == 0 {
-        return true;
-    }
     let at = start + 2 * i;
-    if s[at - 2] != s[at] {
-        return s[at - 2] < s[at];
-    }
-    s[at - 1] < s[at + 1]
+    i == 0 || (s[at - 2], s[at - 1]) < (s[at], s[at + 1])
 }
 
 // Whether edge number i joins two locations, the smaller first, and comes after the one before it.
@@ -30,15 +23,8 @@ fn stands(s: &[u8], n: usize, start: usize, i: usize) -> bool
     ensures { result ≡ edge_stands s.now n start i }
 {
     let at = start + 2 * i;
-    let a = s[at];
-    let b = s[at + 1];
-    if b <= a {
-        return false;
-    }
-    if n <= wide(b) {
-        return false;
-    }
-    rises(s, start, i)
+    let (a, b) = (s[at], s[at + 1]);
+    a < b && (b as usize) < n && rises(s, start, i)
 }
 
 // Tests e edges between n locations: 7 at the first that does not stand.

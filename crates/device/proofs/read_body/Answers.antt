@@ -1,5 +1,5 @@
 -- The length, then what the tests of the owners and of the edges answer.
-use mathlib.Core.Path.{sym, ap, ◌∙◌}
+use mathlib.Core.Path.{ap, ◌∙◌}
 use Rattle.answers.specs.Check.{refused}
 use Rattle.answers.proofs.Passed.{passed_on}
 use Rattle.device.proofs.HeaderLaws.{body_length, body_owners, body_edges, body_read_lem}

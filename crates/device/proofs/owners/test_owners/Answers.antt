@@ -1,24 +1,21 @@
 use native.Mathlib.Omega.{arith}
-use Rattle.device.proofs.OwnerLaws.{owner_start, owner_bad, owner_good, owner_done}
+use Rattle.device.proofs.OwnerLaws.{owner_bad, owner_good, owner_done}
 use Rattle.device.proofs.owners.test_owners.Goals as goal
-
-pub loop-i-init : goal.loop-i-init
-loop-i-init c = let a = c.args in (omega arith, owner_start a.s.now a.n)
 
 pub returns-then-s-at-gt-MOST_JOBS : goal.returns-then-s-at-gt-MOST_JOBS
 returns-then-s-at-gt-MOST_JOBS c =
     let a = c.args in
     let l = c.loop-i in
-    owner_bad a.s.now a.n l.i l.invariant.1 (omega arith) c.if-s-at-gt-MOST_JOBS.true _ c.at.ensures
+    owner_bad a.s.now a.n l.i l.invariant (omega arith) c.if-s-at-gt-MOST_JOBS.true _ c.at.ensures
 
 pub loop-i-preserved : goal.loop-i-preserved
 loop-i-preserved c =
     let a = c.args in
     let l = c.loop-i in
-    (omega arith, owner_good a.s.now a.n l.i l.invariant.1 (omega arith) c.if-s-at-gt-MOST_JOBS.false)
+    owner_good a.s.now a.n l.i l.invariant (omega arith) c.if-s-at-gt-MOST_JOBS.false
 
 pub returns : goal.returns
 returns c =
     let a = c.args in
     let l = c.loop-i in
-    owner_done a.s.now a.n l.i l.invariant.1 (omega arith)
+    owner_done a.s.now a.n l.i l.invariant (omega arith)

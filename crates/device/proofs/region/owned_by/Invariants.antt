@@ -1,14 +1,11 @@
 -- The invariant: the set has those of the locations before x whose owner byte names the job.
 use mathlib.Core.Bool.{◌&&◌}
 use mathlib.Core.Path.{◌≡◌}
-use Prim.Native.Nat.{ℕ, ◌-◌, ◌≤◌}
+use Prim.Native.Nat.{ℕ}
 use lib.Dec.{ltb}
 use Rattle.sets.specs.Sets.{has}
 use Rattle.device.specs.Parts.{owned_by}
 use Rattle.device.proofs.region.owned_by.Given as goal
 
 abbrev pub invariant-loop-x : goal.invariant-loop-x
-invariant-loop-x l = (l.x ≤ l.n) × ((y : ℕ) → has l.owned y ≡ (ltb y l.x && owned_by l.s l.job y))
-
-abbrev pub decreases-loop-x : goal.decreases-loop-x
-decreases-loop-x l = l.n - l.x
+invariant-loop-x l = (y : ℕ) → has l.owned y ≡ (ltb y l.x && owned_by l.s l.job y)

@@ -1,8 +1,7 @@
 -- The invariant: what the rows hold, or an edge still to come joins, is what the region joins.
 use mathlib.Core.Bool.{◌||◌}
 use mathlib.Core.Path.{◌≡◌}
-use Prim.Native.Nat.{ℕ, ◌-◌, ◌≤◌}
-use lib.ListN.{length}
+use Prim.Native.Nat.{ℕ}
 use Rattle.answers.specs.Check.{ok}
 use Rattle.rules.specs.Device.{Device, read_device}
 use Rattle.rules.specs.Region.{region_of, joined}
@@ -11,8 +10,4 @@ use Rattle.device.proofs.RegionLaws.{to_come}
 use Rattle.device.proofs.region.region_rows.Given as goal
 
 abbrev pub invariant-loop-i : goal.invariant-loop-i
-invariant-loop-i l = (l.i ≤ l.e) × (length l.rows ≡ 1024)
-    × ((D : Device) → read_device l.s ≡ ok D → (x y : ℕ) → (has (row_of l.rows x) y || to_come D l.job l.i x y) ≡ joined (region_of D l.job) x y)
-
-abbrev pub decreases-loop-i : goal.decreases-loop-i
-decreases-loop-i l = l.e - l.i
+invariant-loop-i l = (D : Device) → read_device l.s ≡ ok D → (x y : ℕ) → (has (row_of l.rows x) y || to_come D l.job l.i x y) ≡ joined (region_of D l.job) x y

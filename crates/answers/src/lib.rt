@@ -29,71 +29,43 @@ impl fmt::Display for File {
     }
 }
 
-// What is refused, in the order of the numbers, from 1 on.
+// What is refused, by the document's number.
 #[derive(Clone, Copy, Debug, PartialEq, Eq)]
 pub enum Fault {
-    Short, // a file ends before its header does
-    Mark, // it begins with other letters
-    Version, // it is of another version
-    Limit, // a number is past its limit
-    Length, // a device file is longer or shorter than its numbers say
-    Owner, // an owner byte names no job
-    Edge, // an edge is out of range or out of order
-    NoRoom, // a part of a program does not fit where it stands
-    NoStatement, // a byte begins no statement
-    Operand, // an operand is out of range
-    NotHeld, // a slot does not hold what a statement asks of it
-    Bound, // a slot that is to be bound holds something
-    Outside, // a location is not the job's
-    Taken, // a location is not free
-    Twice, // a slot or a location is given twice
-    Elsewhere, // an argument is not at its location
-    LeftLive, // a block ends with a qubit that it may not end with
-    BranchesDiffer, // the blocks of an if end differently
-    LoopChanges, // the block of a while ends differently than it began
-    TooManyCommands, // main has too many commands
-    NoPath, // no path joins the qubits of a merge
-    TooManySteps, // a schedule is too long
-    NoTurn, // a byte of a schedule gives no job a step
-    NoSpace, // a buffer is too short for what is answered
-    NoJob, // a number is no job's
-    MapLength, // a map has not one byte for each location
-    NoLine, // a line begins no listing
+    Short = 1, // a file ends before its header does
+    Mark = 2, // it begins with other letters
+    Version = 3, // it is of another version
+    Limit = 4, // a number is past its limit
+    Length = 5, // a device file is longer or shorter than its numbers say
+    Owner = 6, // an owner byte names no job
+    Edge = 7, // an edge is out of range or out of order
+    NoRoom = 8, // a part of a program does not fit where it stands
+    NoStatement = 9, // a byte begins no statement
+    Operand = 10, // an operand is out of range
+    NotHeld = 11, // a slot does not hold what a statement asks of it
+    Bound = 12, // a slot that is to be bound holds something
+    Outside = 13, // a location is not the job's
+    Taken = 14, // a location is not free
+    Twice = 15, // a slot or a location is given twice
+    Elsewhere = 16, // an argument is not at its location
+    LeftLive = 17, // a block ends with a qubit that it may not end with
+    BranchesDiffer = 18, // the blocks of an if end differently
+    LoopChanges = 19, // the block of a while ends differently than it began
+    TooManyCommands = 20, // main has too many commands
+    NoPath = 21, // no path joins the qubits of a merge
+    TooManySteps = 22, // a schedule is too long
+    NoTurn = 23, // a byte of a schedule gives no job a step
+    NoSpace = 24, // a buffer is too short for what is answered
+    NoJob = 25, // a number is no job's
+    MapLength = 26, // a map has not one byte for each location
+    NoLine = 27, // a line begins no listing
 }
 
 impl Fault {
     pub fn number(self) -> u8
         ensures { result ≡ number_of self }
     {
-        match self {
-            Fault::Short => 1,
-            Fault::Mark => 2,
-            Fault::Version => 3,
-            Fault::Limit => 4,
-            Fault::Length => 5,
-            Fault::Owner => 6,
-            Fault::Edge => 7,
-            Fault::NoRoom => 8,
-            Fault::NoStatement => 9,
-            Fault::Operand => 10,
-            Fault::NotHeld => 11,
-            Fault::Bound => 12,
-            Fault::Outside => 13,
-            Fault::Taken => 14,
-            Fault::Twice => 15,
-            Fault::Elsewhere => 16,
-            Fault::LeftLive => 17,
-            Fault::BranchesDiffer => 18,
-            Fault::LoopChanges => 19,
-            Fault::TooManyCommands => 20,
-            Fault::NoPath => 21,
-            Fault::TooManySteps => 22,
-            Fault::NoTurn => 23,
-            Fault::NoSpace => 24,
-            Fault::NoJob => 25,
-            Fault::MapLength => 26,
-            Fault::NoLine => 27,
-        }
+        self as u8
     }
 
     // The refusal of this fault at a place.

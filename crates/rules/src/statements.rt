@@ -21,25 +21,26 @@ pub enum Operand {
     Nothing,
 }
 
-// The statement kinds, in the order of their bytes, from 1 on.
+// The statement kinds, by their bytes.
 #[derive(Clone, Copy, Debug, PartialEq, Eq)]
 pub enum Kind {
-    Init,
-    Magic,
-    Free,
-    Gate,
-    Measure,
-    Merge,
-    Ref,
-    Get,
-    Set,
-    If,
-    While,
-    Call,
-    Bool,
+    Init = 1,
+    Magic = 2,
+    Free = 3,
+    Gate = 4,
+    Measure = 5,
+    Merge = 6,
+    Ref = 7,
+    Get = 8,
+    Set = 9,
+    If = 10,
+    While = 11,
+    Call = 12,
+    Bool = 13,
 }
 
-const KINDS: [Kind; 13] = [
+// All of them, in the order of their bytes.
+pub const KINDS: [Kind; 13] = [
     Kind::Init,
     Kind::Magic,
     Kind::Free,
@@ -82,21 +83,7 @@ impl Kind {
         ensures value { result ≡ byte_of self }
         ensures between { (0 < result) × (result < 14) }
     {
-        match self {
-            Kind::Init => 1,
-            Kind::Magic => 2,
-            Kind::Free => 3,
-            Kind::Gate => 4,
-            Kind::Measure => 5,
-            Kind::Merge => 6,
-            Kind::Ref => 7,
-            Kind::Get => 8,
-            Kind::Set => 9,
-            Kind::If => 10,
-            Kind::While => 11,
-            Kind::Call => 12,
-            Kind::Bool => 13,
-        }
+        self as u8
     }
 
     // What the operands of the fixed part are, in their order.

@@ -4,6 +4,7 @@ ghost use Rattle.sets.specs.Sets.{has, row_of};
 
 use super::LocationSet;
 
+#[derive(Drop)]
 pub struct Rows {
     pub rows: [LocationSet; 256],
 }

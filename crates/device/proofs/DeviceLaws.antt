@@ -18,6 +18,8 @@ use Rattle.rules.specs.Basics.{byte, word, has_mark}
 use Rattle.rules.specs.Device.{Edge, Device, read_device}
 use Rattle.rules.specs.Region.{region_of, owns}
 use Rattle.rules.specs.declared.device.DeviceHeader.{DeviceHeader}
+use Rattle.std.proofs.Math.Logic.{∥∥₁_elim}
+use Rattle.std.specs.Coded.{le_prop, Coded-set, coded_ℕ}
 use Rattle.sets.proofs.Bools.{and_both, side}
 use Rattle.device.specs.Parts.{edge_at, owned_by}
 use Rattle.device.specs.Reader.{Reads, device_read}
@@ -124,3 +126,20 @@ read_refuses s f x q = go (read_device s) q
     go : (m : Check Device) → refused x ≡ within f (m >>= numbers) → refused x ≡ within f m
     go (ok D) q = ok_not_refused (sym q)
     go (refused y) q = let p : x ≡ in_file f y = cc in ap refused p
+
+-- what the bytes of a device file bound, whichever device they say
+pub record Sound (s : List ℕ) (h : DeviceHeader) : Type 0 where
+  pub few : h.locations ≤ 256
+  pub few_edges : h.edges ≤ 1024
+  pub long : length s ≡ 9 + h.locations + 2 * h.edges
+  pub edge_rises : (i : ℕ) → i < h.edges → byte s (9 + h.locations + 2 * i) < byte s (9 + h.locations + 2 * i + 1)
+  pub edge_within : (i : ℕ) → i < h.edges → byte s (9 + h.locations + 2 * i + 1) < h.locations
+
+pub sound : {s : List ℕ} {h : DeviceHeader} → ∥ ((D : Device) × Reads s h D) ∥₁ → Sound s h
+sound t = record {
+  few = ∥∥₁_elim t le_prop (λ q. (known q.1).few);
+  few_edges = ∥∥₁_elim t le_prop (λ q. (known q.1).few_edges);
+  long = ∥∥₁_elim t (Coded-set coded_ℕ _ _) (λ q. (known q.1).long);
+  edge_rises = λ i l. ∥∥₁_elim t le_prop (λ q. (known q.1).edge_rises i l);
+  edge_within = λ i l. ∥∥₁_elim t le_prop (λ q. (known q.1).edge_within i l);
+}

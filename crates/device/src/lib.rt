@@ -1,28 +1,32 @@
 // The reader of device files, and the region of a job.
 #![tactic(auto)]
 
-ghost use Rattle.std.specs.Prelude.{◌≡◌, ◌≤◌};
+ghost use Rattle.std.specs.Prelude.{◌≡◌, ◌≤◌, IfOk};
 ghost use Rattle.answers.specs.declared.File.TheVariants.{Device};
 ghost use Rattle.answers.specs.Check.{within};
 ghost use Rattle.answers.specs.Said.{said};
+ghost use Rattle.device.specs.Answer.{file_said};
 ghost use Rattle.device.specs.Parts.{body_read};
 ghost use Rattle.device.specs.Reader.{device_read};
 
 use answers::{Fault, File, Refusal};
+use file::DeviceFile;
 use rules::bytes::{has_mark, word_at};
 use rules::device::DeviceHeader;
 
 mod edges;
+pub mod file;
 pub mod free;
 mod owners;
 pub mod region;
 
 // Reads a device file. Any bytes are given; a refusal names this file.
-pub fn read_device(s: &[u8]) -> Result<DeviceHeader, Refusal>
-    ensures { said result ≡ within Device (device_read s.now) }
+pub fn read_device(s: &[u8]) -> Result<DeviceFile<'_>, Refusal>
+    ensures said { file_said result ≡ within Device (device_read s.now) }
+    ensures bytes { IfOk result (λ file. file.bytes.now ≡ s.now) }
 {
     match read(s) {
-        Ok(h) => Ok(h),
+        Ok(header) => Ok(DeviceFile { bytes: s, header }),
         Err(x) => Err(x.in_file(File::Device)),
     }
 }

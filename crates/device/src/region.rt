@@ -6,23 +6,11 @@ ghost use Rattle.sets.specs.Sets.{has, row_of};
 ghost use Rattle.device.specs.Parts.{owned_by};
 ghost use Rattle.device.specs.Reader.{Reads, Owned, RowsOf};
 
+use super::file::DeviceFile;
 use super::owners::is_owner;
 use rules::device::DeviceHeader;
 use sets::LocationSet;
 use sets::rows::Rows;
-
-// The job's locations.
-pub fn owned_by(s: &[u8], h: DeviceHeader, job: u8) -> LocationSet
-    requires { (D : Device) × Reads s.now h D }
-    ensures { (D : Device) → Reads s.now h D → Owned (region_of D job) result }
-{
-    let mut owned = LocationSet::empty();
-    for x in 0..h.locations {
-        let x = x as u8;
-        owned = owned.add_if(x, is_owner(s, job, x));
-    }
-    owned
-}
 
 // Joins a and b in both directions, where both are the job's.
 fn join_owned(s: &[u8], job: u8, a: u8, b: u8, rows: &mut Rows)
@@ -37,15 +25,29 @@ fn join_owned(s: &[u8], job: u8, a: u8, b: u8, rows: &mut Rows)
     }
 }
 
-// The edges between the job's locations, in rows that were empty.
-pub fn region_rows(s: &[u8], h: DeviceHeader, job: u8, rows: &mut Rows)
-    requires reads { (D : Device) × Reads s.now h D }
-    requires empty { (x y : ℕ) → has (row_of rows.old x) y ≡ false }
-    ensures { (D : Device) → Reads s.now h D → RowsOf (region_of D job) rows.new }
-{
-    let start = DeviceHeader::BYTES + h.locations;
-    for i in 0..h.edges {
-        let at = start + 2 * i;
-        join_owned(s, job, s[at], s[at + 1], rows);
+impl DeviceFile<'_> {
+    // The job's locations.
+    pub fn owned_by(self, job: u8) -> LocationSet
+        ensures { (D : Device) → Reads self.entry.bytes.now self.entry.header D → Owned (region_of D job) result }
+    {
+        let mut owned = LocationSet::empty();
+        for x in 0..self.header.locations {
+            let x = x as u8;
+            owned = owned.add_if(x, is_owner(self.bytes, job, x));
+        }
+        owned
+    }
+
+    // The edges between the job's locations, in rows that were empty.
+    pub fn region_rows(self, job: u8, rows: &mut Rows)
+        requires { (x y : ℕ) → has (row_of rows.old x) y ≡ false }
+        ensures { (D : Device) → Reads self.entry.bytes.now self.entry.header D → RowsOf (region_of D job) rows.new }
+    {
+        let s = self.bytes;
+        let start = DeviceHeader::BYTES + self.header.locations;
+        for i in 0..self.header.edges {
+            let at = start + 2 * i;
+            join_owned(s, job, s[at], s[at + 1], rows);
+        }
     }
 }

@@ -1,11 +1,9 @@
--- The answer is handed on, a refusal with the file named once.
-use mathlib.Core.Path.{ap, ◌∙◌}
-use Rattle.answers.specs.Check.{refused, within}
+-- The numbers are those of the device that the bytes read as; a refusal is handed on with the file named.
+use mathlib.Core.Path.{ap}
+use Rattle.answers.specs.Check.{within}
 use Rattle.answers.specs.declared.File.TheVariants.{Device}
+use Rattle.device.proofs.DeviceLaws.{read_gives}
 use Rattle.device.proofs.read_device.Goals as goal
 
-pub returns-in-Ok : goal.returns-in-Ok
-returns-in-Ok c = ap (within Device) c.in-Ok.ensures
-
-pub returns-in-Err : goal.returns-in-Err
-returns-in-Err c = ap refused c.in_file.ensures ∙ ap (within Device) c.in-Err.ensures
+pub invariant_of-result : goal.invariant_of-result
+invariant_of-result c = record { reads = ∣ read_gives c.args.s.now Device _ (ap (within Device) c.in-Ok.ensures) ∣₁ }

@@ -5,7 +5,7 @@ use Prim.Native.Nat.{ℕ}
 use lib.Dec.{ltb}
 use Rattle.sets.specs.Sets.{has}
 use Rattle.device.specs.Parts.{owned_by}
-use Rattle.device.proofs.region.owned_by.Given as goal
+use Rattle.device.proofs.file.DeviceFile.owned_by.Given as goal
 
 abbrev pub invariant-loop-x : goal.invariant-loop-x
-invariant-loop-x l = (y : ℕ) → has l.owned y ≡ (ltb y l.x && owned_by l.s l.job y)
+invariant-loop-x l = (y : ℕ) → has l.owned y ≡ (ltb y l.x && owned_by l.self.bytes.now l.job y)

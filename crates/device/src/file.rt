@@ -1,0 +1,14 @@
+// A device file that reads: its bytes, with its numbers.
+ghost use Rattle.std.specs.Prelude.{length};
+ghost use Rattle.rules.specs.Device.{Device};
+ghost use Rattle.device.specs.Reader.{Reads};
+
+use rules::device::DeviceHeader;
+
+#[derive(Clone, Copy)]
+pub struct DeviceFile<'a> {
+    pub bytes: &'a [u8],
+    pub header: DeviceHeader,
+    // they read as a device
+    ghost reads: { ∥ ((D : Device) × Reads bytes.now header D) ∥₁ },
+}

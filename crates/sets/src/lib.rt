@@ -4,6 +4,7 @@
 ghost use Rattle.std.specs.Prelude.{true, false, not, ◌&&◌, ◌||◌, MatchOption, ◌≡◌, ℕ, ◌/◌, ◌%◌, ◌^◌, ◌<◌, eqb, get_or};
 ghost use Rattle.sets.specs.Sets.{has, First};
 
+pub mod bytes;
 pub mod rows;
 pub mod words;
 

@@ -1,26 +1,23 @@
--- The characters of each word: those of the vocabulary have at most nine; a decimal below 1,000 has one to three, by how many digits it has.
+-- A decimal below 1,000 has one to three digits, by how large its number is, and the first is not 0 where there are more; so decimals of one text are of
+-- one number.
 use mathlib.Core.Bool.{Bool, true, false}
 use mathlib.Core.List.{[], ◌∷◌}
-use mathlib.Core.Path.{◌≡◌, ap, ◌∙◌}
+use mathlib.Core.Logic.{◌⊎◌, inl, inr}
+use mathlib.Core.Path.{◌≡◌, refl, sym, ap, ◌∙◌}
 use native.Mathlib.Omega.{arith}
-use Prim.Native.Nat.{ℕ, ◌+◌, ◌-◌, ◌/◌, ◌%◌, ◌<◌, ◌≤◌}
-use borrow.Author.Tests.{lt-ltb, le-ltb}
-use lib.Dec.{ltb, leb, leb→le}
+use Prim.Native.Nat.{ℕ, zero, suc, ◌+◌, ◌-◌, ◌*◌, ◌/◌, ◌%◌, ◌<◌, ◌≤◌}
+use borrow.Author.Tests.{ltb-true, ltb-false, lt-ltb, le-ltb}
+use lib.Dec.{ltb}
 use lib.ListN.{get_or, length}
-use Rattle.rules.specs.Basics.{chosen}
 use Rattle.rules.specs.Words.{Text, decimal}
-use Rattle.rules.specs.Table.{word_of}
-use Rattle.rules.proofs.Basics.{all_up_to}
-use Rattle.reading.specs.Cursor.{spelling}
-use Rattle.reading.proofs.Spellings.{spelling_word}
 
-abbrev pub ones : ℕ → Text
+abbrev ones : ℕ → Text
 ones n = (0x30 + n) ∷ []
 
-abbrev pub tens : ℕ → Text
+abbrev tens : ℕ → Text
 tens n = (0x30 + n / 10) ∷ (0x30 + n % 10) ∷ []
 
-abbrev pub hundreds : ℕ → Text
+abbrev hundreds : ℕ → Text
 hundreds n = (0x30 + n / 100) ∷ (0x30 + n / 10 % 10) ∷ (0x30 + n % 10) ∷ []
 
 abbrev digits : ℕ → Bool → Bool → Text
@@ -35,66 +32,76 @@ decimal_two n h k = ap (λ (b : Bool). digits n b (ltb n 100)) (le-ltb n 10 h) �
 pub decimal_three : (n : ℕ) → 100 ≤ n → decimal n ≡ hundreds n
 decimal_three n h = ap (λ (b : Bool). digits n b (ltb n 100)) (le-ltb n 10 (omega arith)) ∙ ap (digits n false) (le-ltb n 100 h)
 
--- words of the vocabulary
-module _ (w : ℕ) (h : w < 26) where
-  pub word_characters : length (word_of w) ≡ length (spelling w)
-  word_characters = rw (spelling_word w h)
+-- what digits a decimal has
+abbrev Digits : ℕ → Type 0
+Digits n =
+    ((n < 10) × (decimal n ≡ ones n)) ⊎ (((10 ≤ n) × (n < 100) × (decimal n ≡ tens n)) ⊎ ((100 ≤ n) × (decimal n ≡ hundreds n)))
 
-  pub word_character : (i : ℕ) → get_or (word_of w) i 0 ≡ get_or (spelling w) i 0
-  word_character i = rw (spelling_word w h)
+digits_of : (n : ℕ) → Digits n
+digits_of n = go (ltb n 10) refl (ltb n 100) refl
+  where
+    go : (a : Bool) → ltb n 10 ≡ a → (b : Bool) → ltb n 100 ≡ b → Digits n
+    go true e b f = let h : n < 10 = ltb-true n 10 e in inl (h, decimal_one n h)
+    go false e true f =
+        let h : 10 ≤ n = ltb-false n 10 e in
+        let k : n < 100 = ltb-true n 100 f in
+        inr (inl (h, k, decimal_two n h k))
+    go false e false f = let h : 100 ≤ n = ltb-false n 100 f in inr (inr (h, decimal_three n h))
 
-  pub word_short : (i : ℕ) → i < length (spelling w) → i < 9
-  word_short i l =
-      let q : length (word_of w) ≡ length (spelling w) = word_characters in
-      omega (arith, leb→le (length (word_of w)) 9 (all_up_to (λ k. leb (length (word_of k)) 9) 0 26 tt w (omega arith) h))
+-- two decimals of one text are of one number
+abbrev value : Text → ℕ
+value [] = 0
+value (x ∷ []) = x - 0x30
+value (x ∷ (y ∷ [])) = (x - 0x30) * 10 + (y - 0x30)
+value (x ∷ (y ∷ (z ∷ t))) = (x - 0x30) * 100 + (y - 0x30) * 10 + (z - 0x30)
 
--- decimals
-module _ (w : ℕ) (h : 26 ≤ w) where
-  spelled : spelling w ≡ decimal (w - 26)
-  unfolding spelling
-  spelled = ap (λ (b : Bool). chosen b (word_of w) (decimal (w - 26))) (le-ltb w 26 h)
+value_decimal : (n : ℕ) → value (decimal n) ≡ n
+value_decimal n = go (digits_of n)
+  where
+    go : Digits n → value (decimal n) ≡ n
+    go (inl h) = ap value h.1 ∙ omega arith
+    go (inr (inl h)) = ap value h.2 ∙ omega arith
+    go (inr (inr h)) = ap value h.1 ∙ omega arith
 
-  module _ (k : w - 26 < 10) where
-    one : spelling w ≡ ones (w - 26)
-    one = spelled ∙ decimal_one (w - 26) k
+pub one_decimal : (a b : ℕ) → decimal a ≡ decimal b → a ≡ b
+one_decimal a b e = sym (value_decimal a) ∙ ap value e ∙ value_decimal b
 
-    pub one_character : 1 ≡ length (spelling w)
-    one_character = rw one
+-- every character of a decimal below 1,000 is a digit, and the first is not 0 where there are more
+pub has_digit : (n : ℕ) → n < 1000 → (j : ℕ) → j < length (decimal n) → (d : ℕ) × (d < 10) × (get_or (decimal n) j 0 ≡ 0x30 + d)
+has_digit n h j l = go (digits_of n) j l
+  where
+    at_one : (j : ℕ) → n < 10 → j < 1 → (d : ℕ) × (d < 10) × (get_or (ones n) j 0 ≡ 0x30 + d)
+    at_one zero k l = (n, k, refl)
+    at_one (suc j) k l = absurd (omega arith)
 
-    pub character_of_one : (i : ℕ) → i < length (spelling w) → 0x30 + (w - 26) ≡ get_or (spelling w) i 0
-    character_of_one i l =
-        let z : i ≡ 0 = omega (arith, one_character) in
-        rw (one, z)
+    at_two : (j : ℕ) → n < 100 → j < 2 → (d : ℕ) × (d < 10) × (get_or (tens n) j 0 ≡ 0x30 + d)
+    at_two zero k l = (n / 10, omega arith, refl)
+    at_two (suc zero) k l = (n % 10, omega arith, refl)
+    at_two (suc (suc j)) k l = absurd (omega arith)
 
-  module _ (k : 10 ≤ w - 26) (l : w - 26 < 100) where
-    two : spelling w ≡ tens (w - 26)
-    two = spelled ∙ decimal_two (w - 26) k l
+    at_three : (j : ℕ) → j < 3 → (d : ℕ) × (d < 10) × (get_or (hundreds n) j 0 ≡ 0x30 + d)
+    at_three zero l = (n / 100, omega arith, refl)
+    at_three (suc zero) l = (n / 10 % 10, omega arith, refl)
+    at_three (suc (suc zero)) l = (n % 10, omega arith, refl)
+    at_three (suc (suc (suc j))) l = absurd (omega arith)
 
-    pub two_characters : 2 ≡ length (spelling w)
-    two_characters = rw two
+    go : Digits n → (j : ℕ) → j < length (decimal n) → (d : ℕ) × (d < 10) × (get_or (decimal n) j 0 ≡ 0x30 + d)
+    go (inl k) j l = rw k.1 (at_one j k.0 (rw k.1 at l))
+    go (inr (inl k)) j l = rw k.2 (at_two j k.1 (rw k.2 at l))
+    go (inr (inr k)) j l = rw k.1 (at_three j (rw k.1 at l))
 
-    pub first_of_two : (i : ℕ) → i ≡ 0 → 0x30 + (w - 26) / 10 ≡ get_or (spelling w) i 0
-    first_of_two i z = rw (two, z)
+pub decimal_length : (n : ℕ) → (1 ≤ length (decimal n)) × (length (decimal n) ≤ 3)
+decimal_length n = go (digits_of n)
+  where
+    go : Digits n → (1 ≤ length (decimal n)) × (length (decimal n) ≤ 3)
+    go (inl k) = rw k.1 (omega arith, omega arith)
+    go (inr (inl k)) = rw k.2 (omega arith, omega arith)
+    go (inr (inr k)) = rw k.1 (omega arith, omega arith)
 
-    pub second_of_two : (i : ℕ) → (i ≡ 0 → ⊥) → i < length (spelling w) → 0x30 + (w - 26) % 10 ≡ get_or (spelling w) i 0
-    second_of_two i n m =
-        let z : i ≡ 1 = omega (arith, two_characters) in
-        rw (two, z)
-
-  module _ (k : 100 ≤ w - 26) where
-    three : spelling w ≡ hundreds (w - 26)
-    three = spelled ∙ decimal_three (w - 26) k
-
-    pub three_characters : 3 ≡ length (spelling w)
-    three_characters = rw three
-
-    pub first_of_three : (i : ℕ) → i ≡ 0 → 0x30 + (w - 26) / 100 ≡ get_or (spelling w) i 0
-    first_of_three i z = rw (three, z)
-
-    pub second_of_three : (i : ℕ) → i ≡ 1 → 0x30 + (w - 26) / 10 % 10 ≡ get_or (spelling w) i 0
-    second_of_three i z = rw (three, z)
-
-    pub third_of_three : (i : ℕ) → (i ≡ 0 → ⊥) → (i ≡ 1 → ⊥) → i < length (spelling w) → 0x30 + (w - 26) % 10 ≡ get_or (spelling w) i 0
-    third_of_three i n m l =
-        let z : i ≡ 2 = omega (arith, three_characters) in
-        rw (three, z)
+pub no_leading_zero : (n : ℕ) → 1 < length (decimal n) → get_or (decimal n) 0 0 ≡ 0x30 → ⊥
+no_leading_zero n l e = go (digits_of n)
+  where
+    go : Digits n → ⊥
+    go (inl k) = let m : 1 < 1 = rw k.1 at l in omega arith
+    go (inr (inl k)) = let m : 0x30 + n / 10 ≡ 0x30 = rw k.2 at e in omega arith
+    go (inr (inr k)) = let m : 0x30 + n / 100 ≡ 0x30 = rw k.1 at e in omega arith

@@ -2,10 +2,7 @@ pub mod Hearings
 pub mod Spellings
 pub mod Splitting
 pub mod Opening
-pub mod Decimals
 pub mod Placing
+pub mod Decimals
 pub mod Numerals
 pub mod Written
-pub mod Expecting
-pub mod Indenting
-pub mod Counting

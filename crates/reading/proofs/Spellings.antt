@@ -1,52 +1,39 @@
--- What the words of the code's numbers are, and whether words are left in a line: by the definitions, case by case.
+-- The word of an operand, and whether words are left in a line: by the definitions, case by case.
 use mathlib.Core.Bool.{Bool, true, false, false≢true}
 use mathlib.Core.List.{List, [], ◌∷◌}
 use mathlib.Core.Path.{◌≡◌, refl, sym, ap, ◌∙◌}
 use native.Mathlib.Omega.{arith}
-use Prim.Native.Nat.{ℕ, zero, suc, ◌+◌, ◌-◌, ◌<◌, ◌≤◌}
-use borrow.Author.Tests.{lt-ltb, le-ltb, le-leb, lt-leb}
+use Prim.Native.Nat.{ℕ, zero, suc, ◌<◌, ◌≤◌}
+use borrow.Author.Tests.{le-leb, lt-leb}
 use lib.Dec.{eqb}
 use Rattle.rules.specs.declared.statements.Operand.{Operand}
 use Rattle.rules.specs.declared.statements.Operand.TheVariants.{Slot, Location, Gate, Basis, Value, Callee, CalleeK, CalleeM, Nothing}
 use Rattle.rules.specs.Basics.{chosen}
 use Rattle.rules.specs.Program.{Scope}
-use Rattle.rules.specs.Words.{Text, space, onto, split, decimal}
-use Rattle.rules.specs.Table.{word_of}
+use Rattle.rules.specs.Words.{Text, space, onto, split}
+use Rattle.rules.specs.Kinds.{gate_word}
 use Rattle.rules.specs.Listing.{spoken, silent}
 use Rattle.rules.specs.Unlisting.{count}
-use Rattle.reading.specs.Cursor.{part, words_from, spelling, word_number}
+use Rattle.reading.specs.Cursor.{part, words_from, spelling, gate_token, token_for}
 
-pub spelling_word : (w : ℕ) → w < 26 → spelling w ≡ word_of w
-unfolding spelling
-spelling_word w h = ap (λ (b : Bool). chosen b (word_of w) (decimal (w - 26))) (lt-ltb w 26 h)
-
-pub spelling_decimal : (n : ℕ) → spelling (26 + n) ≡ decimal n
-unfolding spelling
-spelling_decimal n =
-    let e : 26 + n - 26 ≡ n = omega arith in
-    ap (λ (b : Bool). chosen b (word_of (26 + n)) (decimal (26 + n - 26))) (le-ltb (26 + n) 26 (omega arith)) ∙ ap decimal e
-
-pub spelling_gate : (v : ℕ) → v < 4 → spelling (9 + v) ≡ spoken Gate v
-unfolding spelling
+pub spelling_gate : (v : ℕ) → v < 4 → spelling (gate_token (gate_word v) v) ≡ spoken Gate v
 spelling_gate zero h = refl
 spelling_gate (suc zero) h = refl
 spelling_gate (suc (suc zero)) h = refl
 spelling_gate (suc (suc (suc zero))) h = refl
 spelling_gate (suc (suc (suc (suc v)))) h = absurd (omega arith)
 
--- an operand's word has the number that the code gives it
-pub spelling_number : (kind : Operand) (v : ℕ) → silent kind ≡ false → (S : Scope) → v < count S kind → count S kind ≤ 256
-    → spelling (word_number kind v) ≡ spoken kind v
-unfolding word_number
-spelling_number Slot v e S h l = spelling_decimal v
-spelling_number Location v e S h l = spelling_decimal v
-spelling_number Gate v e S h l = spelling_gate v h
-spelling_number Basis v e S h l = spelling_gate v (omega arith)
-spelling_number Value v e S h l = spelling_decimal v
-spelling_number Callee v e S h l = spelling_decimal v
-spelling_number CalleeK v e S h l = absurd (false≢true (sym e))
-spelling_number CalleeM v e S h l = absurd (false≢true (sym e))
-spelling_number Nothing v e S h l = absurd (false≢true (sym e))
+-- an operand's token is the word that is spoken for it
+pub spelling_token : (kind : Operand) (v : ℕ) → silent kind ≡ false → (S : Scope) → v < count S kind → spelling (token_for kind v) ≡ spoken kind v
+spelling_token Slot v e S h = refl
+spelling_token Location v e S h = refl
+spelling_token Gate v e S h = spelling_gate v h
+spelling_token Basis v e S h = spelling_gate v (omega arith)
+spelling_token Value v e S h = refl
+spelling_token Callee v e S h = refl
+spelling_token CalleeK v e S h = absurd (false≢true (sym e))
+spelling_token CalleeM v e S h = absurd (false≢true (sym e))
+spelling_token Nothing v e S h = absurd (false≢true (sym e))
 
 -- a split has a first part
 pub split_shape : (c : ℕ) (t : Text) → (p : Text) × (ps : List Text) × (split c t ≡ p ∷ ps)

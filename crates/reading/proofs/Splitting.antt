@@ -1,37 +1,46 @@
--- Where the first part of a split ends: at the first separator, or with the text. From this, where words and lines end, by positions in a text.
-use mathlib.Core.Bool.{Bool, true, false}
+-- The first part of a split ends at the first separator, or with the text. From this, where words and lines end, by positions in a text.
+use mathlib.Core.Bool.{Bool, true, false, cond, not}
 use mathlib.Core.List.{List, [], ◌∷◌}
 use mathlib.Core.Path.{◌≡◌, refl, sym, ap, ◌∙◌}
-use native.Mathlib.Nat.{not-suc-le-zero}
 use native.Mathlib.Omega.{arith}
 use Prim.Native.Nat.{ℕ, zero, suc, ◌+◌, ◌-◌, ◌<◌, ◌≤◌}
-use borrow.Author.Tests.{eq-eqb, ne_eqb, lt-ltb, le-ltb}
-use lib.ListN.{get_or, length, take, drop, length-take, length-drop}
-use lib.Seq.{take-nil, take-take, take_all, drop-drop, get_or-take, get_or-drop}
+use borrow.Author.Tests.{lt-ltb, le-ltb, ltb-true, ltb-false}
+use lib.Dec.{eqb, ltb, leb-suc-suc}
+use lib.ListN.{length, take, drop, length-take, length-drop}
+use lib.Seq.{take-nil, take-take, take_all, drop-drop}
+use Rattle.std.specs.List.{prefix_len}
+use Rattle.std.proofs.lemmas.List.Sums.{prefix_len-le-length}
 use Rattle.rules.specs.Basics.{chosen}
 use Rattle.rules.specs.Words.{Text, space, newline, onto, split}
-use Rattle.reading.specs.Cursor.{part, WordEnd, LineEnd}
+use Rattle.reading.specs.Cursor.{part, words_from, WordEnd, LineEnd}
 use Rattle.reading.proofs.Spellings.{words_in, no_words}
 
+-- where the first part of a split ends
 module _ (c : ℕ) where
-  split_here : (x : ℕ) (u : Text) → x ≡ c → split c (x ∷ u) ≡ [] ∷ split c u
-  split_here x u e = ap (λ (b : Bool). elim b [ true ↦ [] ∷ split c u | false ↦ onto x (split c u) ]) (eq-eqb x c e)
+  abbrev pub first : Text → ℕ
+  first u = prefix_len (λ x. not (eqb x c)) u
 
-  split_later : (x : ℕ) (u : Text) → (x ≡ c → ⊥) → split c (x ∷ u) ≡ onto x (split c u)
-  split_later x u e = ap (λ (b : Bool). elim b [ true ↦ [] ∷ split c u | false ↦ onto x (split c u) ]) (ne_eqb x c e)
+  abbrev next : Bool → Text → ℕ
+  next b u = cond (not b) (1 + first u) 0
 
-  -- the first separator stands at n, or there is none
-  split_found : (u : Text) (n : ℕ) → n < length u → ((k : ℕ) → k < n → get_or u k 0 ≡ c → ⊥) → get_or u n 0 ≡ c
-      → split c u ≡ take n u ∷ split c (drop (suc n) u)
-  split_found [] n h k e = absurd (not-suc-le-zero h)
-  split_found (x ∷ u) zero h k e = split_here x u e
-  split_found (x ∷ u) (suc n) h k e =
-      split_later x u (λ q. k 0 (omega arith) q) ∙ ap (onto x) (split_found u n (omega arith) (λ j l q. k (suc j) (omega arith) q) e)
+  pub first_most : (u : Text) → first u ≤ length u
+  first_most u = prefix_len-le-length (λ x. not (eqb x c)) u
 
-  split_none : (u : Text) → ((k : ℕ) → k < length u → get_or u k 0 ≡ c → ⊥) → split c u ≡ u ∷ []
-  split_none [] k = refl
-  split_none (x ∷ u) k =
-      split_later x u (λ q. k 0 (omega arith) q) ∙ ap (onto x) (split_none u (λ j l q. k (suc j) (omega arith) q))
+  -- the parts where the first ends at n
+  abbrev parts : Text → ℕ → List Text
+  parts u n = take n u ∷ chosen (ltb n (length u)) (split c (drop (suc n) u)) []
+
+  split_first : (u : Text) → split c u ≡ parts u (first u)
+  split_first [] = refl
+  split_first (x ∷ u) = go (split_first u) (eqb x c)
+    where
+      go : split c u ≡ parts u (first u) → (b : Bool) → elim b [ true ↦ [] ∷ split c u | false ↦ onto x (split c u) ] ≡ parts (x ∷ u) (next b u)
+      go rest true = ap (λ (b : Bool). [] ∷ chosen b (split c u) []) (sym (lt-ltb 0 (suc (length u)) (omega arith)))
+      go rest false =
+          let z : 1 + first u ≡ suc (first u) = omega arith in
+          ap (onto x) rest
+          ∙ ap (λ (b : Bool). (x ∷ take (first u) u) ∷ chosen b (split c (drop (suc (first u)) u)) []) (sym (leb-suc-suc (suc (first u)) (length u)))
+          ∙ ap (parts (x ∷ u)) (sym z)
 
 -- parts of a text
 drop_take : (a b m : ℕ) (l : Text) → m ≡ a + b → drop a (take m l) ≡ take b (drop a l)
@@ -45,65 +54,54 @@ module _ (t : Text) (i e : ℕ) (within : i ≤ e) (fits : e ≤ length t) where
   unfolding part
   length_part = simp (length-take, length-drop) (omega arith)
 
-  pub part_at : (k : ℕ) → k < e - i → get_or (part t i e) k 0 ≡ get_or t (i + k) 0
+  -- the word at i ends where a space first stands
+  pub word_first : (n : ℕ) → n ≡ first space (part t i e) → WordEnd t i e (i + n)
+  unfolding WordEnd part
+  word_first n h =
+      let few : n ≤ e - i = omega (arith, length_part, first_most space (part t i e)) in
+      let front : take n (part t i e) ≡ part t i (i + n) =
+      take-take n (e - i) (drop i t) few ∙ ap (λ (k : ℕ). take k (drop i t)) (omega arith) in
+      words_in t i e within ∙ split_first space (part t i e) ∙ ap (parts space (part t i e)) (sym h)
+      ∙ ap (λ (p : Text). p ∷ chosen (ltb n (length (part t i e))) (split space (drop (suc n) (part t i e))) []) front
+      ∙ ap (λ (ws : List Text). part t i (i + n) ∷ ws) (go (ltb n (length (part t i e))) refl)
+    where
+      go : (b : Bool) → ltb n (length (part t i e)) ≡ b
+          → chosen b (split space (drop (suc n) (part t i e))) [] ≡ words_from t (i + n + 1) e
+      go true l =
+          let more : n < e - i = omega (arith, length_part, ltb-true n (length (part t i e)) l) in
+          let q : i + suc n ≡ i + n + 1 = omega arith in
+          ap (split space) (drop_take (suc n) (e - (i + n + 1)) (e - i) (drop i t) (omega arith)
+          ∙ ap (λ (v : Text). take (e - (i + n + 1)) v) (drop-drop (suc n) i t ∙ ap (λ (k : ℕ). drop k t) q))
+          ∙ sym (words_in t (i + n + 1) e (omega arith))
+      go false l = sym (no_words t (i + n + 1) e (omega (arith, length_part, ltb-false n (length (part t i e)) l)))
+
+-- the line at i ends where a newline first stands
+module _ (t : Text) (i : ℕ) where
+  abbrev pub rest : Text
+  rest = part t i (length t)
+
+  rest_is : rest ≡ drop i t
   unfolding part
-  part_at k h = get_or-take (e - i) (drop i t) k 0 h ∙ get_or-drop i t k 0
+  rest_is = take_all (length t - i) (drop i t) (omega (arith, length-drop i t))
 
-  part_front : (r : ℕ) → r ≤ e → take (r - i) (part t i e) ≡ part t i r
+  front : (n : ℕ) → i + n - i ≡ n → n ≤ length t - i → take n rest ≡ part t i (i + n)
   unfolding part
-  part_front r h = take-take (r - i) (e - i) (drop i t) (omega arith)
+  front n width few = take-take n (length t - i) (drop i t) few ∙ ap (λ (k : ℕ). take k (drop i t)) (sym width)
 
-  part_back : (r : ℕ) → i ≤ r → r < e → drop (suc (r - i)) (part t i e) ≡ part t (r + 1) e
-  unfolding part
-  part_back r h k =
-      let q : i + suc (r - i) ≡ r + 1 = omega arith in
-      drop_take (suc (r - i)) (e - (r + 1)) (e - i) (drop i t) (omega arith)
-      ∙ ap (λ (l : Text). take (e - (r + 1)) l) (drop-drop (suc (r - i)) i t ∙ ap (λ (n : ℕ). drop n t) q)
-
--- from i on and before r no character is c
-abbrev pub NoneBefore : ℕ → Text → ℕ → ℕ → Type 0
-NoneBefore c t i r = (k : ℕ) → k < r → i ≤ k → get_or t k 0 ≡ c → ⊥
-
-module _ (t : Text) (i e r : ℕ) (from : i ≤ r) (none : NoneBefore space t i r) where
-  pub word_to_space : r < e → e ≤ length t → get_or t r 0 ≡ space → WordEnd t i e r
-  unfolding WordEnd
-  word_to_space h l q =
-      let n : i + (r - i) ≡ r = omega arith in
-      words_in t i e (omega arith)
-      ∙ split_found space (part t i e) (r - i) (omega (arith, length_part t i e (omega arith) l))
-      (λ k a z. none (i + k) (omega arith) (omega arith) (sym (part_at t i e (omega arith) l k (omega arith)) ∙ z))
-      (part_at t i e (omega arith) l (r - i) (omega arith) ∙ ap (λ (m : ℕ). get_or t m 0) n ∙ q)
-      ∙ ap (λ (p : Text). p ∷ split space (drop (suc (r - i)) (part t i e))) (part_front t i e (omega arith) l r (omega arith))
-      ∙ ap (λ (p : Text). part t i r ∷ split space p) (part_back t i e (omega arith) l r from h)
-      ∙ ap (λ (ws : List Text). part t i r ∷ ws) (sym (words_in t (r + 1) e (omega arith)))
-
-  pub word_to_end : r ≡ e → e ≤ length t → WordEnd t i e r
-  unfolding WordEnd
-  word_to_end q l =
-      words_in t i e (omega arith)
-      ∙ split_none space (part t i e)
-      (λ k a z.
-      let b : k < e - i = omega (arith, length_part t i e (omega arith) l) in
-      none (i + k) (omega arith) (omega arith) (sym (part_at t i e (omega arith) l k b) ∙ z))
-      ∙ ap (λ (m : ℕ). part t i m ∷ []) (sym q)
-      ∙ ap (λ (ws : List Text). part t i r ∷ ws) (sym (no_words t (r + 1) e (omega arith)))
-
-module _ (t : Text) (i r : ℕ) (from : i ≤ r) (none : NoneBefore newline t i r) where
-  pub line_to_newline : r < length t → get_or t r 0 ≡ newline → LineEnd t i r
-  unfolding LineEnd part
-  line_to_newline h q =
-      let n : i + (r - i) ≡ r = omega arith in
-      let m : i + suc (r - i) ≡ r + 1 = omega arith in
-      split_found newline (drop i t) (r - i) (omega (arith, length-drop i t))
-      (λ k a z. none (i + k) (omega arith) (omega arith) (sym (get_or-drop i t k 0) ∙ z))
-      (get_or-drop i t (r - i) 0 ∙ ap (λ (a : ℕ). get_or t a 0) n ∙ q)
-      ∙ ap (λ (l : Text). part t i r ∷ split newline l) (drop-drop (suc (r - i)) i t ∙ ap (λ (a : ℕ). drop a t) m)
-      ∙ sym (ap (λ (b : Bool). part t i r ∷ chosen b (split newline (drop (r + 1) t)) []) (lt-ltb r (length t) h))
-
-  pub line_to_end : r ≡ length t → LineEnd t i r
-  unfolding LineEnd part
-  line_to_end q =
-      split_none newline (drop i t)
-      (λ k a z. none (i + k) (omega (arith, length-drop i t)) (omega arith) (sym (get_or-drop i t k 0) ∙ z))
-      ∙ ap (λ (l : Text). l ∷ []) (sym (take_all (r - i) (drop i t) (omega (arith, length-drop i t))))
-      ∙ sym (ap (λ (b : Bool). part t i r ∷ chosen b (split newline (drop (r + 1) t)) []) (le-ltb r (length t) (omega arith)))
+  pub line_first : (n : ℕ) → i ≤ length t → n ≡ first newline rest → LineEnd t i (i + n)
+  unfolding LineEnd
+  line_first n l h =
+      let width : i + n - i ≡ n = omega arith in
+      let behind : i + suc n ≡ i + n + 1 = omega arith in
+      let few : n ≤ length t - i = omega (arith, first_most newline rest, length_part t i (length t) l (omega arith)) in
+      ap (split newline) (sym rest_is) ∙ split_first newline rest ∙ ap (parts newline rest) (sym h)
+      ∙ ap (λ (u : Text). u ∷ chosen (ltb n (length rest)) (split newline (drop (suc n) rest)) []) (front n width few)
+      ∙ ap (λ (u : Text). part t i (i + n) ∷ chosen (ltb n (length rest)) (split newline u) [])
+      (ap (drop (suc n)) rest_is ∙ drop-drop (suc n) i t ∙ ap (λ (k : ℕ). drop k t) behind)
+      ∙ ap (λ (b : Bool). part t i (i + n) ∷ chosen b (split newline (drop (i + n + 1) t)) []) (go n l (ltb n (length rest)) refl)
+    where
+      go : (n : ℕ) → i ≤ length t → (b : Bool) → ltb n (length rest) ≡ b → ltb n (length rest) ≡ ltb (i + n) (length t)
+      go n l true e =
+          e ∙ sym (lt-ltb (i + n) (length t) (omega (arith, length_part t i (length t) l (omega arith), ltb-true n (length rest) e)))
+      go n l false e =
+          e ∙ sym (le-ltb (i + n) (length t) (omega (arith, length_part t i (length t) l (omega arith), ltb-false n (length rest) e)))

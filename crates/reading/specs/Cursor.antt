@@ -1,13 +1,19 @@
 -- Lines and words of a text by positions: what stands between two of them, the words from one on, and which word it is that stands there.
-use Rattle.std.specs.Prelude.{List, [], ◌∷◌, ◌⊎◌, ◌≡◌, ℕ, zero, suc, ◌+◌, ◌-◌, ◌<◌, ◌≤◌, leb, ltb, length, take, drop}
-use Rattle.std.proofs.Math.Option.{Option, none, some}
+use Rattle.std.specs.Prelude.{List, [], ◌∷◌, ◌≡◌, ℕ, ◌+◌, ◌-◌, ◌<◌, ◌≤◌, leb, ltb, length, take, drop, Option, None, Some}
+use Rattle.std.proofs.Math.Option as places
+use Rattle.std.proofs.Math.Option.{none, some}
 use Rattle.rules.specs.declared.statements.Operand.{Operand}
 use Rattle.rules.specs.declared.statements.Operand.TheVariants.{Slot, Location, Gate, Basis, Value, Callee, CalleeK, CalleeM, Nothing}
-use Rattle.rules.specs.Basics.{chosen, up_to}
+use Rattle.rules.specs.declared.statements.Kind.{Kind}
+use Rattle.rules.specs.declared.words.Word as vocabulary
+use Rattle.rules.specs.Basics.{chosen}
 use Rattle.rules.specs.Program.{Scope}
 use Rattle.rules.specs.Words.{Text, space, newline, split, decimal, place}
-use Rattle.rules.specs.Table.{names, word_of}
+use Rattle.rules.specs.Table.{names}
+use Rattle.rules.specs.Kinds.{byte_of, text_of, gate_word}
 use Rattle.rules.specs.Unlisting.{count, words_for}
+use Rattle.reading.specs.declared.words.Token.{Token}
+use Rattle.reading.specs.declared.words.Token.TheVariants.{Word, Decimal}
 
 -- the characters from i up to j
 unfoldable pub part : Text → ℕ → ℕ → Text
@@ -29,45 +35,52 @@ LineEnd t i r = split newline (drop i t) ≡ part t i r ∷ chosen (ltb r (lengt
 abbrev pub InLine : Text → ℕ → ℕ → ℕ → Type 0
 InLine t at end stop = (at ≤ stop) × (end ≤ stop) × (stop ≤ end + 1) × (stop ≤ length t)
 
--- every word by number: the vocabulary and the names, then the decimals
-unfoldable pub spelling : ℕ → Text
-spelling w = chosen (ltb w 26) (word_of w) (decimal (w - 26))
+-- the word of a token
+abbrev pub spelling : Token → Text
+spelling (Word w) = text_of w
+spelling (Decimal n) = decimal n
 
--- the value r of a digit, 10 where the character is none
-unfoldable pub Digit : ℕ → ℕ → Type 0
-Digit c r = ((r < 10) × (c ≡ 0x30 + r)) ⊎ ((r ≡ 10) × ((d : ℕ) → d < 10 → c ≡ 0x30 + d → ⊥))
+-- the value of a digit, none where the character is no digit
+unfoldable pub Digit : ℕ → Option ℕ → Type 0
+Digit c None = (d : ℕ) → d < 10 → c ≡ 0x30 + d → ⊥
+Digit c (Some r) = (r < 10) × (c ≡ 0x30 + r)
 
 -- a place in a list of n words
-abbrev pub below : ℕ → ℕ → Option ℕ
-below r n = chosen (ltb r n) (some r) none
+abbrev pub below : Option ℕ → ℕ → places.Option ℕ
+below None n = none
+below (Some r) n = chosen (ltb r n) (some r) none
 
--- the number that a word is
-pub record Numeral (u : Text) (r : ℕ) : Type 0 where
-  pub placed : (n : ℕ) → n ≤ 1000 → place u (up_to 0 n decimal) ≡ below r n
-  pub most : r ≤ 1000
+-- the number below 1,000 that a word is
+unfoldable pub Numeral : Text → Option ℕ → Type 0
+Numeral u None = (n : ℕ) → n < 1000 → u ≡ decimal n → ⊥
+Numeral u (Some n) = (n < 1000) × (u ≡ decimal n)
 
--- the statement byte whose name a word is, 0 where it is none
-abbrev pub named : ℕ → Option ℕ
-named zero = none
-named (suc i) = some i
+-- where a statement's name stands among the names
+abbrev pub named : Option Kind → places.Option ℕ
+named None = none
+named (Some kind) = some (byte_of kind - 1)
 
-pub record Named (u : Text) (b : ℕ) : Type 0 where
-  pub placed : place u names ≡ named b
-  pub most : b ≤ 13
+-- the statement whose name a word is
+unfoldable pub Named : Text → Option Kind → Type 0
+Named u r = place u names ≡ named r
 
 -- the operand of a kind that a word is
-pub record Valued (kind : Operand) (u : Text) (r : ℕ) : Type 0 where
-  pub placed : (S : Scope) → count S kind ≤ 256 → place u (words_for S kind) ≡ below r (count S kind)
-  pub most : r ≤ 1000
+pub record Valued (operand : Operand) (u : Text) (r : Option ℕ) : Type 0 where
+  pub placed : (S : Scope) → count S operand ≤ 256 → place u (words_for S operand) ≡ below r (count S operand)
+  pub most : (v : ℕ) → r ≡ Some v → v < 1000
 
--- the number of the word for operand v of a kind
-unfoldable pub word_number : Operand → ℕ → ℕ
-word_number Slot v = 26 + v
-word_number Location v = 26 + v
-word_number Gate v = 9 + v
-word_number Basis v = 9 + v
-word_number Value v = 26 + v
-word_number Callee v = 26 + v
-word_number CalleeK v = 26 + v
-word_number CalleeM v = 26 + v
-word_number Nothing v = 26 + v
+-- the token for operand v: of the four gates their letters, else a decimal
+abbrev pub gate_token : Option vocabulary.Word → ℕ → Token
+gate_token None v = Decimal v
+gate_token (Some w) v = Word w
+
+abbrev pub token_for : Operand → ℕ → Token
+token_for Slot v = Decimal v
+token_for Location v = Decimal v
+token_for Gate v = gate_token (gate_word v) v
+token_for Basis v = gate_token (gate_word v) v
+token_for Value v = Decimal v
+token_for Callee v = Decimal v
+token_for CalleeK v = Decimal v
+token_for CalleeM v = Decimal v
+token_for Nothing v = Decimal v

@@ -1,18 +1,10 @@
 -- What a line of words is to a grammar: a line that is read whole is taken or not, an unfinished one begins a line or not. One function for both, so that
 -- the code reads words once. The first argument says that the line is whole.
-use Rattle.std.specs.Prelude.{Bool, true, false, List, [], ◌∷◌, ◌⊎◌, ◌≡◌, ℕ, zero, suc, ◌+◌, ◌<◌, ◌≤◌, ltb}
+use Rattle.std.specs.Prelude.{Bool, true, false, List, [], ◌∷◌, ◌⊎◌, ◌≡◌}
 use Rattle.std.proofs.Math.Option.{none, some}
-use Rattle.rules.specs.Basics.{chosen, up_to}
-use Rattle.rules.specs.Words.{Text, decimal}
-use Rattle.rules.specs.Grammar.{Grammar, ask, word, takes, starts, live}
-use Rattle.rules.specs.Unlisting.{Sofar, indent}
-use Rattle.reading.specs.Cursor.{part, words_from}
-use Rattle.reading.specs.declared.cursor.Reading.{Reading}
-use Rattle.reading.specs.declared.cursor.Reading.TheVariants.{Not, Begun, At}
-use Rattle.reading.specs.declared.cursor.Word.{Word}
-use Rattle.reading.specs.declared.cursor.Word.TheVariants.{Nothing, Unfinished, To}
-use Rattle.reading.specs.declared.cursor.Number.{Number}
-use Rattle.reading.specs.declared.cursor.Number.TheVariants.{Not as NoNumber, Begun as NumberBegun, Is}
+use Rattle.rules.specs.Basics.{chosen}
+use Rattle.rules.specs.Words.{Text}
+use Rattle.rules.specs.Grammar.{Grammar, takes, starts}
 
 -- no line, an unfinished line that begins one, or what the line is
 pub data Hearing (A : Type 0) : Type 0 where
@@ -29,66 +21,6 @@ module _ {A : Type 0} where
   hears_one whole [] ws = not
   hears_one whole (g ∷ gs) ws = elim (hears whole g ws) [ not ↦ hears_one whole gs ws | begun ↦ begun | took a ↦ took a ]
 
-  -- what a line is, read up to a position
-  abbrev pub onward : Reading → (ℕ → Hearing A) → Hearing A
-  onward Not k = not
-  onward Begun k = begun
-  onward (At p) k = k p
-
-  abbrev pub numbered : Number → (ℕ → ℕ → Hearing A) → Hearing A
-  numbered NoNumber k = not
-  numbered NumberBegun k = begun
-  numbered (Is v p) k = k v p
-
 -- a word that is not the last of an unfinished line: the line is whole, or words follow
 unfoldable pub Further : Bool → List Text → Type 0
 Further whole ws = (whole ≡ true) ⊎ ((v : Text) × (vs : List Text) × (ws ≡ v ∷ vs))
-
-module _ (t : Text) (at end stop : ℕ) where
-  -- the next word of the line
-  unfoldable pub NextWord : Word → Type 0
-  NextWord Nothing = words_from t at end ≡ []
-  NextWord Unfinished = (words_from t at end ≡ part t at end ∷ []) × (ltb end stop ≡ false) × (at ≤ end)
-  NextWord (To to) =
-      (words_from t at end ≡ part t at to ∷ words_from t (to + 1) end) × Further (ltb end stop) (words_from t (to + 1) end)
-      × (at ≤ to) × (to ≤ end) × (to < stop)
-
-  -- one word, behind which some line goes on or none does
-  unfoldable pub Expects : Text → Bool → Reading → Type 0
-  Expects w lives r =
-      (g : Grammar Sofar) → live g ≡ lives
-      → hears (ltb end stop) (word w g) (words_from t at end) ≡ onward r λ p. hears (ltb end stop) g (words_from t p end)
-
-  -- the indent of a depth
-  unfoldable pub Indents : ℕ → Bool → Reading → Type 0
-  Indents depth lives r =
-      (g : Grammar Sofar) → live g ≡ lives
-      → hears (ltb end stop) (indent depth g) (words_from t at end) ≡ onward r λ p. hears (ltb end stop) g (words_from t p end)
-
-  -- a decimal below a limit, behind each of which some line goes on
-  unfoldable pub Numbers : ℕ → Number → Type 0
-  Numbers limit r =
-      (k : ℕ → Grammar Sofar) → ((v : ℕ) → v < limit → live (k v) ≡ true)
-      → hears (ltb end stop) (ask none (up_to 0 limit decimal) k) (words_from t at end)
-      ≡ numbered r λ v p. hears (ltb end stop) (k v) (words_from t p end)
-
--- a position read up to lies in the line
-unfoldable pub Onto : ℕ → ℕ → Reading → Type 0
-Onto at stop Not = Unit
-Onto at stop Begun = Unit
-Onto at stop (At p) = (at ≤ p) × (p ≤ stop)
-
-unfoldable pub NumberOnto : ℕ → ℕ → ℕ → Number → Type 0
-NumberOnto at stop limit NoNumber = Unit
-NumberOnto at stop limit NumberBegun = Unit
-NumberOnto at stop limit (Is v p) = (v < limit) × (at ≤ p) × (p ≤ stop)
-
--- two empty words for each depth, then others
-abbrev pub blanks : ℕ → List Text → List Text
-blanks zero ws = ws
-blanks (suc d) ws = [] ∷ [] ∷ blanks d ws
-
-unfoldable pub Blank : Text → ℕ → ℕ → ℕ → Reading → Type 0
-Blank t at end depth Not = Unit
-Blank t at end depth Begun = Unit
-Blank t at end depth (At p) = words_from t at end ≡ blanks depth (words_from t p end)

@@ -1,229 +1,153 @@
-// Words of a line: where one ends, and which word it is. Every word of the grammar has a number: those of the vocabulary come first, then the decimals.
-ghost use Rattle.std.specs.Prelude.{false, ◌≡◌, ◌+◌, ◌≤◌, ◌<◌, eqb, get_or, length};
+// Words of a line: where one ends, and which word it is. Callers pass the characters of the word that stands there.
+ghost use Rattle.std.specs.Prelude.{◌≡◌, ◌≤◌, not, false, eqb, length};
 ghost use Rattle.rules.specs.Basics.{same_list};
 ghost use Rattle.rules.specs.Words.{opens};
+ghost use Rattle.std.specs.List.{prefix_len};
 ghost use Rattle.rules.specs.Listing.{silent};
-ghost use Rattle.reading.specs.Cursor.{part, LineEnd, WordEnd, spelling, Digit, Numeral, Named, Valued, word_number};
+ghost use Rattle.reading.specs.Cursor.{LineEnd, WordEnd, spelling, Digit, Numeral, Named, Valued, token_for};
 
-use rules::statements::Operand;
-use rules::words;
+use rules::statements::{Kind, Operand};
+use rules::words::Word;
 
-// The decimal of n is this many words after.
-pub const DECIMALS: usize = 26;
+// A word of the grammar: one of the vocabulary, or a decimal.
+#[derive(Clone, Copy, Debug, PartialEq, Eq)]
+pub enum Token {
+    Word(Word),
+    Decimal(u8),
+}
+
+impl Token {
+    // Its characters; those of a decimal are put into `room`.
+    fn letters(self, room: &mut [u8; 3]) -> &[u8]
+        ensures { result.now ≡ spelling self }
+    {
+        match self {
+            Token::Word(word) => word.letters(),
+            Token::Decimal(n) => {
+                *room = [0x30 + n / 100, 0x30 + n / 10 % 10, 0x30 + n % 10];
+                if n < 10 {
+                    &room[2..]
+                } else if n < 100 {
+                    &room[1..]
+                } else {
+                    room
+                }
+            }
+        }
+    }
+}
+
+// How many characters stand before the first separator.
+fn until(text: &[u8], separator: u8) -> usize
+    ensures { result ≡ prefix_len (λ c. not (eqb c separator)) text.now }
+{
+    text.iter().take_while(|c| **c != separator).count()
+}
 
 // Where the line at `at` ends: at its newline, or with the text.
 pub fn line_end(text: &[u8], at: usize) -> usize
     requires { at ≤ length text.now }
-    ensures lower_bound { (at ≤ result) × (result ≤ length text.now) }
+    ensures within { (at ≤ result) × (result ≤ length text.now) }
     ensures line_end { LineEnd text.now at result }
 {
-    let mut i = at;
-    while i < text.len() {
-        if text[i] == 0x0A {
-            return i;
-        }
-        i += 1;
-    }
-    i
+    at + until(&text[at..], 0x0A)
 }
 
 // Where the word at `at` ends: at the next space, or with the line.
 pub fn word_end(text: &[u8], at: usize, end: usize) -> usize
     requires { (at ≤ end) × (end ≤ length text.now) }
-    ensures lower_bound { (at ≤ result) × (result ≤ end) }
+    ensures within { (at ≤ result) × (result ≤ end) }
     ensures word_end { WordEnd text.now at end result }
 {
-    let mut i = at;
-    while i < end {
-        if text[i] == 0x20 {
-            return i;
-        }
-        i += 1;
-    }
-    i
+    at + until(&text[at..end], 0x20)
 }
 
-// How many characters word `w` has.
-fn characters(w: usize) -> usize
-    requires { w < 282 }
-    ensures value { result ≡ length (spelling w) }
-    ensures upper_bound { result ≤ 9 }
+// Whether what is written begins a word: its first characters, or all of them.
+pub fn begins(part: &[u8], token: Token) -> bool
+    ensures { result ≡ opens part.now (spelling token) }
 {
-    if w < DECIMALS {
-        return words::letters(w);
-    }
-    let n = w - DECIMALS;
-    if n < 10 {
-        return 1;
-    }
-    if n < 100 { 2 } else { 3 }
+    let mut room = [0; 3];
+    token.letters(&mut room).starts_with(part)
 }
 
-// Character `i` of word `w`.
-fn character(w: usize, i: usize) -> u8
-    requires { (w < 282) × (i < length (spelling w)) }
-    ensures { result ≡ get_or (spelling w) i 0 }
+// Whether a word is written.
+pub fn is_word(part: &[u8], token: Token) -> bool
+    ensures { result ≡ same_list eqb part.now (spelling token) }
 {
-    if w < DECIMALS {
-        return words::letter(w, i);
-    }
-    let n = w - DECIMALS;
-    if n < 10 {
-        return decimal_digit(n);
-    }
-    if n < 100 {
-        if i == 0 {
-            return decimal_digit(n / 10);
-        }
-        return decimal_digit(n % 10);
-    }
-    if i == 0 {
-        return decimal_digit(n / 100);
-    }
-    if i == 1 {
-        return decimal_digit(n / 10 % 10);
-    }
-    decimal_digit(n % 10)
+    let mut room = [0; 3];
+    part == token.letters(&mut room)
 }
 
-fn decimal_digit(d: usize) -> u8
-    requires { d < 10 }
-    ensures { result ≡ 0x30 + d }
-{
-    0x30 + d as u8
-}
-
-// Whether what is written begins word `w`: its first characters, or all of them.
-pub fn begins_word(text: &[u8], at: usize, to: usize, w: usize) -> bool
-    requires { (at ≤ to) × (to ≤ length text.now) × (w < 282) }
-    ensures { result ≡ opens (part text.now at to) (spelling w) }
-{
-    let n = to - at;
-    if characters(w) < n {
-        return false;
-    }
-    let mut i: usize = 0;
-    while i < n {
-        if text[at + i] != character(w, i) {
-            return false;
-        }
-        i += 1;
-    }
-    true
-}
-
-// Whether word `w` is written.
-pub fn is_word(text: &[u8], at: usize, to: usize, w: usize) -> bool
-    requires { (at ≤ to) × (to ≤ length text.now) × (w < 282) }
-    ensures { result ≡ same_list eqb (part text.now at to) (spelling w) }
-{
-    if to - at != characters(w) {
-        return false;
-    }
-    begins_word(text, at, to, w)
-}
-
-// A digit's value, 10 where it is none.
-fn digit(c: u8) -> usize
+// A digit's value.
+fn digit(c: u8) -> Option<usize>
     ensures { Digit c result }
 {
-    if c < 0x30 {
-        return 10;
+    match c {
+        0x30..=0x39 => Some((c - 0x30) as usize),
+        _ => None,
     }
-    if 0x39 < c {
-        return 10;
-    }
-    (c - 0x30) as usize
 }
 
-// The number that is written, in decimal without leading zeros; 1,000 where it is none below that.
-pub fn number(text: &[u8], at: usize, to: usize) -> usize
-    requires { (at ≤ to) × (to ≤ length text.now) }
-    ensures { Numeral (part text.now at to) result }
+// The number below 1,000 that is written, in decimal without leading zeros.
+pub fn number(part: &[u8]) -> Option<usize>
+    ensures { Numeral part.now result }
 {
-    let n = to - at;
-    if n == 0 {
-        return 1000;
+    if part.is_empty() || 3 < part.len() {
+        return None;
     }
-    if 3 < n {
-        return 1000;
+    if 1 < part.len() && part[0] == 0x30 {
+        return None; // a leading zero
     }
-    let first = digit(text[at]);
-    if first == 10 {
-        return 1000;
+    let mut n = 0;
+    for c in part {
+        n = 10 * n + digit(*c)?;
     }
-    if n == 1 {
-        return first;
-    }
-    if first == 0 {
-        return 1000; // a leading zero
-    }
-    let second = digit(text[at + 1]);
-    if second == 10 {
-        return 1000;
-    }
-    if n == 2 {
-        return first * 10 + second;
-    }
-    let third = digit(text[at + 2]);
-    if third == 10 {
-        return 1000;
-    }
-    first * 100 + second * 10 + third
+    Some(n)
 }
 
-// The statement byte whose name is written; 0 where it is none.
-pub fn kind_named(text: &[u8], at: usize, to: usize) -> u8
-    requires { (at ≤ to) × (to ≤ length text.now) }
-    ensures { Named (part text.now at to) result }
+// The statement kind whose name is written.
+pub fn kind_named(part: &[u8]) -> Option<Kind>
+    ensures { Named part.now result }
 {
-    let mut b: u8 = 1;
-    while b < 14 {
-        if is_word(text, at, to, words::NAMES + b as usize) {
-            return b;
+    for byte in 1..14 {
+        let kind = Kind::known(byte);
+        if is_word(part, Token::Word(Word::Name(kind))) {
+            return Some(kind);
         }
-        b += 1;
     }
-    0
+    None
 }
 
-// The number of the gate or basis that is written; 4 where it is none.
-fn gate(text: &[u8], at: usize, to: usize) -> usize
-    requires { (at ≤ to) × (to ≤ length text.now) }
-    ensures valued { Valued Operand.Gate (part text.now at to) result }
-    ensures valued_2 { Valued Operand.Basis (part text.now at to) result }
+// The number of the gate or basis that is written.
+fn gate(part: &[u8]) -> Option<usize>
+    ensures gates { Valued Operand.Gate part.now result }
+    ensures bases { Valued Operand.Basis part.now result }
 {
-    let mut g: usize = 0;
-    while g < 4 {
-        if is_word(text, at, to, words::GATES + g) {
-            return g;
+    for g in 0..4 {
+        if is_word(part, word_for(Operand::Gate, g)) {
+            return Some(g as usize);
         }
-        g += 1;
     }
-    4
+    None
 }
 
-// The operand of a kind that is written, which counts only where it is below how many there are.
-pub fn value(text: &[u8], at: usize, to: usize, kind: Operand) -> usize
-    requires { (at ≤ to) × (to ≤ length text.now) × (silent kind ≡ false) }
-    ensures { Valued kind (part text.now at to) result }
+// The operand that is written, which counts only where it is below how many there are.
+pub fn value(part: &[u8], operand: Operand) -> Option<usize>
+    requires { silent operand ≡ false }
+    ensures { Valued operand part.now result }
 {
-    match kind {
-        Operand::Gate => gate(text, at, to),
-        Operand::Basis => gate(text, at, to),
-        _ => number(text, at, to),
+    match operand {
+        Operand::Gate | Operand::Basis => gate(part),
+        _ => number(part),
     }
 }
 
-// The number of the word for operand `v` of a kind.
-pub fn word_for(kind: Operand, v: usize) -> usize
-    requires { (v < 256) × (silent kind ≡ false) }
-    ensures value { result ≡ word_number kind v }
-    ensures upper_bound { result < 282 }
+// The word for operand `v`. A gate above the four has none, and no line asks for it.
+pub fn word_for(operand: Operand, v: u8) -> Token
+    ensures { result ≡ token_for operand v }
 {
-    match kind {
-        Operand::Gate => words::GATES + v,
-        Operand::Basis => words::GATES + v,
-        _ => DECIMALS + v,
+    match operand {
+        Operand::Gate | Operand::Basis => Word::gate(v).map_or(Token::Decimal(v), Token::Word),
+        _ => Token::Decimal(v),
     }
 }

@@ -1,18 +1,16 @@
--- A character from 0x30 to 0x39 is a digit.
-use mathlib.Core.Logic.{inl, inr}
-use mathlib.Core.Path.{refl}
-use Rattle.reading.specs.Cursor.{Digit}
+-- The characters from 0x30 to 0x39 are the digits.
 use native.Mathlib.Omega.{arith}
+use Rattle.reading.specs.Cursor.{Digit}
 use Rattle.reading.proofs.words.digit.Goals as goal
 
-pub returns-then-c-lt48 : goal.returns-then-c-lt48
+pub returns-in-48-to-57 : goal.returns-in-48-to-57
 unfolding Digit
-returns-then-c-lt48 c = inr (refl, λ d h e. omega arith)
+returns-in-48-to-57 c = (omega arith, omega arith)
 
-pub returns-then-c-gt57 : goal.returns-then-c-gt57
+pub returns-in_default : goal.returns-in_default
 unfolding Digit
-returns-then-c-gt57 c = inr (refl, λ d h e. omega arith)
+returns-in_default c d h e = omega arith
 
-pub returns : goal.returns
+pub returns-in_default-2 : goal.returns-in_default-2
 unfolding Digit
-returns c = inl (omega arith, omega arith)
+returns-in_default-2 c d h e = omega arith

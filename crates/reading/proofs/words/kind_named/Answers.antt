@@ -1,20 +1,16 @@
-use mathlib.Core.Path.{◌≡◌, sym, ◌∙◌}
-use borrow.Author.Count.{below_more}
-use Rattle.reading.proofs.Placing.{name_named, no_name_named}
+use mathlib.Core.Path.{sym, ap, ◌∙◌}
 use native.Mathlib.Omega.{arith}
-use borrow.Author.Rules.{rules}
+use Prim.Native.Nat.{ℕ}
+use lib.Dec.{eqb}
+use Rattle.rules.specs.Basics.{same_list}
+use Rattle.rules.specs.Table.{name_of}
+use Rattle.reading.proofs.Placing.{name_named, no_name_named}
 use Rattle.reading.proofs.words.kind_named.Goals as goal
 
-pub loop-b-init : goal.loop-b-init
-loop-b-init c = (search rules, search rules, λ k h l. absurd (omega arith))
-
 pub returns-then-is_word : goal.returns-then-is_word
-returns-then-is_word c = name_named _ _ (omega arith) (omega arith) c.loop-b.invariant.2 (sym c.is_word.ensures ∙ c.if-is_word.true)
-
-pub loop-b-preserved : goal.loop-b-preserved
-loop-b-preserved c = (search rules, search rules, below_more _ _ c.loop-b.invariant.2 λ l. sym c.is_word.ensures ∙ c.if-is_word.false)
+returns-then-is_word c =
+    name_named _ _ _ c.known-kind.ensures c.loop-byte.auto.byte (omega arith) c.loop-byte.invariant
+    (ap (λ (b : ℕ). same_list eqb c.args.part.now (name_of b)) (sym c.known-kind.ensures) ∙ sym c.is_word.ensures ∙ c.if-is_word.true)
 
 pub returns : goal.returns
-returns c =
-    let b : c.loop-b.b ≡ 14 = omega arith in
-    no_name_named _ (rw b at c.loop-b.invariant.2)
+returns c = no_name_named _ (λ k h. c.loop-byte.invariant k (omega arith))

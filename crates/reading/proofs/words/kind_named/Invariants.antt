@@ -1,14 +1,8 @@
--- The search for a name: it is none of those of the bytes before b.
+-- It is none of the names of the bytes before this.
 use mathlib.Core.Bool.{false}
-use mathlib.Core.Path.{◌≡◌}
-use Prim.Native.Nat.{ℕ, ◌+◌, ◌-◌, ◌≤◌, ◌<◌}
-use lib.Dec.{eqb}
-use Rattle.rules.specs.Basics.{same_list}
-use Rattle.reading.specs.Cursor.{part, spelling}
+use Prim.Native.Nat.{ℕ, ◌≤◌, ◌<◌}
+use Rattle.reading.proofs.Placing.{NameIs}
 use Rattle.reading.proofs.words.kind_named.Given as goal
 
-abbrev pub invariant-loop-b : goal.invariant-loop-b
-invariant-loop-b l = (1 ≤ l.b) × (l.b ≤ 14) × ((k : ℕ) → k < l.b → 1 ≤ k → same_list eqb (part l.text l.at l.to) (spelling (12 + k)) ≡ false)
-
-abbrev pub decreases-loop-b : goal.decreases-loop-b
-decreases-loop-b l = 14 - l.b
+abbrev pub invariant-loop-byte : goal.invariant-loop-byte
+invariant-loop-byte l = (k : ℕ) → k < l.byte → 1 ≤ k → NameIs l.part k false

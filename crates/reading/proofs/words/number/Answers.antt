@@ -1,68 +1,41 @@
--- Each way out is by the characters read so far: no digit, a leading zero, too many, or the digits of the number.
-use Rattle.reading.proofs.Numerals.{digit_most, empty_numeral, long_numeral, other_numeral, zero_numeral, one_numeral, two_numeral, three_numeral}
+-- Each way out is by the characters read so far: none or too many, a leading zero, a character that is no digit, or the digits of the number.
+use mathlib.Core.Bool.{false≢true}
+use mathlib.Core.Logic.{inl, inr}
+use mathlib.Core.Path.{sym, subst, ◌∙◌}
+use borrow.Author.Tests.{eqb-true, eq-eqb}
 use native.Mathlib.Omega.{arith}
+use borrow.Author.Rules.{rules}
+use Rattle.reading.specs.Cursor.{Numeral}
+use Rattle.reading.proofs.Numerals.{sized_numeral, zero_numeral, other_numeral, made_more, made_small, made_numeral}
+use Rattle.reading.proofs.Numerals.{digit_small}
+use Rattle.reading.proofs.words.number.Goals.{else-part-gt1-via-then-part-gt1+else-part-eq48, else-part-gt1-via-else-part-gt1}
 use Rattle.reading.proofs.words.number.Goals as goal
 
-pub returns-then-n-eq0 : goal.returns-then-n-eq0
-returns-then-n-eq0 c = empty_numeral _ _ _ (omega arith) (omega arith) (omega arith)
+pub returns-then-is_empty : goal.returns-then-is_empty
+returns-then-is_empty c =
+    sized_numeral _ (λ some few. elim c.then-is_empty.either [
+      | inl none ↦ omega (arith, eqb-true _ 0 (sym c.is_empty.ensures ∙ none))
+      | inr long ↦ omega (arith, long.1)
+    ])
 
-pub returns-then-n-gt3 : goal.returns-then-n-gt3
-returns-then-n-gt3 c = long_numeral _ _ _ (omega arith) (omega arith) (omega arith)
+pub returns-then-part-eq48 : goal.returns-then-part-eq48
+returns-then-part-eq48 c = zero_numeral _ (omega arith) (search rules)
 
-pub returns-then-first-eq10 : goal.returns-then-first-eq10
-returns-then-first-eq10 c = other_numeral _ _ _ (omega arith) (omega arith) 0 _ _ (omega arith) (omega arith) c.digit-first.ensures (omega arith)
+pub overflow_mul-n : goal.overflow_mul-n
+overflow_mul-n c = omega (arith, made_small _ _ _ c.loop-c.invariant (omega arith))
 
-pub returns-then-n-eq1 : goal.returns-then-n-eq1
-returns-then-n-eq1 c = one_numeral _ _ _ (omega arith) (omega arith) _ (omega arith) c.digit-first.ensures c.if-first-eq10.false
+pub returns-in_err-n : goal.returns-in_err-n
+returns-in_err-n c = subst (Numeral c.args.part.now) (sym c.from_residual.ensures) (other_numeral _ _ c.loop-c-test.true c.in_err-n.ensures)
 
-pub returns-then-first-eq0 : goal.returns-then-first-eq0
-returns-then-first-eq0 c = zero_numeral _ _ _ (omega arith) (omega arith) _ (omega arith) c.digit-first.ensures (omega arith)
+pub overflow_add-n : goal.overflow_add-n
+overflow_add-n c = omega (arith, made_small _ _ _ c.loop-c.invariant (omega arith), digit_small _ _ c.in_ok-n.ensures)
 
-pub returns-then-second-eq10 : goal.returns-then-second-eq10
-returns-then-second-eq10 c = other_numeral _ _ _ (omega arith) (omega arith) 1 _ _ (omega arith) (omega arith) c.digit-second.ensures (omega arith)
-
-pub overflow_mul-result : goal.overflow_mul-result
-overflow_mul-result c = omega (arith, digit_most _ _ c.digit-first.ensures)
-
-pub overflow_add-result : goal.overflow_add-result
-overflow_add-result c =
-    let first = digit_most _ _ c.digit-first.ensures in
-    let second = digit_most _ _ c.digit-second.ensures in
-    omega arith
-
-pub returns-then-n-eq2 : goal.returns-then-n-eq2
-returns-then-n-eq2 c =
-    let first = c.digit-first.ensures in
-    let is_digit = c.if-first-eq10.false in
-    two_numeral _ _ _ (omega arith) (omega arith) _ _ first is_digit c.if-first-eq0.false
-    c.digit-second.ensures c.if-second-eq10.false (omega arith)
-
-pub returns-then-third-eq10 : goal.returns-then-third-eq10
-returns-then-third-eq10 c = other_numeral _ _ _ (omega arith) (omega arith) 2 _ _ (omega arith) (omega arith) c.digit-third.ensures (omega arith)
-
-pub overflow_mul-result-2 : goal.overflow_mul-result-2
-overflow_mul-result-2 c = omega (arith, digit_most _ _ c.digit-first.ensures)
-
-pub overflow_mul-result-3 : goal.overflow_mul-result-3
-overflow_mul-result-3 c = omega (arith, digit_most _ _ c.digit-second.ensures)
-
-pub overflow_add-result-2 : goal.overflow_add-result-2
-overflow_add-result-2 c =
-    let first = digit_most _ _ c.digit-first.ensures in
-    let second = digit_most _ _ c.digit-second.ensures in
-    omega arith
-
-pub overflow_add-result-3 : goal.overflow_add-result-3
-overflow_add-result-3 c =
-    let first = digit_most _ _ c.digit-first.ensures in
-    let second = digit_most _ _ c.digit-second.ensures in
-    omega (arith, digit_most _ _ c.digit-third.ensures)
+pub loop-c-preserved : goal.loop-c-preserved
+loop-c-preserved c = made_more _ _ _ _ c.loop-c.invariant c.loop-c-test.true c.in_ok-n.ensures
 
 pub returns : goal.returns
-returns c =
-    let first = c.digit-first.ensures in
-    let is_digit = c.if-first-eq10.false in
-    let not-zero = c.if-first-eq0.false in
-    let second = c.digit-second.ensures in
-    three_numeral _ _ _ (omega arith) (omega arith) _ _ first is_digit not-zero second c.if-second-eq10.false _ (omega arith)
-    c.digit-third.ensures c.if-third-eq10.false
+returns c = made_numeral _ _ _ c.loop-c.invariant (omega arith) (λ none. false≢true (sym c.if-is_empty.false ∙ c.is_empty.ensures ∙ eq-eqb _ 0 none))
+    (omega arith) (λ h z. elim c.else-part-gt1.branch [
+      | else-part-gt1-via-then-part-gt1+else-part-eq48 w ↦ w.if-part-eq48.false z
+      | else-part-gt1-via-else-part-gt1 w ↦ omega (arith, w.if-part-gt1.false)
+    ])

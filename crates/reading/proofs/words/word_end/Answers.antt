@@ -1,25 +1,26 @@
-use borrow.Author.Count.{below_more}
-use Rattle.reading.proofs.Splitting.{word_to_space, word_to_end}
 use native.Mathlib.Omega.{arith}
-use borrow.Author.Rules.{rules}
+use Rattle.rules.specs.Words.{space}
+use Rattle.reading.specs.Cursor.{part}
+use Rattle.reading.proofs.Splitting.{length_part, first_most, word_first}
 use Rattle.reading.proofs.words.word_end.Goals as goal
 
-pub loop-i-init : goal.loop-i-init
-loop-i-init c = (search rules, search rules, λ k h l e. omega arith)
-
-pub returns-then-text-i-eq32 : goal.returns-then-text-i-eq32
-returns-then-text-i-eq32 c =
-    record {
-      lower_bound = search rules;
-      word_end = word_to_space _ _ _ _ (omega arith) c.loop-i.invariant.2 (omega arith) (omega arith) (search rules);
-    }
-
-pub loop-i-preserved : goal.loop-i-preserved
-loop-i-preserved c = (search rules, search rules, below_more _ _ c.loop-i.invariant.2 λ h e. c.if-text-i-eq32.false e)
+pub overflow_add-result : goal.overflow_add-result
+unfolding part
+overflow_add-result c =
+    let text = c.args.text.now in
+    let at = c.args.at in
+    let end = c.args.end in
+    omega (arith, c.until.ensures, first_most space (part text at end), length_part text at end c.requires.0 c.requires.1)
 
 pub returns : goal.returns
+unfolding part
 returns c =
-    record {
-      lower_bound = search rules;
-      word_end = word_to_end _ _ _ _ (omega arith) c.loop-i.invariant.2 (omega arith) (omega arith);
+    let text = c.args.text.now in
+    let at = c.args.at in
+    let end = c.args.end in record {
+      within = (
+        omega arith,
+        omega (arith, c.until.ensures, first_most space (part text at end), length_part text at end c.requires.0 c.requires.1),
+      );
+      word_end = word_first text at end c.requires.0 c.requires.1 c.until.result c.until.ensures;
     }

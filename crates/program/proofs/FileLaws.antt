@@ -18,8 +18,9 @@ use Rattle.rules.specs.Syntax.{device, Function, Program, Block}
 use Rattle.rules.specs.Program.{Scope, Read, program_header, read_block, functions_at, read_program}
 use Rattle.program.specs.declared.functions.FunctionTable.{FunctionTable}
 use Rattle.program.specs.declared.functions.Functions.{Functions}
-use Rattle.program.specs.declared.ReadProgram.{ReadProgram}
+use Rattle.program.specs.declared.Parts.{Parts}
 use Rattle.program.specs.In.{offset_of}
+use Rattle.program.specs.Reading.{accepts, tree, Reading}
 use Rattle.program.specs.Reader.{block_past, Heads, Tabled, FunctionsAs, head_of, main_at, body_at, ReadAs}
 use Rattle.program.proofs.PastLaws.{next_ok, next_refused}
 use Rattle.program.proofs.FunctionLaws.{block_offset}
@@ -72,10 +73,10 @@ forget (ok a) = ok tt
 forget (refused r) = refused r
 
 -- a read that refuses says nothing of a table
-pub read_refused : (m : Check Program) (r : Result ReadProgram Refusal) (x : Refusal) → m ≡ refused x → said r ≡ refused x → ReadAs m r
+pub read_refused : (m : Check Program) (r : Result Parts Refusal) (x : Refusal) → m ≡ refused x → said r ≡ refused x → ReadAs m r
 unfolding ◌>>◌
 read_refused m (Ok t) x e a = ok_not_refused a
-read_refused m (Err y) x e a = record { answers = ap (λ (c : Check ReadProgram). forget c) a ∙ rw e; tables = λ p f. tt }
+read_refused m (Err y) x e a = record { answers = ap (λ (c : Check Parts). forget c) a ∙ rw e; tables = λ p f. tt }
 
 -- Main.
 module _ (s : List ℕ) (i : ℕ) (fs : List Function) where
@@ -126,7 +127,7 @@ module _ (s : List ℕ) (n : ℕ) where
   unfolding body_at ◌>>=◌
   body_refused x h = rw (next_refused (functions_at s n 6 []) x (sym h.answers))
 
-  pub body_made : (f : Functions) (r : Result ReadProgram Refusal) → FunctionsAs (functions_at s n 6 []) (Ok f)
+  pub body_made : (f : Functions) (r : Result Parts Refusal) → FunctionsAs (functions_at s n 6 []) (Ok f)
       → ((fs : List Function) → Heads fs f.table → ReadAs (main_at s f.next fs) r) → ReadAs (body_at s n) r
   unfolding body_at ◌>>=◌
   body_made f r h g = let (fs, ef, en) = next_ok (functions_at s n 6 []) f.next (sym h.answers) in go fs ef en (h.tables fs ef)
@@ -155,9 +156,22 @@ module _ (s : List ℕ) where
   unfolding ◌>>=◌
   file_refused x e = by_head s ∙ rw e
 
-  pub file_made : (h : ProgramHeader) (r : Result ReadProgram Refusal) → head_of s ≡ ok h → ReadAs (body_at s h.functions) r
+  pub file_made : (h : ProgramHeader) (r : Result Parts Refusal) → head_of s ≡ ok h → ReadAs (body_at s h.functions) r
       → ReadAs (read_program s) r
   unfolding ◌>>=◌
   file_made h r e b =
       let q : read_program s ≡ body_at s h.functions = by_head s ∙ rw e in
       subst (λ (m : Check Program). ReadAs m r) (sym q) b
+
+-- The file read: in one fact, and what an answer says of the definition.
+module _ (s : List ℕ) where
+  pub read_whole : (t : Parts) → ReadAs (read_program s) (Ok t) → Reading s t.functions t.main
+  unfolding ◌>>◌
+  read_whole t h = go (read_program s) refl h
+    where
+      go : (m : Check Program) → read_program s ≡ m → ReadAs m (Ok t) → Reading s t.functions t.main
+      go (ok p) e h = record { reads = ap accepts e; tabled = tabled p e (h.tables p refl) }
+        where
+          tabled : (p : Program) → read_program s ≡ ok p → Tabled p t.functions t.main → Tabled (tree s) t.functions t.main
+          tabled p e T = rw (tree, e) T
+      go (refused x) e h = ok_not_refused h.answers

@@ -6,3 +6,4 @@ pub mod BlockLaws
 pub mod FunctionLaws
 pub mod FileLaws
 pub mod In
+pub mod Whole

@@ -1,2 +1,4 @@
 pub mod In
+pub mod Heads
+pub mod Reading
 pub mod Reader

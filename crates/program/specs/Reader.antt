@@ -1,20 +1,20 @@
 -- What the reader's own answers mean.
-use Rattle.std.specs.Prelude.{List, [], ◌≡◌, ℕ, zero, suc, ◌+◌, ◌<◌, ◌≤◌, leb, ltb, eqb, get_or, length, replicate, set}
+use Rattle.std.specs.Prelude.{List, [], ◌≡◌, ℕ, zero, suc, ◌+◌, ◌≤◌, leb, ltb, eqb, length, replicate, set}
 use Rattle.std.specs.Prelude.{Result, Ok, Err, IfOk}
 use Rattle.answers.specs.Check.{Check, ok, ◌>>=◌, ◌>>◌, need}
 use Rattle.answers.specs.Said.{said, passed}
 use Rattle.answers.specs.declared.Refusal.{Refusal}
 use Rattle.rules.specs.declared.program.ProgramHeader.{ProgramHeader}
 use Rattle.rules.specs.Basics.{byte, word, has_mark}
-use Rattle.rules.specs.Syntax.{Side, device, parameter, Function, function, Program}
+use Rattle.rules.specs.Syntax.{Side, device, parameter, Function, Program}
 use Rattle.rules.specs.Table.{row_of, size, size_of}
 use Rattle.rules.specs.Program.{Scope, Read, program_header, function_header, known, operands, statement, read_block, functions_at}
-use Rattle.program.specs.declared.ReadProgram.{ReadProgram}
+use Rattle.program.specs.declared.Parts.{Parts}
 use Rattle.program.specs.declared.functions.Head.{Head}
 use Rattle.program.specs.declared.functions.FunctionTable.{FunctionTable}
 use Rattle.program.specs.declared.functions.Scope as code
 use Rattle.program.specs.declared.functions.Functions.{Functions}
-use Rattle.program.specs.In.{offset_of}
+pub use Rattle.program.specs.Heads.{no_head, entry, Heads, Tabled}
 
 -- the position after what was read
 unfoldable pub next_of : {A : Type 0} → Check (Read A) → Check ℕ
@@ -24,26 +24,6 @@ next_of m = m >>= λ r. ok r.next
 abbrev pub Between : ℕ → ℕ → Result ℕ Refusal → Type 0
 Between a e (Ok p) = (a ≤ p) × (p ≤ e)
 Between a e (Err r) = Unit
-
--- the head where there is no function, and the head of function g
-abbrev pub no_head : Head
-no_head = record { locations = 0; arguments = 0; body = 0 }
-
-abbrev pub entry : FunctionTable → ℕ → Head
-entry t g = get_or t.heads g no_head
-
--- the table's heads are those of the functions read so far
-pub record Heads (fs : List Function) (t : FunctionTable) : Type 0 where
-  pub count : t.count ≡ length fs
-  pub few : length fs ≤ 15
-  pub ks : (g : ℕ) → (entry t g).locations ≡ (function fs g).k
-  pub ms : (g : ℕ) → (entry t g).arguments ≡ (function fs g).m
-  pub bodies : (g : ℕ) → g < length fs → (entry t g).body ≡ offset_of (function fs g).body
-
--- what a read program's table and main's place say of it
-pub record Tabled (p : Program) (t : FunctionTable) (main : ℕ) : Type 0 where
-  pub heads : Heads p.functions t
-  pub main_at_lem : main ≡ offset_of p.main
 
 -- The parts of a read that the code has a function for.
 
@@ -133,6 +113,6 @@ body_at s n = do
   main_at s fs.next fs.it
 
 -- a read answers as the check does, and where that gives a program has its table
-pub record ReadAs (m : Check Program) (r : Result ReadProgram Refusal) : Type 0 where
+pub record ReadAs (m : Check Program) (r : Result Parts Refusal) : Type 0 where
   pub answers : passed r ≡ (m >> ok tt)
   pub tables : (p : Program) → m ≡ ok p → IfOk r (λ t. Tabled p t.functions t.main)

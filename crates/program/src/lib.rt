@@ -10,31 +10,41 @@ ghost use Rattle.rules.specs.Program.{read_program};
 ghost use Rattle.program.specs.Reader.{Heads, Tabled, ReadAs, head_of, main_at, body_at};
 
 use answers::{Fault, File, Refusal};
+use file::ReadProgram;
 use functions::{FunctionTable, Scope};
 use rules::bytes;
 use rules::program::ProgramHeader;
 
 pub mod blocks;
+pub mod file;
 pub mod functions;
 pub mod operands;
 
-// A program that reads: its functions, and the place of main's length word.
+// What a file that reads has: its functions, and the place of main's length word.
 #[derive(Clone, Copy)]
-pub struct ReadProgram {
-    pub functions: FunctionTable,
-    pub main: usize,
+struct Parts {
+    functions: FunctionTable,
+    main: usize,
 }
 
 // Reads the program of a job, 0 for none. (`then` is the `>>` of checks: a clause has another of its own.)
-pub fn read_program(s: &[u8], job: u8) -> Result<ReadProgram, Refusal>
+pub fn read_program(s: &[u8], job: u8) -> Result<ReadProgram<'_>, Refusal>
     ensures answers { passed result ≡ within (ProgramOf job) (read_program s.now then ok tt) }
     ensures tables { (p : Program) → read_program s.now ≡ ok p → IfOk result (λ r. Tabled p r.functions r.main) }
+    ensures bytes { IfOk result (λ r. r.bytes.now ≡ s.now) }
 {
-    read_file(s).map_err(|x| x.in_file(File::Program(job)))
+    match read_file(s) {
+        Ok(parts) => Ok(ReadProgram {
+            bytes: s,
+            functions: parts.functions,
+            main: parts.main,
+        }),
+        Err(x) => Err(x.in_file(File::Program(job))),
+    }
 }
 
 // The same, its refusals in a file that is not named yet.
-fn read_file(s: &[u8]) -> Result<ReadProgram, Refusal>
+fn read_file(s: &[u8]) -> Result<Parts, Refusal>
     ensures { ReadAs (read_program s.now) result }
 {
     let header = read_head(s)?;
@@ -61,7 +71,7 @@ fn read_head(s: &[u8]) -> Result<ProgramHeader, Refusal>
 }
 
 // What follows the header: so many functions, then main.
-fn read_bodies(s: &[u8], n: usize) -> Result<ReadProgram, Refusal>
+fn read_bodies(s: &[u8], n: usize) -> Result<Parts, Refusal>
     requires { (8 ≤ length s.now) × (length s.now ≤ 4096) × (n ≤ 15) }
     ensures { ReadAs (body_at s.now n) result }
 {
@@ -70,7 +80,7 @@ fn read_bodies(s: &[u8], n: usize) -> Result<ReadProgram, Refusal>
 }
 
 // Main's block, which ends the file.
-fn read_main(s: &[u8], at: usize, functions: &FunctionTable) -> Result<ReadProgram, Refusal>
+fn read_main(s: &[u8], at: usize, functions: &FunctionTable) -> Result<Parts, Refusal>
     requires { at ≤ length s.now }
     ensures { (fs : List Function) → Heads fs functions.now → ReadAs (main_at s.now at fs) result }
 {
@@ -82,7 +92,7 @@ fn read_main(s: &[u8], at: usize, functions: &FunctionTable) -> Result<ReadProgr
     if end != s.len() {
         return Err(Fault::NoRoom.at(end));
     }
-    Ok(ReadProgram {
+    Ok(Parts {
         functions: *functions,
         main: at,
     })

@@ -31,15 +31,29 @@ impl LocationSet {
     pub fn add(mut self, x: u8) -> Self
         ensures { (y : ℕ) → has result y ≡ (eqb y x || has self y) }
     {
-        self.words[word_of(x)] |= bit(x);
+        self.insert(x);
         self
     }
 
     pub fn remove(mut self, x: u8) -> Self
         ensures { (y : ℕ) → has result y ≡ (not (eqb y x) && has self y) }
     {
-        self.words[word_of(x)] &= !bit(x);
+        self.erase(x);
         self
+    }
+
+    // Adds x to the set where it stands: to copy a set out of a table and back takes longer than the rest.
+    pub fn insert(&mut self, x: u8)
+        ensures { (y : ℕ) → has self.new y ≡ (eqb y x || has self.old y) }
+    {
+        self.words[word_of(x)] |= bit(x);
+    }
+
+    // Removes x from the set where it stands.
+    pub fn erase(&mut self, x: u8)
+        ensures { (y : ℕ) → has self.new y ≡ (not (eqb y x) && has self.old y) }
+    {
+        self.words[word_of(x)] &= !bit(x);
     }
 
     // With x, where a test says so.

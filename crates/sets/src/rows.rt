@@ -30,7 +30,6 @@ impl Rows {
     pub fn join(&mut self, x: u8, y: u8)
         ensures { (u v : ℕ) → has (row_of self.new u) v ≡ ((eqb u x && eqb v y) || has (row_of self.old u) v) }
     {
-        let i = x as usize;
-        self.rows[i] = self.rows[i].add(y);
+        self.rows[x as usize].insert(y);
     }
 }

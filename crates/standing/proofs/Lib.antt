@@ -1,4 +1,4 @@
 pub mod Thirteen
-pub mod Counted
+pub mod Searching
 pub mod Lives
 pub mod Meaning

@@ -6,40 +6,41 @@ use mathlib.Core.List.{List, [], ◌∷◌, ◌++◌}
 use mathlib.Core.Option.{Option, none, some}
 use mathlib.Core.Path.{◌≡◌, refl, sym, ap, subst, ◌∙◌}
 use native.Mathlib.Omega.{arith}
+use Rattle.std.proofs.Math.Bool.{and-false, or-true}
 use Prim.Native.Nat.{ℕ, zero, suc, ◌+◌, ◌-◌, ◌<◌, ◌≤◌}
 use borrow.Author.Tests.{eqb-true, eqb-false, ne_eqb, lt-ltb}
 use lib.Dec.{eqb, ltb, leb}
 use lib.ListN.{get_or, length, drop, replicate}
-use lib.Seq.{get_or-append-add, get_or-drop, drop-drop}
+use lib.Seq.{get_or-drop, drop-drop}
 use Rattle.rules.specs.declared.statements.Operand.{Operand}
 use Rattle.rules.specs.declared.statements.Operand.TheVariants.{Slot, Location, Gate, Basis, Value, Callee, CalleeK, CalleeM, Nothing}
 use Rattle.rules.specs.Basics.{chosen, all, up_to}
 use Rattle.rules.specs.Syntax as syntax
 use Rattle.rules.specs.Program.{Scope}
-use Rattle.rules.specs.Table.{Meaning, simple, branches, loops, calls, Row, row_of, size, size_of, operand_at, names}
+use Rattle.rules.specs.Table.{Meaning, simple, branches, loops, calls, Row, row_of, size, size_of, operand_at, names, name_of}
 use Rattle.rules.specs.Words.{Text, opens}
 use Rattle.rules.specs.Names as named
 use Rattle.rules.specs.Listing.{spoken, silent, operands_in}
 use Rattle.rules.specs.Grammar.{Grammar, stop, dead, live, some_below}
 use Rattle.rules.specs.Unlisting.{count, words_for, Sofar, least, added, room, deeper, operand, others, operands, list, made, blocks_of, row_line, statement_line}
 use Rattle.rules.proofs.Basics.{length_up_to, get_d_up_to_zero}
-use Rattle.reading.specs.Cursor.{spelling, word_number}
+use Rattle.reading.specs.Cursor.{spelling, token_for}
 use Rattle.reading.specs.Hearing.{Hearing, not, begun, hears}
-use Rattle.standing.specs.Numbers.{block_bytes, room_of, fits_of, count_of, unwritten_of, call_lives}
+use Rattle.standing.specs.Numbers.{head_of, block_bytes, room_of, fits_of, count_of, unwritten_of, call_lives}
 use Rattle.standing.specs.Numbers.{rest_lives, row_lives, statement_lives, name_begins, operand_begins}
 use Rattle.standing.specs.Means.{Means}
 use Rattle.standing.specs.From.{from_operand}
 use Rattle.standing.specs.declared.state.Standing.{Standing}
 use Rattle.reading.proofs.Hearings.{hears_unfinished, live_word}
-use Rattle.standing.proofs.Counted.{either, never, some_same}
-use Rattle.reading.proofs.Spellings.{spelling_word, spelling_number}
-use Rattle.standing.proofs.Thirteen.{is_call, row_there, row_blocks, row_head, row_no_call, row_size, row_operand, row_from}
+use Rattle.standing.proofs.Searching.{some_same}
+use Rattle.reading.proofs.Spellings.{spelling_token}
+use Rattle.standing.proofs.Thirteen.{is_call, row_there, row_blocks, row_head, row_no_call, row_size, row_operand, row_from, row_name}
 
 -- one of so many passes a test that does not look at the number
 some_any : (n : ℕ) (b : Bool) → some_below n (λ i. b) ≡ (ltb 0 n && b)
 some_any zero b = refl
 some_any (suc n) true = sym (ap (λ (a : Bool). a && true) (lt-ltb 0 (suc n) (omega arith)))
-some_any (suc n) false = some_any n false ∙ never (ltb 0 n) ∙ sym (never (ltb 0 (suc n)))
+some_any (suc n) false = some_any n false ∙ and-false (ltb 0 n) ∙ sym (and-false (ltb 0 (suc n)))
 
 -- the same test of a list's elements, and of one element again and again
 all_same : {A : Type 0} (p q : A → Bool) (l : List A) → ((a : A) → p a ≡ q a) → all p l ≡ all q l
@@ -160,11 +161,9 @@ meaning_in (some r) = r.meaning
 
 module _ (c : Standing) (p : Sofar) (means : Means c p) where
   pub room_is : (n : ℕ) → room_of c n ≡ leb (least p + n) 4096
-  unfolding room_of
   room_is n = ap (λ (m : ℕ). leb (m + n) 4096) means.owed
 
   pub count_is : (o : Operand) → count_of c o ≡ count p.scope o
-  unfolding count_of
   count_is Slot = refl
   count_is Location = means.places
   count_is Gate = refl
@@ -190,12 +189,10 @@ module _ (c : Standing) (p : Sofar) (means : Means c p) where
   known f l = omega (arith, means.callees)
 
   pub unwritten_k : (f : ℕ) → f < c.callees → unwritten_of c CalleeK f ≡ (syntax.function p.scope.earlier f).k
-  unfolding unwritten_of
-  unwritten_k f l = means.heads.ks f (known f l)
+  unwritten_k f l = means.heads.locations f (known f l)
 
   pub unwritten_m : (f : ℕ) → f < c.callees → unwritten_of c CalleeM f ≡ (syntax.function p.scope.earlier f).m
-  unfolding unwritten_of
-  unwritten_m f l = means.heads.ms f (known f l)
+  unwritten_m f l = means.heads.arguments f (known f l)
 
   pub most_k : (f : ℕ) → f < c.callees → unwritten_of c CalleeK f ≤ 16
   most_k f l = omega (arith, unwritten_k f l, means.heads.most_k f (known f l))
@@ -209,7 +206,6 @@ module _ (c : Standing) (p : Sofar) (means : Means c p) where
 
   fits_is : (row : Row) (b : ℕ) → row_of b ≡ some row
       → fits_of c b ≡ (leb (least p + (size row + blocks_of row.meaning)) 4096 && deep_enough (blocks_of row.meaning))
-  unfolding fits_of
   fits_is row b e =
       let n : size_of b + block_bytes b ≡ size row + blocks_of row.meaning = cc (row_size b row e, row_blocks b row e) in
       ap (λ (t : Bool). t && (eqb (block_bytes b) 0 || ltb c.depth 8)) (room_is (size_of b + block_bytes b) ∙ ap (λ (k : ℕ). leb (least p + k) 4096) n)
@@ -250,15 +246,14 @@ module _ (c : Standing) (p : Sofar) (means : Means c p) where
   -- a call behind its callee
   call_lives_lem : (f : ℕ) → f < c.callees
       → live (made p calls (12 ∷ f ∷ (syntax.function p.scope.earlier f).k ∷ (syntax.function p.scope.earlier f).m ∷ [])) ≡ call_lives c f
-  unfolding call_lives
   call_lives_lem f l =
-      let K : (syntax.function p.scope.earlier f).k ≡ get_or c.ks f 0 = sym (means.heads.ks f (known f l)) in
-      let M : (syntax.function p.scope.earlier f).m ≡ get_or c.ms f 0 = sym (means.heads.ms f (known f l)) in
-      ap (λ (k : ℕ). calling k (syntax.function p.scope.earlier f).m) K ∙ ap (calling (get_or c.ks f 0)) M
-      ∙ room_lives p (4 + get_or c.ks f 0 + get_or c.ms f 0) (lists (get_or c.ks f 0) (get_or c.ms f 0))
-      ∙ ap (λ (t : Bool). t && live (lists (get_or c.ks f 0) (get_or c.ms f 0))) (sym (room_is (4 + get_or c.ks f 0 + get_or c.ms f 0)))
-      ∙ ap (λ (t : Bool). room_of c (4 + get_or c.ks f 0 + get_or c.ms f 0) && t) (lists_live (get_or c.ks f 0) (get_or c.ms f 0))
-      ∙ ap (λ (n : ℕ). room_of c (4 + get_or c.ks f 0 + get_or c.ms f 0) && (eqb (get_or c.ks f 0) 0 || ltb 0 n)) (sym means.places)
+      let K : (syntax.function p.scope.earlier f).k ≡ (head_of c f).locations = sym (means.heads.locations f (known f l)) in
+      let M : (syntax.function p.scope.earlier f).m ≡ (head_of c f).arguments = sym (means.heads.arguments f (known f l)) in
+      ap (λ (k : ℕ). calling k (syntax.function p.scope.earlier f).m) K ∙ ap (calling ((head_of c f).locations)) M
+      ∙ room_lives p (4 + (head_of c f).locations + (head_of c f).arguments) (lists ((head_of c f).locations) ((head_of c f).arguments))
+      ∙ ap (λ (t : Bool). t && live (lists ((head_of c f).locations) ((head_of c f).arguments))) (sym (room_is (4 + (head_of c f).locations + (head_of c f).arguments)))
+      ∙ ap (λ (t : Bool). room_of c (4 + (head_of c f).locations + (head_of c f).arguments) && t) (lists_live ((head_of c f).locations) ((head_of c f).arguments))
+      ∙ ap (λ (n : ℕ). room_of c (4 + (head_of c f).locations + (head_of c f).arguments) && (eqb ((head_of c f).locations) 0 || ltb 0 n)) (sym means.places)
     where
       calling : ℕ → ℕ → Bool
       calling k m = live (made p calls (12 ∷ f ∷ k ∷ m ∷ []))
@@ -273,12 +268,11 @@ module _ (c : Standing) (p : Sofar) (means : Means c p) where
       lists_live k m =
           list_lives p.scope named.at Location k (slots k m) refl λ ls.
           list_lives p.scope named.with Slot m (λ xs. stop (some (added p ((12 ∷ f ∷ k ∷ m ∷ []) ++ (ls ++ xs))))) refl (λ xs. refl)
-          ∙ either (eqb m 0)
+          ∙ or-true (eqb m 0)
 
   -- behind operand number n of a statement that is no call
   rest_is : (row : Row) (b : ℕ) → row_of b ≡ some row → eqb b 12 ≡ false → (n f : ℕ)
       → rest_lives c b (n + 1) f ≡ all (worded p.scope) (drop n row.operands)
-  unfolding rest_lives
   rest_is row b e h n f =
       ap (λ (t : Bool). all test (up_to (n + 1) (size_of b - (n + 1)) (operand_at b)) && chosen t (call_lives c f) true) h
       ∙ both (all test (up_to (n + 1) (size_of b - (n + 1)) (operand_at b)))
@@ -296,7 +290,6 @@ module _ (c : Standing) (p : Sofar) (means : Means c p) where
   call_rest : (row : Row) → row_of 12 ≡ some row → (o : Operand) (os : List Operand) → row.operands ≡ o ∷ os
       → (v : ℕ) → v < count p.scope o
       → live (others p.scope v os λ bs. made p row.meaning (12 ∷ v ∷ bs)) ≡ rest_lives c 12 2 v
-  unfolding rest_lives
   call_rest row e o os q v l =
       let r : Callee ∷ CalleeK ∷ CalleeM ∷ [] ≡ o ∷ os = ap operands_in e ∙ q in
       let first : o ≡ Callee = cc in
@@ -354,8 +347,8 @@ module _ (c : Standing) (p : Sofar) (means : Means c p) where
   unfolding name_begins
   name_begins_lem u =
       hears_unfinished none names (λ i. row_line p (suc i) (row_of (suc i))) u ∙ sym (ap (λ (t : Bool). chosen t begun not)
-      (some_same 13 (λ i. opens u (spelling (13 + i)) && row_lives c (suc i)) (λ i. opens u (get_or names i []) && live (row_line p (suc i) (row_of (suc i))))
-      λ i l. ap (λ (w : Text). opens u w && row_lives c (suc i)) (spelling_word (13 + i) (omega arith) ∙ get_or-append-add named.vocabulary names i [])
+      (some_same 13 (λ i. opens u (name_of (suc i)) && row_lives c (suc i)) (λ i. opens u (get_or names i []) && live (row_line p (suc i) (row_of (suc i))))
+      λ i l. ap (λ (w : Text). opens u w && row_lives c (suc i)) (sym (row_name i))
       ∙ ap (λ (t : Bool). opens u (get_or names i []) && t) (row_lives_lem (suc i) (omega arith) (omega arith))))
 
   -- part of an operand's word, where some line goes on behind it as the numbers say
@@ -367,11 +360,11 @@ module _ (c : Standing) (p : Sofar) (means : Means c p) where
       operand_hears p.scope g o k u s ∙ sym (ap (λ (t : Bool). chosen t begun not)
       (ap looked a ∙ ap (λ (m : ℕ). some_below m (offered o)) (count_is o)
       ∙ some_same (count p.scope o) (offered o) (λ v. opens u (spoken o v) && live (k v))
-      λ v l. ap (λ (w : Text). opens u w && rest_lives c b (n + 1) (chosen (eqb n 1) v f)) (spelling_number o v s p.scope l (count_most o))
+      λ v l. ap (λ (w : Text). opens u w && rest_lives c b (n + 1) (chosen (eqb n 1) v f)) (spelling_token o v s p.scope l)
       ∙ ap (λ (t : Bool). opens u (spoken o v) && t) (sym (h v l))))
     where
       offered : Operand → ℕ → Bool
-      offered o v = opens u (spelling (word_number o v)) && rest_lives c b (n + 1) (chosen (eqb n 1) v f)
+      offered o v = opens u (spelling (token_for o v)) && rest_lives c b (n + 1) (chosen (eqb n 1) v f)
 
       looked : Operand → Bool
       looked o = some_below (count_of c o) (offered o)

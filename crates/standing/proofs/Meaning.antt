@@ -10,44 +10,29 @@ use native.Mathlib.Omega.{arith}
 use Prim.Native.Nat.{ℕ, suc, ◌+◌, ◌-◌, ◌<◌, ◌≤◌}
 use lib.ListN.{get_or, set, length, length-append, length-set, get_or-append}
 use lib.Seq.{sets, set_comm, set-set, get_or-set_same, get_or-set_other, get_or-append_seam}
-use Rattle.listing.proofs.Putting.{sets_append}
 use Rattle.rules.specs.Basics.{chosen}
 use Rattle.rules.specs.Syntax.{Function, function, block, done}
 use Rattle.rules.specs.Unlisting.{Opened, Sofar, sized, owed, pending, least, added, opened, function_begun, main_begun, program_begun, else_begun}
+use Rattle.standing.specs.declared.state.Head.{Head}
+use Rattle.standing.specs.declared.state.Open.{Open}
+use Rattle.standing.specs.declared.state.Part.{Part}
+use Rattle.standing.specs.declared.state.Part.TheVariants.{Before, Functions, Main}
 use Rattle.standing.specs.declared.state.Standing.{Standing}
-use Rattle.standing.specs.Numbers.{Small, fresh_of, begun_of, added_of, opened_of, closed_of, turned_of, function_of, main_of}
+use Rattle.standing.specs.Numbers.{no_head, no_block, head_of, places_of, fresh_of, begun_of, added_of, opened_of, closed_of, turned_of, function_of, main_of}
 use Rattle.standing.specs.Means.{outside, laid, Heads, Blocks, After, Means}
 
--- Numbers that mean a program are small.
-pub means_small : (c : Standing) (p : Sofar) → Means c p → Small c
-means_small c p m = (m.fits, m.deep, m.most, omega (arith, m.callees, m.heads.few))
-
 -- Lines inside functions and main change only what is known of blocks and bytes.
-abbrev inside : Standing → ℕ → List Bool → List ℕ → ℕ → ℕ → Standing
-inside c depth dues words used due = record {
-  started = c.started;
-  in_main = c.in_main;
-  functions = c.functions;
-  ks = c.ks;
-  ms = c.ms;
-  places = c.places;
-  callees = c.callees;
-  depth = depth;
-  dues = dues;
-  words = words;
-  used = used;
-  owed = due;
-}
+abbrev inside : Standing → ℕ → List Open → ℕ → ℕ → Standing
+inside c depth blocks used due = record c { depth = depth; blocks = blocks; used = used; owed = due }
 
 abbrev within : Sofar → List Opened → List ℕ → Sofar
 within p bs bytes = record { scope = p.scope; after = p.after; open_blocks = bs; bytes = bytes }
 
--- the heads of functions where the numbers kept for them are the same
-heads_kept : (c d : Standing) (fs : List Function) → ((g : ℕ) → g < length fs → get_or d.ks g 0 ≡ get_or c.ks g 0)
-    → ((g : ℕ) → g < length fs → get_or d.ms g 0 ≡ get_or c.ms g 0) → Heads c fs → Heads d fs
-heads_kept c d fs k m h = record {
-  ks = λ g l. k g l ∙ h.ks g l;
-  ms = λ g l. m g l ∙ h.ms g l;
+-- the heads of functions where those kept are the same
+heads_kept : (c d : Standing) (fs : List Function) → ((g : ℕ) → g < length fs → head_of d g ≡ head_of c g) → Heads c fs → Heads d fs
+heads_kept c d fs k h = record {
+  locations = λ g l. ap (λ (x : Head). x.locations) (k g l) ∙ h.locations g l;
+  arguments = λ g l. ap (λ (x : Head). x.arguments) (k g l) ∙ h.arguments g l;
   few = h.few;
   most_k = h.most_k;
   most_m = h.most_m;
@@ -55,7 +40,7 @@ heads_kept c d fs k m h = record {
 
 -- one function more
 module _ (c : Standing) (fs : List Function) (f : Function) (few : length fs < 15) (k : f.k ≤ 16) (m : f.m ≤ 8) (n : c.functions ≡ length fs)
-    (long : (length c.ks ≡ 16) × (length c.ms ≡ 16)) (h : Heads c fs) where
+    (long : length c.heads ≡ 16) (h : Heads c fs) where
   more_same : (g : ℕ) → g < length fs → function (fs ++ (f ∷ [])) g ≡ function fs g
   more_same g l = get_or-append fs (f ∷ []) (record { k = 0; m = 0; body = block 0 done }) g l
 
@@ -71,21 +56,25 @@ module _ (c : Standing) (fs : List Function) (f : Function) (few : length fs < 1
       go (inl e) = new g e
       go (inr e) = old g e
 
+  abbrev head : Head
+  head = record { locations = f.k; arguments = f.m }
+
+  pub last_head : head_of (function_of c f.k f.m) c.functions ≡ head
+  last_head = get_or-set_same c.heads c.functions head no_head (omega (arith, long))
+
   heads_old : Heads (function_of c f.k f.m) fs
-  heads_old =
-      heads_kept c (function_of c f.k f.m) fs (λ g l. get_or-set_other c.ks c.functions g f.k 0 (λ e. omega arith))
-      (λ g l. get_or-set_other c.ms c.functions g f.m 0 (λ e. omega arith)) h
+  heads_old = heads_kept c (function_of c f.k f.m) fs (λ g l. get_or-set_other c.heads c.functions g head no_head (λ e. omega arith)) h
 
   heads_more : Heads (function_of c f.k f.m) (fs ++ (f ∷ []))
   heads_more = record {
-    ks = more_by {P = λ (g : ℕ). get_or (set c.ks c.functions f.k) g 0 ≡ (function (fs ++ (f ∷ [])) g).k}
-        (λ g l. heads_old.ks g l ∙ ap (λ (x : Function). x.k) (sym (more_same g l)))
-        (λ g e. ap (λ (i : ℕ). get_or (set c.ks c.functions f.k) i 0) (e ∙ sym n)
-        ∙ get_or-set_same c.ks c.functions f.k 0 (omega (arith, long.0)) ∙ ap (λ (x : Function). x.k) (sym (more_last g e)));
-    ms = more_by {P = λ (g : ℕ). get_or (set c.ms c.functions f.m) g 0 ≡ (function (fs ++ (f ∷ [])) g).m}
-        (λ g l. heads_old.ms g l ∙ ap (λ (x : Function). x.m) (sym (more_same g l)))
-        (λ g e. ap (λ (i : ℕ). get_or (set c.ms c.functions f.m) i 0) (e ∙ sym n)
-        ∙ get_or-set_same c.ms c.functions f.m 0 (omega (arith, long.1)) ∙ ap (λ (x : Function). x.m) (sym (more_last g e)));
+    locations = more_by {P = λ (g : ℕ). (head_of (function_of c f.k f.m) g).locations ≡ (function (fs ++ (f ∷ [])) g).k}
+        (λ g l. heads_old.locations g l ∙ ap (λ (x : Function). x.k) (sym (more_same g l)))
+        (λ g e. ap (λ (i : ℕ). (head_of (function_of c f.k f.m) i).locations) (e ∙ sym n) ∙ ap (λ (x : Head). x.locations) last_head
+        ∙ ap (λ (x : Function). x.k) (sym (more_last g e)));
+    arguments = more_by {P = λ (g : ℕ). (head_of (function_of c f.k f.m) g).arguments ≡ (function (fs ++ (f ∷ [])) g).m}
+        (λ g l. heads_old.arguments g l ∙ ap (λ (x : Function). x.m) (sym (more_same g l)))
+        (λ g e. ap (λ (i : ℕ). (head_of (function_of c f.k f.m) i).arguments) (e ∙ sym n) ∙ ap (λ (x : Head). x.arguments) last_head
+        ∙ ap (λ (x : Function). x.m) (sym (more_last g e)));
     few = omega (arith, length-append fs (f ∷ []));
     most_k = more_by {P = λ (g : ℕ). (function (fs ++ (f ∷ [])) g).k ≤ 16}
         (λ g l. rw (more_same g l) (h.most_k g l)) (λ g e. rw (more_last g e) k);
@@ -93,16 +82,23 @@ module _ (c : Standing) (fs : List Function) (f : Function) (few : length fs < 1
         (λ g l. rw (more_same g l) (h.most_m g l)) (λ g e. rw (more_last g e) m);
   }
 
+-- the function being read names its own locations
+function_places : (c : Standing) (k m : ℕ) → c.part ≡ Functions → head_of (function_of c k m) c.functions ≡ record { locations = k; arguments = m }
+    → places_of (function_of c k m) ≡ k
+function_places c k m e h =
+    ap (λ (x : Part). elim x [
+      | Before ↦ (head_of (function_of c k m) c.functions).locations
+      | Functions ↦ (head_of (function_of c k m) c.functions).locations
+      | Main ↦ 256
+    ]) e
+    ∙ ap (λ (x : Head). x.locations) h
+
 -- open blocks, likewise
-blocks_kept : (c d : Standing) (bs : List Opened) → ((i : ℕ) → i < length bs → get_or d.dues i false ≡ get_or c.dues i false)
-    → ((i : ℕ) → i < length bs → get_or d.words i 0 ≡ get_or c.words i 0) → Blocks c bs → Blocks d bs
+blocks_kept : (c d : Standing) (bs : List Opened) → ((i : ℕ) → i < length bs → get_or d.blocks i no_block ≡ get_or c.blocks i no_block)
+    → Blocks c bs → Blocks d bs
 unfolding Blocks
-blocks_kept c d [] k m h = tt
-blocks_kept c d (b ∷ bs) k m h = (
-  k (length bs) (omega arith) ∙ h.0,
-  m (length bs) (omega arith) ∙ h.1,
-  blocks_kept c d bs (λ i l. k i (omega arith)) (λ i l. m i (omega arith)) h.2,
-)
+blocks_kept c d [] k h = tt
+blocks_kept c d (b ∷ bs) k h = (k (length bs) (omega arith) ∙ h.0, blocks_kept c d bs (λ i l. k i (omega arith)) h.1)
 
 -- how many bytes are laid down
 outside_length : (b : Opened) (bs : List Opened) → length (outside (b ∷ bs)) ≡ length (outside bs) + length b.before + 2
@@ -119,8 +115,8 @@ outside_owed (b ∷ bs) = omega (arith, outside_owed bs, outside_length b bs)
 -- no function, and no block
 heads_none : (c : Standing) → Heads c []
 heads_none c = record {
-  ks = λ g l. absurd (omega arith);
-  ms = λ g l. absurd (omega arith);
+  locations = λ g l. absurd (omega arith);
+  arguments = λ g l. absurd (omega arith);
   few = omega arith;
   most_k = λ g l. absurd (omega arith);
   most_m = λ g l. absurd (omega arith);
@@ -129,7 +125,6 @@ heads_none c = record {
 pub means_begun : Means (begun_of fresh_of) program_begun
 unfolding Blocks After
 means_begun = record {
-  started = refl;
   places = refl;
   most = omega arith;
   callees = refl;
@@ -141,29 +136,26 @@ means_begun = record {
   used = refl;
   owed = refl;
   fits = omega arith;
-  heads_long = (refl, refl);
-  blocks_long = (refl, refl);
+  heads_long = refl;
+  blocks_long = refl;
 }
 
 module _ (c : Standing) (p : Sofar) where
-  after_inside : (depth : ℕ) (dues : List Bool) (words : List ℕ) (used due : ℕ) (a : Option (List Function)) → After c a
-      → After (inside c depth dues words used due) a
+  after_inside : (depth : ℕ) (blocks : List Open) (used due : ℕ) (a : Option (List Function)) → After c a → After (inside c depth blocks used due) a
   unfolding After
-  after_inside depth dues words used due none h = h
-  after_inside depth dues words used due (some fs) h = (h.0, h.1, heads_kept c (inside c depth dues words used due) fs (λ g l. refl) (λ g l. refl) h.2)
+  after_inside depth blocks used due none h = h
+  after_inside depth blocks used due (some fs) h = (h.0, h.1, heads_kept c (inside c depth blocks used due) fs (λ g l. refl) h.2)
 
   -- what a line inside changes
-  means_inside : (depth : ℕ) (dues : List Bool) (words : List ℕ) (used due : ℕ) (bs : List Opened) (bytes : List ℕ) → Means c p
-      → depth ≡ length bs → depth ≤ 8 → Blocks (inside c depth dues words used due) bs → used ≡ 6 + length (laid (within p bs bytes))
-      → used + due ≡ least (within p bs bytes) → used + due ≤ 4096 → length dues ≡ 8 → length words ≡ 8
-      → Means (inside c depth dues words used due) (within p bs bytes)
-  means_inside depth dues words used due bs bytes m e l h u o f d w = record {
-    started = m.started;
+  means_inside : (depth : ℕ) (blocks : List Open) (used due : ℕ) (bs : List Opened) (bytes : List ℕ) → Means c p
+      → depth ≡ length bs → depth ≤ 8 → Blocks (inside c depth blocks used due) bs → used ≡ 6 + length (laid (within p bs bytes))
+      → used + due ≡ least (within p bs bytes) → used + due ≤ 4096 → length blocks ≡ 8 → Means (inside c depth blocks used due) (within p bs bytes)
+  means_inside depth blocks used due bs bytes m e l h u o f w = record {
     places = m.places;
     most = m.most;
     callees = m.callees;
-    heads = heads_kept c (inside c depth dues words used due) p.scope.earlier (λ g l. refl) (λ g l. refl) m.heads;
-    after = after_inside depth dues words used due p.after m.after;
+    heads = heads_kept c (inside c depth blocks used due) p.scope.earlier (λ g l. refl) m.heads;
+    after = after_inside depth blocks used due p.after m.after;
     depth = e;
     deep = l;
     blocks = h;
@@ -171,7 +163,7 @@ module _ (c : Standing) (p : Sofar) where
     owed = o;
     fits = f;
     heads_long = m.heads_long;
-    blocks_long = (d, w);
+    blocks_long = w;
   }
 
   pub means_added : (bs : List ℕ) (n : ℕ) → Means c p → length bs ≡ n → c.used + c.owed + n ≤ 4096 → Means (added_of c n) (added p bs)
@@ -181,9 +173,9 @@ module _ (c : Standing) (p : Sofar) where
       length-append (outside p.open_blocks) p.bytes in
       let k : length (outside p.open_blocks ++ (p.bytes ++ bs)) ≡ length (outside p.open_blocks) + length (p.bytes ++ bs) =
       length-append (outside p.open_blocks) (p.bytes ++ bs) in
-      means_inside c.depth c.dues c.words (c.used + n) c.owed p.open_blocks (p.bytes ++ bs) m m.depth m.deep
-      (blocks_kept c (added_of c n) p.open_blocks (λ i l. refl) (λ i l. refl) m.blocks)
-      (omega (arith, m.used)) (omega (arith, m.owed)) (omega arith) m.blocks_long.0 m.blocks_long.1
+      means_inside c.depth c.blocks (c.used + n) c.owed p.open_blocks (p.bytes ++ bs) m m.depth m.deep
+      (blocks_kept c (added_of c n) p.open_blocks (λ i l. refl) m.blocks)
+      (omega (arith, m.used)) (omega (arith, m.owed)) (omega arith) m.blocks_long
 
   pub means_opened : (bs : List ℕ) (n : ℕ) (due : Bool) → Means c p → length bs ≡ n → c.depth < 8
       → c.used + c.owed + n + (2 + chosen due 2 0) ≤ 4096 → Means (opened_of c n due) (opened p due bs)
@@ -196,16 +188,13 @@ module _ (c : Standing) (p : Sofar) where
       let k : length (outside os ++ (p.bytes ++ bs)) ≡ length (outside os) + length (p.bytes ++ bs) = laid_length os (p.bytes ++ bs) in
       let o : length (outside (b ∷ os)) ≡ length (outside os) + length (p.bytes ++ bs) + 2 = outside_length b os in
       let z : length (outside (b ∷ os) ++ []) ≡ length (outside (b ∷ os)) + 0 = laid_length (b ∷ os) [] in
-      means_inside (c.depth + 1) (set c.dues c.depth due) (set c.words c.depth (c.used + n)) (c.used + n + 2)
-      (c.owed + chosen due 2 0) (b ∷ os) [] m (omega (arith, m.depth)) (omega arith) (
-        rw (sym m.depth) (get_or-set_same c.dues c.depth due false (omega (arith, m.blocks_long.0))),
-        rw (sym m.depth) (get_or-set_same c.words c.depth (c.used + n) 0 (omega (arith, m.blocks_long.1)) ∙ omega (arith, m.used)),
-        blocks_kept c (opened_of c n due) os
-            (λ i l. get_or-set_other c.dues c.depth i due false (λ q. omega (arith, m.depth)))
-            (λ i l. get_or-set_other c.words c.depth i (c.used + n) 0 (λ q. omega (arith, m.depth))) m.blocks,
+      let new : Open = record { due = due; word = c.used + n } in
+      let place : c.used + n ≡ 6 + length (outside os ++ (p.bytes ++ bs)) = omega (arith, m.used) in
+      means_inside (c.depth + 1) (set c.blocks c.depth new) (c.used + n + 2) (c.owed + chosen due 2 0) (b ∷ os) [] m (omega (arith, m.depth)) (omega arith) (
+        rw (sym m.depth) (get_or-set_same c.blocks c.depth new no_block (omega (arith, m.blocks_long)) ∙ ap (λ (x : ℕ). record { due = due; word = x }) place),
+        blocks_kept c (opened_of c n due) os (λ i l. get_or-set_other c.blocks c.depth i new no_block (λ q. omega (arith, m.depth))) m.blocks,
       )
-      (omega (arith, m.used)) (omega (arith, m.owed)) (omega arith)
-      (length-set c.dues c.depth due ∙ m.blocks_long.0) (length-set c.words c.depth (c.used + n) ∙ m.blocks_long.1)
+      (omega (arith, m.used)) (omega (arith, m.owed)) (omega arith) (length-set c.blocks c.depth new ∙ m.blocks_long)
 
   -- the innermost block's numbers
   pub block_used : (b : Opened) (bs : List Opened) → Means c p → p.open_blocks ≡ b ∷ bs
@@ -234,9 +223,9 @@ module _ (c : Standing) (p : Sofar) where
       block_owed b bs m e in
       let z : chosen {A = ℕ} b.due 2 0 ≡ 0 = ap (λ (x : Bool). chosen x 2 0) f in
       let a : length (b.before ++ sized p.bytes) ≡ length b.before + length (sized p.bytes) = length-append b.before (sized p.bytes) in
-      means_inside (c.depth - 1) c.dues c.words c.used c.owed bs (b.before ++ sized p.bytes) m (omega arith) (omega (arith, m.deep))
-      (blocks_kept c (closed_of c) bs (λ i l. refl) (λ i l. refl) (block_blocks b bs m e).2)
-      (omega (arith, laid_length bs (b.before ++ sized p.bytes))) (omega arith) m.fits m.blocks_long.0 m.blocks_long.1
+      means_inside (c.depth - 1) c.blocks c.used c.owed bs (b.before ++ sized p.bytes) m (omega arith) (omega (arith, m.deep))
+      (blocks_kept c (closed_of c) bs (λ i l. refl) (block_blocks b bs m e).1)
+      (omega (arith, laid_length bs (b.before ++ sized p.bytes))) (omega arith) m.fits m.blocks_long
 
   pub means_turned : (b : Opened) (bs : List Opened) → Means c p → p.open_blocks ≡ b ∷ bs → b.due ≡ true
       → Means (turned_of c) (else_begun p.scope p.after b bs p.bytes)
@@ -255,16 +244,14 @@ module _ (c : Standing) (p : Sofar) where
       let x : length (outside (new ∷ bs) ++ []) ≡ length (outside (new ∷ bs)) + 0 = laid_length (new ∷ bs) [] in
       let y : length (outside (new ∷ bs)) ≡ length (outside bs) + length (b.before ++ sized p.bytes) + 2 = outside_length new bs in
       let v : length (outside bs) ≤ owed bs = outside_owed bs in
-      means_inside c.depth (set c.dues (c.depth - 1) false) (set c.words (c.depth - 1) c.used) (c.used + 2) (c.owed - 2) (new ∷ bs) [] m
-      d m.deep (
-        rw (sym i) (get_or-set_same c.dues (c.depth - 1) false false (omega (arith, m.blocks_long.0, m.deep))),
-        rw (sym i) (get_or-set_same c.words (c.depth - 1) c.used 0 (omega (arith, m.blocks_long.1, m.deep)) ∙ omega arith),
-        blocks_kept c (turned_of c) bs
-            (λ j l. get_or-set_other c.dues (c.depth - 1) j false false (λ q. omega arith))
-            (λ j l. get_or-set_other c.words (c.depth - 1) j c.used 0 (λ q. omega arith)) (block_blocks b bs m e).2,
+      let opens : Open = record { due = false; word = c.used } in
+      let place : c.used ≡ 6 + length (outside bs ++ (b.before ++ sized p.bytes)) = omega arith in
+      means_inside c.depth (set c.blocks (c.depth - 1) opens) (c.used + 2) (c.owed - 2) (new ∷ bs) [] m d m.deep (
+        rw (sym i) (get_or-set_same c.blocks (c.depth - 1) opens no_block (omega (arith, m.blocks_long, m.deep))
+            ∙ ap (λ (x : ℕ). record { due = false; word = x }) place),
+        blocks_kept c (turned_of c) bs (λ j l. get_or-set_other c.blocks (c.depth - 1) j opens no_block (λ q. omega arith)) (block_blocks b bs m e).1,
       )
-      (omega arith) (omega arith) (omega (arith, m.fits))
-      (length-set c.dues (c.depth - 1) false ∙ m.blocks_long.0) (length-set c.words (c.depth - 1) c.used ∙ m.blocks_long.1)
+      (omega arith) (omega arith) (omega (arith, m.fits)) (length-set c.blocks (c.depth - 1) opens ∙ m.blocks_long)
 
   -- outside blocks: the bytes are those of the functions so far, main's length word is owed, and what is known of functions is theirs
   pub top_used : Means c p → p.open_blocks ≡ [] → c.used ≡ 6 + length p.bytes
@@ -293,9 +280,13 @@ module _ (c : Standing) (p : Sofar) where
       let w : length (p.bytes ++ (k ∷ m ∷ [])) ≡ length p.bytes + 2 = length-append p.bytes (k ∷ m ∷ []) in
       let x : length (outside (b ∷ [])) ≡ 0 + length (p.bytes ++ (k ∷ m ∷ [])) + 2 = outside_length b [] in
       let y : length (outside (b ∷ []) ++ []) ≡ length (outside (b ∷ [])) + 0 = laid_length (b ∷ []) [] in
+      let head : Head = record { locations = k; arguments = m } in
+      let opens : Open = record { due = false; word = c.used + 2 } in
+      let place : c.used + 2 ≡ 6 + length (outside [] ++ (p.bytes ++ (k ∷ m ∷ []))) = omega arith in
+      let places : places_of (function_of c k m) ≡ k =
+      function_places c k m t.0 (last_head c fs new f l g n h.heads_long t.2) in
       record {
-        started = h.started;
-        places = refl;
+        places = places;
         most = omega arith;
         callees = n;
         heads = heads_old c fs new f l g n h.heads_long t.2;
@@ -303,15 +294,14 @@ module _ (c : Standing) (p : Sofar) where
         depth = refl;
         deep = omega arith;
         blocks = (
-          get_or-set_same c.dues 0 false false (omega (arith, h.blocks_long.0)),
-          get_or-set_same c.words 0 (c.used + 2) 0 (omega (arith, h.blocks_long.1)) ∙ omega arith,
+          get_or-set_same c.blocks 0 opens no_block (omega (arith, h.blocks_long)) ∙ ap (λ (x : ℕ). record { due = false; word = x }) place,
           tt,
         );
         used = omega arith;
         owed = omega arith;
         fits = omega arith;
-        heads_long = (length-set c.ks c.functions k ∙ h.heads_long.0, length-set c.ms c.functions m ∙ h.heads_long.1);
-        blocks_long = (length-set c.dues 0 false ∙ h.blocks_long.0, length-set c.words 0 (c.used + 2) ∙ h.blocks_long.1);
+        heads_long = length-set c.heads c.functions head ∙ h.heads_long;
+        blocks_long = length-set c.blocks 0 opens ∙ h.blocks_long;
       }
 
   pub means_main : (fs : List Function) → Means c p → p.open_blocks ≡ [] → p.after ≡ some fs → Means (main_of c) (main_begun fs p.bytes)
@@ -323,30 +313,31 @@ module _ (c : Standing) (p : Sofar) where
       let t : After c (some fs) = top_after fs h a in
       let x : length (outside (b ∷ [])) ≡ 0 + length p.bytes + 2 = outside_length b [] in
       let y : length (outside (b ∷ []) ++ []) ≡ length (outside (b ∷ [])) + 0 = laid_length (b ∷ []) [] in
+      let opens : Open = record { due = false; word = c.used } in
       record {
-        started = h.started;
         places = refl;
         most = omega arith;
         callees = t.1;
-        heads = heads_kept c (main_of c) fs (λ g l. refl) (λ g l. refl) t.2;
+        heads = heads_kept c (main_of c) fs (λ g l. refl) t.2;
         after = (refl, refl);
         depth = refl;
         deep = omega arith;
         blocks = (
-          get_or-set_same c.dues 0 false false (omega (arith, h.blocks_long.0)),
-          get_or-set_same c.words 0 c.used 0 (omega (arith, h.blocks_long.1)) ∙ u,
+          get_or-set_same c.blocks 0 opens no_block (omega (arith, h.blocks_long)) ∙ ap (λ (x : ℕ). record { due = false; word = x }) u,
           tt,
         );
         used = omega arith;
         owed = omega arith;
         fits = omega (arith, h.fits);
         heads_long = h.heads_long;
-        blocks_long = (length-set c.dues 0 false ∙ h.blocks_long.0, length-set c.words 0 c.used ∙ h.blocks_long.1);
+        blocks_long = length-set c.blocks 0 opens ∙ h.blocks_long;
       }
 
 -- bytes put behind others
 pub sets_behind : (D : List ℕ) (i : ℕ) (X Y : List ℕ) → sets (sets D i X) (i + length X) Y ≡ sets D i (X ++ Y)
-sets_behind = sets_append
+sets_behind D i [] Y = ap (λ (k : ℕ). sets D k Y) (omega arith)
+sets_behind D i (x ∷ X) Y =
+    ap (λ (k : ℕ). sets (sets (set D i x) (suc i) X) k Y) (omega arith) ∙ sets_behind (set D i x) (suc i) X Y
 
 -- a byte put before a run of others
 pub set_before : (D : List ℕ) (i j a : ℕ) (Y : List ℕ) → j < i → set (sets D i Y) j a ≡ sets (set D j a) i Y

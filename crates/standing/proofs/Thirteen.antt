@@ -9,13 +9,17 @@ use Prim.Native.Nat.{ℕ, zero, suc, ◌+◌, ◌-◌, ◌<◌, ◌≤◌}
 use lib.Dec.{eqb}
 use lib.ListN.{get_or, get_elem?, length, drop, drop_of_length-le}
 use lib.Seq.{drop-cons}
+use Rattle.std.specs.Prelude.{map}
 use Rattle.rules.specs.declared.statements.Operand.{Operand}
 use Rattle.rules.specs.declared.statements.Operand.TheVariants.{Nothing}
+use Rattle.rules.specs.declared.statements.Kind.{Kind}
 use Rattle.rules.specs.Basics.{up_to}
-use Rattle.rules.specs.Table.{Meaning, simple, branches, loops, calls, Row, table, row_of, size, size_of, operand_of, operand_at}
-use Rattle.rules.specs.Listing.{silent}
+use Rattle.rules.specs.Kinds.{byte_of, operands_of}
+use Rattle.rules.specs.Table.{Meaning, simple, branches, loops, calls, Row, table, row_of, size, size_of, operand_of, operand_at, names, name_of}
+use Rattle.rules.specs.Listing.{silent, operands_in}
 use Rattle.rules.specs.Unlisting.{blocks_of}
 use Rattle.rules.proofs.Basics.{all_up_to}
+use Rattle.rules.proofs.KindBytes.{byte_above, byte_below}
 use Rattle.rules.proofs.Tests.{T→eq, eqb_true, and_left, and_right, not_true}
 use Rattle.standing.specs.Numbers.{block_bytes}
 
@@ -59,7 +63,6 @@ fine b none = false
 fine b (some r) = eqb (block_bytes b) (blocks_of r.meaning) && (head_spoken r.operands && same (is_call r.meaning) (eqb b 12))
 
 all_fine : (b : ℕ) → 0 < b → b < 14 → fine b (row_of b) ≡ true
-unfolding block_bytes
 all_fine b l h = T→eq (fine b (row_of b)) (all_up_to (λ i. fine i (row_of i)) 1 13 tt b (omega arith) (omega arith))
 
 -- each of the thirteen bytes has a row
@@ -69,6 +72,15 @@ row_there b l h = go (row_of b) refl (all_fine b l h)
     go : (o : Option Row) → row_of b ≡ o → fine b o ≡ true → (row : Row) × (row_of b ≡ some row)
     go none e f = absurd (false≢true f)
     go (some row) e f = (row, e)
+
+-- the names are those of the rows
+name_in : (l : List Row) (i : ℕ) → get_or (map (λ r. r.name) l) i [] ≡ elim (get_elem? l i) [ none ↦ [] | some r ↦ r.name ]
+name_in [] i = refl
+name_in (x ∷ l) zero = refl
+name_in (x ∷ l) (suc i) = name_in l i
+
+pub row_name : (i : ℕ) → get_or names i [] ≡ name_of (suc i)
+row_name i = name_in table i
 
 module _ (b : ℕ) (row : Row) (is : row_of b ≡ some row) where
   row_fine : fine b (some row) ≡ true
@@ -119,3 +131,10 @@ module _ (b : ℕ) (row : Row) (is : row_of b ≡ some row) where
           let r : up_to (suc (suc n)) m (operand_at b) ≡ drop (suc n) row.operands = from m (suc n) (omega arith) in
           let o : operand_at b (suc n) ≡ get_or row.operands n Nothing = row_operand n in
           cc (drop-cons row.operands n Nothing l)
+
+-- the operands of a kind behind number n
+pub operands_behind : (kind : Kind) (n : ℕ)
+    → drop n (operands_of (byte_of kind)) ≡ up_to (n + 1) (size_of (byte_of kind) - (n + 1)) (operand_at (byte_of kind))
+operands_behind kind n =
+    let (row, is) = row_there (byte_of kind) (byte_above kind refl) (byte_below kind refl) in
+    ap (λ (r : Option Row). drop n (operands_in r)) is ∙ sym (row_from (byte_of kind) row is n)

@@ -1,165 +1,107 @@
 -- What the code computes from the numbers of the program so far: how the numbers change with each line, and which statements may stand next.
-use Rattle.std.specs.Prelude.{Bool, true, false, ◌&&◌, ◌||◌, ℕ, suc, ◌+◌, ◌-◌, ◌≤◌, eqb, ltb, leb, get_or, set, replicate}
+use Rattle.std.specs.Prelude.{Bool, true, false, ◌&&◌, ◌||◌, ℕ, suc, ◌+◌, ◌-◌, eqb, ltb, leb, get_or, set, replicate}
 use Rattle.rules.specs.declared.statements.Operand.{Operand}
 use Rattle.rules.specs.declared.statements.Operand.TheVariants.{Slot, Location, Gate, Basis, Value, Callee, CalleeK, CalleeM, Nothing}
 use Rattle.rules.specs.Basics.{chosen, all, up_to}
 use Rattle.rules.specs.Words.{Text, opens}
-use Rattle.rules.specs.Table.{size_of, operand_at}
+use Rattle.rules.specs.Table.{name_of, size_of, operand_at}
 use Rattle.rules.specs.Listing.{silent}
 use Rattle.rules.specs.Grammar.{some_below}
-use Rattle.reading.specs.Cursor.{spelling, word_number}
+use Rattle.reading.specs.Cursor.{spelling, token_for}
+use Rattle.standing.specs.declared.state.Head.{Head}
+use Rattle.standing.specs.declared.state.Open.{Open}
+use Rattle.standing.specs.declared.state.Part.TheVariants.{Before, Functions, Main}
 use Rattle.standing.specs.declared.state.Standing.{Standing}
+
+-- what is kept of a function that has not been read, and of a block that is not open
+abbrev pub no_head : Head
+no_head = record { locations = 0; arguments = 0 }
+
+abbrev pub no_block : Open
+no_block = record { due = false; word = 0 }
 
 -- the numbers before the first line, and after each kind of line
 abbrev pub fresh_of : Standing
 fresh_of = record {
-  started = false;
-  in_main = false;
+  part = Before;
   functions = 0;
-  ks = replicate 16 0;
-  ms = replicate 16 0;
-  places = 0;
+  heads = replicate 16 no_head;
   callees = 0;
   depth = 0;
-  dues = replicate 8 false;
-  words = replicate 8 0;
+  blocks = replicate 8 no_block;
   used = 6;
   owed = 2;
 }
 
 -- the length words of a statement's blocks, by its byte
-unfoldable pub block_bytes : ℕ → ℕ
+abbrev pub block_bytes : ℕ → ℕ
 block_bytes b = chosen (eqb b 10) 4 (chosen (eqb b 11) 2 0)
 
 module _ (c : Standing) where
   abbrev pub begun_of : Standing
-  begun_of = record {
-    started = true;
-    in_main = c.in_main;
-    functions = c.functions;
-    ks = c.ks;
-    ms = c.ms;
-    places = c.places;
-    callees = c.callees;
-    depth = c.depth;
-    dues = c.dues;
-    words = c.words;
-    used = c.used;
-    owed = c.owed;
-  }
+  begun_of = record c { part = Functions }
 
   abbrev pub added_of : ℕ → Standing
-  added_of n = record {
-    started = c.started;
-    in_main = c.in_main;
-    functions = c.functions;
-    ks = c.ks;
-    ms = c.ms;
-    places = c.places;
-    callees = c.callees;
-    depth = c.depth;
-    dues = c.dues;
-    words = c.words;
-    used = c.used + n;
-    owed = c.owed;
-  }
+  added_of n = record c { used = c.used + n }
 
   abbrev pub opened_of : ℕ → Bool → Standing
-  opened_of n due = record {
-    started = c.started;
-    in_main = c.in_main;
-    functions = c.functions;
-    ks = c.ks;
-    ms = c.ms;
-    places = c.places;
-    callees = c.callees;
+  opened_of n due = record c {
     depth = c.depth + 1;
-    dues = set c.dues c.depth due;
-    words = set c.words c.depth (c.used + n);
+    blocks = set c.blocks c.depth (record { due = due; word = c.used + n });
     used = c.used + n + 2;
     owed = c.owed + chosen due 2 0;
   }
 
   abbrev pub closed_of : Standing
-  closed_of = record {
-    started = c.started;
-    in_main = c.in_main;
-    functions = c.functions;
-    ks = c.ks;
-    ms = c.ms;
-    places = c.places;
-    callees = c.callees;
-    depth = c.depth - 1;
-    dues = c.dues;
-    words = c.words;
-    used = c.used;
-    owed = c.owed;
-  }
+  closed_of = record c { depth = c.depth - 1 }
 
   abbrev pub turned_of : Standing
-  turned_of = record {
-    started = c.started;
-    in_main = c.in_main;
-    functions = c.functions;
-    ks = c.ks;
-    ms = c.ms;
-    places = c.places;
-    callees = c.callees;
-    depth = c.depth;
-    dues = set c.dues (c.depth - 1) false;
-    words = set c.words (c.depth - 1) c.used;
+  turned_of = record c {
+    blocks = set c.blocks (c.depth - 1) (record { due = false; word = c.used });
     used = c.used + 2;
     owed = c.owed - 2;
   }
 
   abbrev pub function_of : ℕ → ℕ → Standing
-  function_of k m = record {
-    started = c.started;
-    in_main = c.in_main;
+  function_of k m = record c {
     functions = c.functions + 1;
-    ks = set c.ks c.functions k;
-    ms = set c.ms c.functions m;
-    places = k;
+    heads = set c.heads c.functions (record { locations = k; arguments = m });
     callees = c.functions;
     depth = 1;
-    dues = set c.dues 0 false;
-    words = set c.words 0 (c.used + 2);
+    blocks = set c.blocks 0 (record { due = false; word = c.used + 2 });
     used = c.used + 4;
-    owed = c.owed;
   }
 
   abbrev pub main_of : Standing
-  main_of = record {
-    started = c.started;
-    in_main = true;
-    functions = c.functions;
-    ks = c.ks;
-    ms = c.ms;
-    places = 256;
+  main_of = record c {
+    part = Main;
     callees = c.functions;
     depth = 1;
-    dues = set c.dues 0 false;
-    words = set c.words 0 c.used;
+    blocks = set c.blocks 0 (record { due = false; word = c.used });
     used = c.used + 2;
     owed = 0;
   }
 
-  -- what keeps its sums small
-  abbrev pub Small : Type 0
-  Small = (c.used + c.owed ≤ 4096) × (c.depth ≤ 8) × (c.places ≤ 256) × (c.callees ≤ 15)
+  -- a function's head
+  abbrev pub head_of : ℕ → Head
+  head_of f = get_or c.heads f no_head
+
+  -- places below this number may be named: in a function its locations, in main all
+  abbrev pub places_of : ℕ
+  places_of = elim c.part [ Before ↦ (head_of c.callees).locations | Functions ↦ (head_of c.callees).locations | Main ↦ 256 ]
 
   -- a file has room for n bytes more
-  unfoldable pub room_of : ℕ → Bool
+  abbrev pub room_of : ℕ → Bool
   room_of n = leb (c.used + c.owed + n) 4096
 
   -- statement b has room, and a depth for its blocks
-  unfoldable pub fits_of : ℕ → Bool
+  abbrev pub fits_of : ℕ → Bool
   fits_of b = room_of (size_of b + block_bytes b) && (eqb (block_bytes b) 0 || ltb c.depth 8)
 
   -- how many words there are for an operand
-  unfoldable pub count_of : Operand → ℕ
+  abbrev pub count_of : Operand → ℕ
   count_of Slot = 32
-  count_of Location = c.places
+  count_of Location = places_of
   count_of Gate = 4
   count_of Basis = 2
   count_of Value = 2
@@ -169,25 +111,31 @@ module _ (c : Standing) where
   count_of Nothing = 0
 
   -- an operand that is not written, where f is the first
-  unfoldable pub unwritten_of : Operand → ℕ → ℕ
+  abbrev pub unwritten_of : Operand → ℕ → ℕ
   unwritten_of Slot f = 0
   unwritten_of Location f = 0
   unwritten_of Gate f = 0
   unwritten_of Basis f = 0
   unwritten_of Value f = 0
   unwritten_of Callee f = 0
-  unwritten_of CalleeK f = get_or c.ks f 0
-  unwritten_of CalleeM f = get_or c.ms f 0
+  unwritten_of CalleeK f = (head_of f).locations
+  unwritten_of CalleeM f = (head_of f).arguments
   unwritten_of Nothing f = 0
 
   -- a call of function f has room, and places for its locations
-  unfoldable pub call_lives : ℕ → Bool
-  call_lives f = room_of (4 + get_or c.ks f 0 + get_or c.ms f 0) && (eqb (get_or c.ks f 0) 0 || ltb 0 c.places)
+  abbrev pub call_lives : ℕ → Bool
+  call_lives f = room_of (4 + (head_of f).locations + (head_of f).arguments) && (eqb (head_of f).locations 0 || ltb 0 places_of)
+
+  -- an operand that is still to come has a word, or is not written
+  abbrev pub worded_of : Operand → Bool
+  worded_of o = silent o || ltb 0 (count_of o)
+
+  abbrev pub worded_from : ℕ → ℕ → Bool
+  worded_from b n = all worded_of (up_to n (size_of b - n) (operand_at b))
 
   -- some line goes on with operand number n of statement b, where f is the first
-  unfoldable pub rest_lives : ℕ → ℕ → ℕ → Bool
-  rest_lives b n f =
-      all (λ o. silent o || ltb 0 (count_of o)) (up_to n (size_of b - n) (operand_at b)) && chosen (eqb b 12) (call_lives f) true
+  abbrev pub rest_lives : ℕ → ℕ → ℕ → Bool
+  rest_lives b n f = worded_from b n && chosen (eqb b 12) (call_lives f) true
 
   -- some line goes on behind the name of statement b
   unfoldable pub row_lives : ℕ → Bool
@@ -199,8 +147,10 @@ module _ (c : Standing) where
 
   -- an unfinished name, or operand number n of statement b, begins one behind which some line goes on
   unfoldable pub name_begins : Text → Bool
-  name_begins u = some_below 13 λ i. opens u (spelling (13 + i)) && row_lives (suc i)
+  name_begins u = some_below 13 λ i. opens u (name_of (suc i)) && row_lives (suc i)
+
+  abbrev pub offers : Text → ℕ → ℕ → ℕ → ℕ → Bool
+  offers u b n f v = opens u (spelling (token_for (operand_at b n) v)) && rest_lives b (n + 1) (chosen (eqb n 1) v f)
 
   unfoldable pub operand_begins : Text → ℕ → ℕ → ℕ → Bool
-  operand_begins u b n f =
-      some_below (count_of (operand_at b n)) λ v. opens u (spelling (word_number (operand_at b n) v)) && rest_lives b (n + 1) (chosen (eqb n 1) v f)
+  operand_begins u b n f = some_below (count_of (operand_at b n)) (offers u b n f)

@@ -1,209 +1,198 @@
 // Which statements may stand next, and whether any line goes on behind a part of one: there must be room for its bytes, a depth for its blocks, and for each
 // operand that is still to come at least one word.
-ghost use Rattle.std.specs.Prelude.{false, ◌≡◌, ◌+◌, ◌≤◌, ◌<◌, length};
-ghost use Rattle.rules.specs.Table.{operand_at};
+ghost use Rattle.std.specs.Prelude.{true, ◌≡◌, ◌+◌, ◌≤◌, ◌<◌, eqb};
+ghost use Rattle.rules.specs.Basics.{chosen};
+ghost use Rattle.rules.specs.Kinds.{byte_of};
 ghost use Rattle.rules.specs.Listing.{silent};
-ghost use Rattle.reading.specs.Cursor.{part};
-ghost use Rattle.standing.specs.Numbers.{Small, room_of, block_bytes, fits_of, count_of, unwritten_of, call_lives};
-ghost use Rattle.standing.specs.Numbers.{rest_lives, row_lives, statement_lives, name_begins, operand_begins};
+ghost use Rattle.standing.specs.Numbers.{room_of, block_bytes, fits_of, count_of, worded_of, worded_from, unwritten_of, call_lives};
+ghost use Rattle.standing.specs.Numbers.{rest_lives, row_lives, statement_lives, name_begins, offers, operand_begins};
 
-use crate::state::Standing;
-use reading::words;
+use crate::state::{Head, Standing};
+use reading::words::{Token, begins, word_for};
 use rules::program::ProgramHeader;
-use rules::statements;
-use rules::statements::Operand;
-use rules::words::NAMES;
-
-// Whether a file has room for `n` bytes more.
-pub fn room(c: Standing, n: usize) -> bool
-    requires { Small c × (n ≤ 1000) }
-    ensures { result ≡ room_of c n }
-{
-    c.used + c.owed + n <= ProgramHeader::MOST_BYTES
-}
+use rules::statements::{KINDS, Kind, Operand};
+use rules::words::Word;
 
 // The length words that a statement's blocks take.
-fn block_bytes(b: u8) -> usize
-    ensures { (result ≡ block_bytes b) × (result ≤ 4) }
+fn block_bytes(kind: Kind) -> usize
+    ensures value { result ≡ block_bytes (byte_of kind) }
+    ensures few { result ≤ 4 }
 {
-    match b {
-        10 => 4,
-        11 => 2,
-        _ => 0,
+    match kind {
+        Kind::If => 4,
+        Kind::While => 2,
+        Kind::Init
+        | Kind::Magic
+        | Kind::Free
+        | Kind::Gate
+        | Kind::Measure
+        | Kind::Merge
+        | Kind::Ref
+        | Kind::Get
+        | Kind::Set
+        | Kind::Call
+        | Kind::Bool => 0,
     }
-}
-
-// Whether statement `b` has room, and a depth for its blocks.
-pub fn fits(c: Standing, b: u8) -> bool
-    requires { Small c × (0 < b) × (b < 14) }
-    ensures { result ≡ fits_of c b }
-{
-    let n = block_bytes(b);
-    if !room(c, statements::fixed_size(b) + n) {
-        return false;
-    }
-    if n == 0 {
-        return true;
-    }
-    c.depth < ProgramHeader::DEEPEST
 }
 
 // A call's k and m are its callee's, and are not written.
-pub fn is_silent(kind: Operand) -> bool
-    ensures { result ≡ silent kind }
+pub fn is_silent(operand: Operand) -> bool
+    ensures { result ≡ silent operand }
 {
-    match kind {
-        Operand::CalleeK => true,
-        Operand::CalleeM => true,
-        Operand::Nothing => true,
-        _ => false,
-    }
+    matches!(
+        operand,
+        Operand::CalleeK | Operand::CalleeM | Operand::Nothing
+    )
 }
 
-// How many words there are for an operand.
-pub fn count(c: Standing, kind: Operand) -> usize
-    requires { Small c }
-    ensures { (result ≡ count_of c kind) × (result ≤ 256) }
-{
-    match kind {
-        Operand::Slot => ProgramHeader::SLOTS,
-        Operand::Location => c.places,
-        Operand::Gate => 4,
-        Operand::Basis => 2,
-        Operand::Value => 2,
-        Operand::Callee => c.callees,
-        _ => 0,
+impl Standing {
+    // Whether a file has room for `n` bytes more.
+    pub fn room(&self, n: usize) -> bool
+        requires { n ≤ 1000 }
+        ensures { result ≡ room_of self.now n }
+    {
+        self.used as usize + self.owed as usize + n <= ProgramHeader::MOST_BYTES
     }
-}
 
-// What an operand that is not written is, where the first of the statement is `first`.
-pub fn unwritten(c: Standing, kind: Operand, first: usize) -> u8
-    requires { first < 16 }
-    ensures { result ≡ unwritten_of c kind first }
-{
-    let ks = c.ks;
-    let ms = c.ms;
-    match kind {
-        Operand::CalleeK => ks[first],
-        Operand::CalleeM => ms[first],
-        _ => 0,
+    // Whether a statement has room, and a depth for its blocks.
+    pub fn fits(&self, kind: Kind) -> bool
+        ensures { result ≡ fits_of self.now (byte_of kind) }
+    {
+        let blocks = block_bytes(kind);
+        self.room(kind.size() + blocks) && (blocks == 0 || self.depth < ProgramHeader::DEEPEST)
     }
-}
 
-// Whether a call of function `f` has room, and places for its locations.
-pub fn call_lives(c: Standing, f: usize) -> bool
-    requires { Small c × (f < 16) }
-    ensures { result ≡ call_lives c f }
-{
-    let k = unwritten(c, Operand::CalleeK, f) as usize;
-    let m = unwritten(c, Operand::CalleeM, f) as usize;
-    if !room(c, 4 + k + m) {
-        return false;
-    }
-    if k == 0 {
-        return true;
-    }
-    0 < c.places
-}
-
-// Whether any line goes on with operand number `n` of statement `b`, where the first is `first`.
-pub fn rest_lives(c: Standing, b: u8, n: usize, first: usize) -> bool
-    requires { Small c × (0 < b) × (b < 14) × (0 < n) × (b ≡ 12 → first < 16) }
-    ensures { result ≡ rest_lives c b n first }
-{
-    let size = statements::fixed_size(b);
-    let mut i = n;
-    while i < size {
-        let kind = statements::operand_kind(b, i);
-        if !is_silent(kind) {
-            if count(c, kind) == 0 {
-                return false;
-            }
+    // How many words there are for an operand.
+    pub fn count(&self, operand: Operand) -> usize
+        ensures value { result ≡ count_of self.now operand }
+        ensures most { result ≤ 256 }
+    {
+        match operand {
+            Operand::Slot => ProgramHeader::SLOTS,
+            Operand::Location => self.places(),
+            Operand::Gate => 4,
+            Operand::Basis | Operand::Value => 2,
+            Operand::Callee => self.callees as usize,
+            Operand::CalleeK | Operand::CalleeM | Operand::Nothing => 0,
         }
-        i += 1;
     }
-    if b == 12 {
-        return call_lives(c, first);
-    }
-    true
-}
 
-// Whether any line goes on behind the name of statement `b`.
-pub fn row_lives(c: Standing, b: u8) -> bool
-    requires { Small c × (0 < b) × (b < 14) }
-    ensures { result ≡ row_lives c b }
-{
-    if !fits(c, b) {
-        return false;
-    }
-    let n = count(c, statements::operand_kind(b, 1));
-    let mut v: usize = 0;
-    while v < n {
-        if rest_lives(c, b, 2, v) {
-            return true;
+    // What an operand that is not written is, where the first of the statement is `first`; 0 for one that is written.
+    pub fn unwritten(&self, operand: Operand, first: usize) -> u8
+        ensures { result ≡ unwritten_of self.now operand first }
+    {
+        match operand {
+            Operand::CalleeK => self.head(first).locations,
+            Operand::CalleeM => self.head(first).arguments,
+            Operand::Slot
+            | Operand::Location
+            | Operand::Gate
+            | Operand::Basis
+            | Operand::Value
+            | Operand::Callee
+            | Operand::Nothing => 0,
         }
-        v += 1;
     }
-    false
-}
 
-// Whether any statement may stand next.
-pub fn statement_lives(c: Standing) -> bool
-    requires { Small c }
-    ensures { result ≡ statement_lives c }
-{
-    let mut b: u8 = 1;
-    while b < 14 {
-        if row_lives(c, b) {
-            return true;
+    // Whether a call of function `f` has room, and places for its locations.
+    pub fn call_lives(&self, f: usize) -> bool
+        ensures { result ≡ call_lives self.now f }
+    {
+        let Head {
+            locations,
+            arguments,
+        } = self.head(f);
+        self.room(4 + locations as usize + arguments as usize)
+            && (locations == 0 || 0 < self.places())
+    }
+
+    // Whether an operand that is still to come has a word, or is not written.
+    fn worded(&self, operand: Operand) -> bool
+        ensures { result ≡ worded_of self.now operand }
+    {
+        is_silent(operand) || 0 < self.count(operand)
+    }
+
+    // The same of each operand behind number `n`.
+    fn worded_behind(&self, kind: Kind, n: usize) -> bool
+        ensures { result ≡ worded_from self.now (byte_of kind) (n + 1) }
+    {
+        kind.operands()
+            .iter()
+            .skip(n)
+            .all(|operand| self.worded(*operand))
+    }
+
+    // Whether any line goes on behind a statement's operands, of which the first is `first`: a call has lists.
+    fn lists_live(&self, kind: Kind, first: usize) -> bool
+        ensures { result ≡ chosen (eqb (byte_of kind) 12) (call_lives self.now first) true }
+    {
+        match kind {
+            Kind::Call => self.call_lives(first),
+            Kind::Init
+            | Kind::Magic
+            | Kind::Free
+            | Kind::Gate
+            | Kind::Measure
+            | Kind::Merge
+            | Kind::Ref
+            | Kind::Get
+            | Kind::Set
+            | Kind::If
+            | Kind::While
+            | Kind::Bool => true,
         }
-        b += 1;
     }
-    false
-}
 
-// Whether an unfinished name begins that of a statement behind which some line goes on.
-pub fn name_begins(text: &[u8], at: usize, to: usize, c: Standing) -> bool
-    requires { Small c × (at ≤ to) × (to ≤ length text.now) }
-    ensures { result ≡ name_begins c (part text.now at to) }
-{
-    let mut b: u8 = 1;
-    while b < 14 {
-        if words::begins_word(text, at, to, NAMES + b as usize) {
-            if row_lives(c, b) {
+    // Whether any line goes on behind operand number `n` of a statement, where the first is `first`.
+    pub fn rest_lives(&self, kind: Kind, n: usize, first: usize) -> bool
+        ensures { result ≡ rest_lives self.now (byte_of kind) (n + 1) first }
+    {
+        self.worded_behind(kind, n) && self.lists_live(kind, first)
+    }
+
+    // Whether any line goes on behind the name of a statement.
+    pub fn row_lives(&self, kind: Kind) -> bool
+        ensures { result ≡ row_lives self.now (byte_of kind) }
+    {
+        let words = self.count(kind.operand(1));
+        self.fits(kind) && (0..words).any(|v| self.rest_lives(kind, 1, v))
+    }
+
+    // Whether any statement may stand next.
+    pub fn statement_lives(&self) -> bool
+        ensures { result ≡ statement_lives self.now }
+    {
+        KINDS.iter().any(|kind| self.row_lives(*kind))
+    }
+
+    // Whether an unfinished name begins that of a statement behind which some line goes on.
+    pub fn name_begins(&self, part: &[u8]) -> bool
+        ensures { result ≡ name_begins self.now part.now }
+    {
+        KINDS.iter().any(|kind| begins(part, Token::Word(Word::Name(*kind)))
+            && self.row_lives(*kind))
+    }
+
+    // Whether what is written begins word `v` for operand number `n` of a statement, behind which some line goes on.
+    fn offers(&self, part: &[u8], kind: Kind, n: usize, first: usize, v: u8) -> bool
+        requires { 0 < n }
+        ensures { result ≡ offers self.now part.now (byte_of kind) n first v }
+    {
+        let first = if n == 1 { v as usize } else { first };
+        begins(part, word_for(kind.operand(n), v)) && self.rest_lives(kind, n, first)
+    }
+
+    // Whether an unfinished operand number `n` of a statement begins one behind which some line goes on.
+    pub fn operand_begins(&self, part: &[u8], kind: Kind, n: usize, first: usize) -> bool
+        requires { 0 < n }
+        ensures { result ≡ operand_begins self.now part.now (byte_of kind) n first }
+    {
+        for v in 0..self.count(kind.operand(n)) {
+            if self.offers(part, kind, n, first, v as u8) {
                 return true;
             }
         }
-        b += 1;
+        false
     }
-    false
-}
-
-// Whether an unfinished operand number `n` of statement `b` begins one behind which some line goes on.
-pub fn operand_begins(
-    text: &[u8],
-    at: usize,
-    to: usize,
-    c: Standing,
-    b: u8,
-    n: usize,
-    first: usize,
-) -> bool
-    requires small { Small c × (at ≤ to) × (to ≤ length text.now) × (0 < b) × (b < 14) × (0 < n) × (n < 6) × (b ≡ 12 → n ≡ 1) }
-    requires n_value { silent (operand_at b n) ≡ false }
-    ensures { result ≡ operand_begins c (part text.now at to) b n first }
-{
-    let kind = statements::operand_kind(b, n);
-    let limit = count(c, kind);
-    let mut v: usize = 0;
-    while v < limit {
-        if words::begins_word(text, at, to, words::word_for(kind, v)) {
-            let f = if n == 1 { v } else { first };
-            if rest_lives(c, b, n + 1, f) {
-                return true;
-            }
-        }
-        v += 1;
-    }
-    false
 }

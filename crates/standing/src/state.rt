@@ -1,23 +1,51 @@
 // The program so far, in numbers. Its bytes stand in the file's buffer, or nowhere while they are only counted: nothing here reads them.
 ghost use Rattle.std.specs.Prelude.{◌≡◌, ◌+◌, ◌≤◌, ◌<◌};
 ghost use Rattle.standing.specs.Numbers.{fresh_of, begun_of, added_of, opened_of, closed_of, turned_of, function_of, main_of};
+ghost use Rattle.standing.specs.Numbers.{head_of, places_of};
+
+// How many locations and arguments a function has.
+#[derive(Clone, Copy, Debug, PartialEq, Eq)]
+pub struct Head {
+    pub locations: u8,
+    pub arguments: u8,
+}
+
+// A block that has not ended: whether an else is due behind it, and where its length word stands.
+#[derive(Clone, Copy, Debug, PartialEq, Eq)]
+pub struct Open {
+    pub due: bool,
+    pub word: usize,
+}
+
+const NO_HEAD: Head = Head {
+    locations: 0,
+    arguments: 0,
+};
+
+const NO_BLOCK: Open = Open {
+    due: false,
+    word: 0,
+};
+
+// Where the text is: before its first line, among the functions' lines, in main.
+#[derive(Clone, Copy, Debug, PartialEq, Eq)]
+pub enum Part {
+    Before,
+    Functions,
+    Main,
+}
 
 // Up to where the file's bytes go, and how many more it will have at least: a due else and main each have a length word.
-// Open blocks by depth, the outermost first: whether an else is due, and where the length word stands.
 #[derive(Clone, Copy)]
 pub struct Standing {
-    pub started: bool, // the first line has been read
-    pub in_main: bool, // main's line has been read
-    pub functions: usize, // how many functions' lines have been read
-    pub ks: [u8; 16], // their locations and their arguments
-    pub ms: [u8; 16],
-    pub places: usize, // what the block being read may name: places below this number, and
-    pub callees: usize, // so many functions
+    pub part: Part,
+    pub functions: u8, // how many functions' lines have been read
+    pub heads: [Head; 16],
+    pub callees: u8, // how many of the functions the block being read may call
     pub depth: usize,
-    pub dues: [bool; 8],
-    pub words: [usize; 8],
-    pub used: usize,
-    pub owed: usize,
+    pub blocks: [Open; 8], // by depth, the outermost first
+    pub used: u16,
+    pub owed: u16,
 }
 
 impl Standing {
@@ -26,36 +54,36 @@ impl Standing {
         ensures { result ≡ fresh_of }
     {
         Standing {
-            started: false,
-            in_main: false,
+            part: Part::Before,
             functions: 0,
-            ks: [0; 16],
-            ms: [0; 16],
-            places: 0,
+            heads: [NO_HEAD; 16],
             callees: 0,
             depth: 0,
-            dues: [false; 8],
-            words: [0; 8],
+            blocks: [NO_BLOCK; 8],
             used: 6,
             owed: 2,
         }
     }
 
     // The first line has been read.
-    pub fn begun(mut self) -> Self
+    pub fn begun(self) -> Self
         ensures { result ≡ begun_of self }
     {
-        self.started = true;
-        self
+        Standing {
+            part: Part::Functions,
+            ..self
+        }
     }
 
     // A statement of `n` bytes that holds no block.
-    pub fn added(mut self, n: usize) -> Self
+    pub fn added(self, n: usize) -> Self
         requires { self.used + n ≤ 10000 }
         ensures { result ≡ added_of self n }
     {
-        self.used = self.used + n;
-        self
+        Standing {
+            used: self.used + n as u16,
+            ..self
+        }
     }
 
     // A block is opened behind a statement of `n` bytes and its own length word.
@@ -63,24 +91,27 @@ impl Standing {
         requires { (self.used + n ≤ 10000) × (self.depth < 8) × (self.owed ≤ 10000) }
         ensures { result ≡ opened_of self n due }
     {
-        let depth = self.depth;
-        self.dues[depth] = due;
-        self.words[depth] = self.used + n;
-        self.depth = depth + 1;
-        self.used = self.used + n + 2;
+        self.blocks[self.depth] = Open {
+            due,
+            word: self.used as usize + n,
+        };
+        self.depth += 1;
+        self.used += n as u16 + 2;
         if due {
-            self.owed = self.owed + 2;
+            self.owed += 2;
         }
         self
     }
 
     // The innermost block has ended.
-    pub fn closed(mut self) -> Self
+    pub fn closed(self) -> Self
         requires { 0 < self.depth }
         ensures { result ≡ closed_of self }
     {
-        self.depth = self.depth - 1;
-        self
+        Standing {
+            depth: self.depth - 1,
+            ..self
+        }
     }
 
     // The innermost block has ended, and its else is opened.
@@ -88,11 +119,12 @@ impl Standing {
         requires { (self.used ≤ 10000) × (0 < self.depth) × (self.depth ≤ 8) × (2 ≤ self.owed) }
         ensures { result ≡ turned_of self }
     {
-        let depth = self.depth - 1;
-        self.dues[depth] = false;
-        self.words[depth] = self.used;
-        self.used = self.used + 2;
-        self.owed = self.owed - 2;
+        self.blocks[self.depth - 1] = Open {
+            due: false,
+            word: self.used as usize,
+        };
+        self.used += 2;
+        self.owed -= 2;
         self
     }
 
@@ -101,16 +133,18 @@ impl Standing {
         requires { (self.used ≤ 10000) × (self.functions < 15) }
         ensures { result ≡ function_of self k m }
     {
-        let n = self.functions;
-        self.ks[n] = k;
-        self.ms[n] = m;
-        self.functions = n + 1;
-        self.callees = n;
-        self.places = k as usize;
+        self.heads[self.functions as usize] = Head {
+            locations: k,
+            arguments: m,
+        };
+        self.callees = self.functions;
+        self.functions += 1;
         self.depth = 1;
-        self.dues[0] = false;
-        self.words[0] = self.used + 2;
-        self.used = self.used + 4;
+        self.blocks[0] = Open {
+            due: false,
+            word: self.used as usize + 2,
+        };
+        self.used += 4;
         self
     }
 
@@ -119,14 +153,33 @@ impl Standing {
         requires { self.used ≤ 10000 }
         ensures { result ≡ main_of self }
     {
-        self.in_main = true;
+        self.part = Part::Main;
         self.callees = self.functions;
-        self.places = 256;
         self.depth = 1;
-        self.dues[0] = false;
-        self.words[0] = self.used;
-        self.used = self.used + 2;
+        self.blocks[0] = Open {
+            due: false,
+            word: self.used as usize,
+        };
+        self.used += 2;
         self.owed = 0;
         self
+    }
+
+    // The head of function `f`; one with nothing where that function has not been read.
+    pub fn head(&self, f: usize) -> Head
+        ensures { result ≡ head_of self.now f }
+    {
+        self.heads.get(f).copied().unwrap_or(NO_HEAD)
+    }
+
+    // Places below this number may be named: in a function its locations, in main all.
+    pub fn places(&self) -> usize
+        ensures value { result ≡ places_of self.now }
+        ensures most { result ≤ 256 }
+    {
+        match self.part {
+            Part::Before | Part::Functions => self.head(self.callees as usize).locations as usize,
+            Part::Main => 256,
+        }
     }
 }

@@ -6,3 +6,6 @@ pub mod Placing
 pub mod Decimals
 pub mod Numerals
 pub mod Written
+pub mod Expecting
+pub mod Indenting
+pub mod Counting

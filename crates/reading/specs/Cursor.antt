@@ -31,10 +31,6 @@ WordEnd t i e r = words_from t i e ≡ part t i r ∷ words_from t (r + 1) e
 unfoldable pub LineEnd : Text → ℕ → ℕ → Type 0
 LineEnd t i r = split newline (drop i t) ≡ part t i r ∷ chosen (ltb r (length t)) (split newline (drop (r + 1) t)) []
 
--- A line's characters end at `end`, and it with its newline at `stop`; `at` is in it.
-abbrev pub InLine : Text → ℕ → ℕ → ℕ → Type 0
-InLine t at end stop = (at ≤ stop) × (end ≤ stop) × (stop ≤ end + 1) × (stop ≤ length t)
-
 -- the word of a token
 abbrev pub spelling : Token → Text
 spelling (Word w) = text_of w

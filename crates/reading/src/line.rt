@@ -1,0 +1,11 @@
+// The line that is being read.
+ghost use Rattle.std.specs.Prelude.{◌≤◌, ◌+◌, length};
+
+// A line of a text. Its characters end at `end`, and it with its newline at `stop`: in an unfinished line, which has no newline, `stop` is `end`.
+#[derive(Clone, Copy)]
+pub struct Line<'a> {
+    pub text: &'a [u8],
+    pub end: usize,
+    pub stop: usize,
+    pub ghost in_text: { (end ≤ stop) × (stop ≤ end + 1) × (stop ≤ length text.now) },
+}

@@ -1,44 +1,45 @@
--- What is remembered stays right. An empty memory says nothing wrong; the count of a function may be put into a right memory, whether or not the
+-- What is remembered stays right. An empty memory says nothing wrong; the right count of a function may be put into a right memory, whether or not the
 -- function was known.
-use mathlib.Core.Path.{◌≡◌, refl, ap, ◌∙◌}
-use native.Mathlib.Decide.{ℕ_discrete, dec_lt}
+use mathlib.Core.Logic.{⊎_elim}
+use mathlib.Core.Path.{◌≡◌, sym, ap, ◌∙◌}
+use native.Mathlib.Decide.{ℕ_discrete}
 use native.Mathlib.Omega.{arith}
-use Prim.Native.Nat.{ℕ, zero, suc, ◌+◌, ◌<◌, ◌≤◌}
-use lib.ListN.{get_or, length, set, replicate}
-use lib.Seq.{get_or-set_same, get_or-set_other, set_out}
+use Prim.Native.Nat.{ℕ, ◌+◌, ◌<◌}
+use Rattle.std.specs.Prelude.{None, Some, get_or}
+use Rattle.std.proofs.lemmas.Option.{none-some, same_Some}
+use Rattle.theory.proofs.Base.{get_d_replicate_default, get_d_set_cases}
 use Rattle.counting.specs.Counting.{cap}
 use Rattle.counting.specs.Found.{Right, noted, nothing_known}
-use Rattle.counting.specs.declared.Memory.{Memory}
-use Rattle.counting.proofs.Caps.{cap_most}
+use Rattle.counting.specs.declared.memory.Memory.{Memory}
 
-blank_at : (n f : ℕ) → f < n → ◌≡◌ {A = ℕ} (get_or (replicate n 65537) f 0) 65537
-blank_at zero f l = absurd (omega arith)
-blank_at (suc n) zero l = refl
-blank_at (suc n) (suc f) l = blank_at n f (omega arith)
-
-pub right_blank : (φ : ℕ → ℕ) (m : Memory) → m ≡ nothing_known → Right φ 0 m
-right_blank φ m e = record {
-  right = λ f l h. let z = ap (λ (u : Memory). get_or u.counts f 0) e ∙ blank_at 16 f l in absurd (omega (arith, z, h));
+pub right_blank : (φ : ℕ → ℕ) → Right φ 0 nothing_known
+right_blank φ = record {
+  right = λ f c h. absurd (none-some c (sym (get_d_replicate_default 16 f None) ∙ h));
   known = λ f l. absurd (omega arith);
 }
 
-pub right_noted : (φ : ℕ → ℕ) (n : ℕ) (m : Memory) (g c : ℕ) → c ≡ cap (φ g) → Right φ n m → Right φ n (noted m g c)
-right_noted φ n m g c e R = record { right = λ f k l. right f k l (dec_lt g (length m.counts)) (ℕ_discrete f g); known = λ f l. known f l (dec_lt g (length m.counts)) (ℕ_discrete f g) }
-  where
-    right : (f : ℕ) → f < 16 → get_or (set m.counts g c) f 0 ≤ 65536 → Dec (g < length m.counts) → Dec (f ≡ g) → get_or (set m.counts g c) f 0 ≡ cap (φ f)
-    right f k l (yes r) (yes q) = rw q (get_or-set_same m.counts g c 0 r ∙ e)
-    right f k l (no r) (yes q) = let i = set_out m.counts g c (omega arith) in rw i (R.right f k (rw i at l))
-    right f k l r (no q) = let i = get_or-set_other m.counts g f c 0 q in i ∙ R.right f k (rw i at l)
+module _ {φ : ℕ → ℕ} {n : ℕ} {m : Memory} where
+  pub right_noted : (g c : ℕ) → c ≡ cap (φ g) → Right φ n m → Right φ n (noted m g c)
+  right_noted g c e R = record { right = right; known = known }
+    where
+      right : (f x : ℕ) → get_or (noted m g c).counts f None ≡ Some x → x ≡ cap (φ f)
+      right f x h =
+          ⊎_elim
+          (λ k. same_Some x c (sym h ∙ k.1) ∙ e ∙ ap (λ y. cap (φ y)) (sym k.0))
+          (λ k. R.right f x (sym k ∙ h))
+          (get_d_set_cases m.counts g f (Some c) None)
 
-    known : (f : ℕ) → f < n → Dec (g < length m.counts) → Dec (f ≡ g) → get_or (set m.counts g c) f 0 ≤ 65536
-    known f k (yes r) (yes q) = rw q (rw (get_or-set_same m.counts g c 0 r) (rw e (cap_most (φ g))))
-    known f k (no r) (yes q) = rw (set_out m.counts g c (omega arith)) (R.known f k)
-    known f k r (no q) = rw (get_or-set_other m.counts g f c 0 q) (R.known f k)
+      known : (f : ℕ) → f < n → get_or (noted m g c).counts f None ≡ Some (cap (φ f))
+      known f l =
+          ⊎_elim
+          (λ k. k.1 ∙ ap (λ y. Some y) (e ∙ ap (λ y. cap (φ y)) (sym k.0)))
+          (λ k. k ∙ R.known f l)
+          (get_d_set_cases m.counts g f (Some c) None)
 
--- one more function is known
-pub right_more : (φ : ℕ → ℕ) (n : ℕ) (m : Memory) → get_or m.counts n 0 ≤ 65536 → Right φ n m → Right φ (n + 1) m
-right_more φ n m h R = record { right = R.right; known = λ f l. go f l (ℕ_discrete f n) }
-  where
-    go : (f : ℕ) → f < n + 1 → Dec (f ≡ n) → get_or m.counts f 0 ≤ 65536
-    go f l (yes e) = rw e h
-    go f l (no e) = R.known f (omega (arith, l, e))
+  -- one more function is known
+  pub right_more : (c : ℕ) → get_or m.counts n None ≡ Some c → Right φ n m → Right φ (n + 1) m
+  right_more c h R = record { right = R.right; known = λ f l. go f l (ℕ_discrete f n) }
+    where
+      go : (f : ℕ) → f < n + 1 → Dec (f ≡ n) → get_or m.counts f None ≡ Some (cap (φ f))
+      go f l (yes e) = let k : get_or m.counts f None ≡ Some c = ap (λ y. get_or m.counts y None) e ∙ h in k ∙ ap (λ y. Some y) (R.right f c k)
+      go f l (no e) = R.known f (omega (arith, l, e))

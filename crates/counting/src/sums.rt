@@ -1,28 +1,28 @@
 // Counts up to 65,536, which stands for every count above the limit of 65,535.
-ghost use Rattle.std.specs.Prelude.{◌≡◌, ◌+◌, ◌≤◌, ◌<◌};
+ghost use Rattle.std.specs.Prelude.{◌≡◌, ◌+◌, ◌≤◌};
+ghost use Rattle.rules.specs.Kinds.{byte_of};
 ghost use Rattle.counting.specs.Counting.{cap};
 ghost use Rattle.counting.specs.Found.{own_count};
+
+use rules::statements::Kind;
 
 // What stands for too large a count.
 pub const MOST: usize = 65536;
 
 // The sum of two counts.
 pub fn add(a: usize, b: usize) -> usize
-    requires { (a ≤ 65536) × (b ≤ 65536) }
     ensures { (result ≡ cap (a + b)) × (result ≤ 65536) }
 {
-    if a + b < MOST { a + b } else { MOST }
+    a.saturating_add(b).min(MOST)
 }
 
-// What a statement that holds no block and calls nothing counts, by its byte: one for the two kinds of init, for free and for a merge.
-pub fn own_count(statement: u8) -> usize
-    ensures { (result ≡ own_count statement) × (result ≤ 1) }
+// What a statement counts that holds no block and calls nothing: one for the two kinds of init, for free and for a merge.
+pub fn own_count(kind: Kind) -> usize
+    ensures { (result ≡ own_count (byte_of kind)) × (result ≤ 1) }
 {
-    match statement {
-        1 => 1,
-        2 => 1,
-        3 => 1,
-        6 => 1,
-        _ => 0,
+    match kind {
+        Kind::Init | Kind::Magic | Kind::Free | Kind::Merge => 1,
+        Kind::Gate | Kind::Measure | Kind::Ref | Kind::Get | Kind::Set | Kind::Bool => 0,
+        Kind::If | Kind::While | Kind::Call => 0,
     }
 }

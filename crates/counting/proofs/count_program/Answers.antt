@@ -1,23 +1,24 @@
-use native.Mathlib.Omega.{arith}
-use Rattle.counting.proofs.Exits.{fewer}
+use mathlib.Core.Path.{refl}
+use Rattle.counting.specs.declared.blocks.Body.{Body}
 use Rattle.counting.proofs.Whole.{placed, main_below, before_start, before_step, program_exit}
 use Rattle.counting.proofs.count_program.Goals as goal
 
 pub loop-f-init : goal.loop-f-init
-loop-f-init c = (omega arith, before_start _ _ _ _ c.blank-memory.ensures)
+loop-f-init c = rw c.blank-memory.ensures (before_start _)
 
-pub count_callee-memory-requires : goal.count_callee-memory-requires
-count_callee-memory-requires c = let q = c.requires in (_, fewer (omega arith) (placed q.1 q.2))
+pub count_callee-requires : goal.count_callee-requires
+count_callee-requires c = let q = c.requires in (c.loop-f-test.true, (_, placed _ refl q.1 q.2))
 
 pub loop-f-preserved : goal.loop-f-preserved
-loop-f-preserved c = (omega arith, before_step _ _ _ _ _ c.count_callee-memory.result c.loop-f.invariant.1 c.loop-f-test.true c.count_callee-memory.ensures.found c.count_callee-memory.ensures.f_bound)
+loop-f-preserved c = before_step c.loop-f.invariant c.count_callee.ensures.found c.count_callee.ensures.known
 
 pub count_block-sum-requires : goal.count_block-sum-requires
-count_block-sum-requires c = let q = c.requires in ((_, placed q.1 q.2), (_, _, _, main_below q.1 q.2))
+count_block-sum-requires c =
+    let q = c.requires in
+    let main : Body = record { bytes = c.args.s; functions = c.args.table; before = c.args.table.now.count } in
+    ((_, placed main refl q.1 q.2), (_, _, _, main_below main refl q.1 q.2))
 
 pub returns : goal.returns
 returns c =
-    record {
-      counts = program_exit _ _ _ _ _ c.count_block-sum.result c.loop-f.invariant.1 c.loop-f-test.false c.count_block-sum.ensures.block_found;
-      main_bound = c.count_block-sum.ensures.at_bound.2;
-    }
+    let sum = c.count_block-sum.ensures in
+    record { counts = program_exit refl c.loop-f.invariant c.loop-f-test.false sum.found; main_bound = sum.capped }

@@ -1,11 +1,8 @@
 pub mod Putting
-pub mod Left
-pub mod Spaces
-pub mod Written
 pub mod LineLaws
 pub mod Apart
 pub mod Along
 pub mod Exits
-pub mod Rooms
 pub mod Programs
+pub mod Filling
 pub mod Writing

@@ -1,181 +1,126 @@
--- What each way out of the functions that put lines gives. A statement's line is its name and its operands, and the operands are those of the table's
--- row one after the other.
-use mathlib.Core.Bool.{Bool, true, false}
-use mathlib.Core.List.{List, [], ◌∷◌, ◌++◌, map, append_assoc}
-use mathlib.Core.Option.{Option, none, some}
-use mathlib.Core.Path.{◌≡◌, refl, sym, ap, ◌∙◌}
-use native.Mathlib.Nat.{add-suc, le_of_suc-le-suc}
-use native.Mathlib.Numerals.{add-one}
-use native.Mathlib.Omega.{arith}
-use Prim.Native.Nat.{ℕ, zero, suc, ◌+◌, ◌-◌, ◌<◌, ◌≤◌, suc-le-suc}
-use lib.ListN.{drop, drop_of_length-le, get_or, get_elem?, length, set}
-use lib.Seq.{drop-cons, get_or-append-add}
+-- Texts of lines and of words: lists of words and of lines that are appended are texts that are; a row's words are put one by one, each behind its space.
+use Rattle.std.proofs.Common.{Bool, true, false, List, [], ◌∷◌, ◌++◌, map, ◌≡◌, ℕ, zero, suc, refl, sym, ap, ◌∙◌, ◌+◌, ◌-◌, ◌*◌, ◌<◌, ◌≤◌}
+use Rattle.std.proofs.Common.{length, get_or, take, drop, slice_range, drop-cons, drop_of_length-le, add-one, add-suc, append_assoc, append-nil, arith}
+use Rattle.std.proofs.Math.Option.{Option, none, some}
+use Rattle.std.proofs.lemmas.List.{replicate-append-replicate}
+use Rattle.std.proofs.Math.ListN.{replicate}
 use Rattle.rules.specs.declared.statements.Operand.{Operand}
-use Rattle.rules.specs.declared.statements.Operand.TheVariants.{Nothing}
 use Rattle.rules.specs.Basics.{chosen, up_to, byte}
 use Rattle.rules.specs.Words.{Text, space, newline, behind, join, written, decimal}
-use Rattle.rules.specs.Names.{vocabulary, program, main, else, at, with}
-use Rattle.rules.specs.Table.{Row, table, row_of, size, size_of, operand_of, operand_at, names, name_of, word_of}
-use Rattle.rules.specs.Listing.{Line, spoken, silent, indented, listed, head_line, operands_in, words, fixed_line}
-use Rattle.listing.specs.Puts.{Puts}
-use Rattle.listing.specs.Lines.{said, operand, list, spaces, operands, fixed, fixed_line_of, call_line_of, else_line, head_line_of, first_line, main_line}
-use Rattle.listing.proofs.Putting.{puts_as, puts_then}
-use Rattle.listing.proofs.Spaces.{behind_one}
-use Rattle.listing.proofs.Written.{behind_append, join_indented, puts_line}
+use Rattle.rules.specs.Names.{at, with}
+use Rattle.rules.specs.Table.{Row, row_of, name_of}
+use Rattle.rules.specs.Kinds.{operands_of}
+use Rattle.rules.specs.Listing.{Line, spoken, silent, indented, listed, operands_in, words, fixed_line}
+use Rattle.listing.specs.Lines.{said, spaces, call_line}
 
--- the name of a statement byte is the word that stands so far after the others
-name_among : (rs : List Row) (b : ℕ) → get_or (map (λ r. r.name) rs) b [] ≡ elim (get_elem? rs b) [ none ↦ [] | some r ↦ r.name ]
-name_among [] b = refl
-name_among (r ∷ rs) zero = refl
-name_among (r ∷ rs) (suc b) = name_among rs b
+-- the words of a list, from number i on: the first of them and the rest; none past its end
+module _ {A : Type 0} (f : A → Text) (xs : List A) (i : ℕ) where
+  pub behind_next : (d : A) → i < length xs
+      → behind space (map f (drop i xs)) ≡ (space ∷ f (get_or xs i d)) ++ behind space (map f (drop (i + 1) xs))
+  behind_next d l = rw (add-one, drop-cons xs i d)
 
-name_word : (b : ℕ) → 0 < b → word_of (12 + b) ≡ name_of b
-name_word zero l = absurd (omega arith)
-name_word (suc b) l =
-    let e : 12 + suc b ≡ 13 + b = omega arith in
-    ap word_of e ∙ get_or-append-add vocabulary names b [] ∙ name_among table b
+  pub behind_none : length xs ≤ i → behind space (map f (drop i xs)) ≡ []
+  behind_none l = ap (λ ys. behind space (map f ys)) (drop_of_length-le xs l)
 
--- a row's operands: which they are, and how many
-kind_in : (o : Option Row) (j : ℕ) → operand_of o (suc j) ≡ get_or (operands_in o) j Nothing
-kind_in none j = refl
-kind_in (some r) j = refl
+pub behind_append : (c : ℕ) (a b : Line) → behind c (a ++ b) ≡ behind c a ++ behind c b
+behind_append c [] b = refl
+behind_append c (w ∷ a) b = ap (λ (t : Text). c ∷ t) (ap (λ (t : Text). w ++ t) (behind_append c a b) ∙ sym (append_assoc w (behind c a) (behind c b)))
 
-abbrev size_in : Option Row → ℕ
-size_in o = elim o [ none ↦ 0 | some r ↦ size r ]
+pub written_append : (a b : List Line) → written (a ++ b) ≡ written a ++ written b
+written_append [] b = refl
+written_append (l ∷ a) b =
+    ap (λ (t : Text). join space l ++ (newline ∷ t)) (written_append a b) ∙ sym (append_assoc (join space l) (newline ∷ written a) (written b))
 
-more_in : (o : Option Row) (j : ℕ) → suc j < size_in o → j < length (operands_in o)
-more_in none j h = absurd (omega arith)
-more_in (some r) j h = le_of_suc-le-suc h
+chosen_words : (b : Bool) (w : Text) (ws : Line) → behind space (chosen b ws (w ∷ ws)) ≡ behind space (chosen b [] (w ∷ [])) ++ behind space ws
+chosen_words true w ws = refl
+chosen_words false w ws = ap (λ (t : Text). space ∷ (t ++ behind space ws)) (sym (append-nil w))
 
-none_in : (o : Option Row) (j : ℕ) → size_in o ≤ suc j → length (operands_in o) ≤ j
-none_in none j h = omega arith
-none_in (some r) j h = le_of_suc-le-suc h
-
--- past the file's end there is no statement byte
-pub inside : (s : List ℕ) (i : ℕ) → 0 < byte s i → i < length s
-inside [] i h = absurd (omega arith)
-inside (x ∷ s) zero h = omega arith
-inside (x ∷ s) (suc i) h = suc-le-suc (inside s i h)
-
-module _ (s : List ℕ) (i : ℕ) where
-  abbrev kinds : List Operand
-  kinds = operands_in (row_of (byte s i))
-
-  -- the words from an operand on are its own and those after it
-  first_words : (j : ℕ) (os : List Operand) → j < length os
-      → words s (i + suc j) (drop j os) ≡ said (get_or os j Nothing) (byte s (i + suc j)) ++ words s (i + suc (suc j)) (drop (suc j) os)
-  unfolding said
-  first_words j os l =
-      ap (λ (q : List Operand). words s (i + suc j) q) (drop-cons os j Nothing l)
-      ∙ either (silent (get_or os j Nothing)) (spoken (get_or os j Nothing) (byte s (i + suc j))) (words s (suc (i + suc j)) (drop (suc j) os))
-      ∙ ap (λ (p : ℕ). said (get_or os j Nothing) (byte s (i + suc j)) ++ words s p (drop (suc j) os)) (sym (add-suc i (suc j)))
+-- the operands that stand from p on, from number i on
+module _ (s : List ℕ) (p : ℕ) (os : List Operand) where
+  pub operands_next : (i : ℕ) (d : Operand) → i < length os
+      → behind space (words s (p + i) (drop i os))
+      ≡ behind space (said (get_or os i d) (byte s (p + i))) ++ behind space (words s (p + (i + 1)) (drop (i + 1) os))
+  operands_next i d l =
+      ap (λ ys. behind space (words s (p + i) ys)) (drop-cons os i d l) ∙ either (get_or os i d)
+      ∙ ap (λ (q : ℕ). behind space (said (get_or os i d) (byte s (p + i))) ++ behind space (words s q (drop (suc i) os))) (sym (add-suc p i))
+      ∙ ap (λ (j : ℕ). behind space (said (get_or os i d) (byte s (p + i))) ++ behind space (words s (p + j) (drop j os))) (sym (add-one i))
     where
-      either : (b : Bool) (w : Text) (ws : Line) → chosen b ws (w ∷ ws) ≡ chosen b [] (w ∷ []) ++ ws
-      either true w ws = refl
-      either false w ws = refl
+      either : (o : Operand) → behind space (words s (p + i) (o ∷ drop (suc i) os))
+          ≡ behind space (said o (byte s (p + i))) ++ behind space (words s (suc (p + i)) (drop (suc i) os))
+      either o = chosen_words (silent o) (spoken o (byte s (p + i))) (words s (suc (p + i)) (drop (suc i) os))
 
-  operands_at : (j : ℕ) → operands s i (suc j) ≡ behind space (words s (i + suc j) (drop j kinds))
-  unfolding operands
-  operands_at j =
-      let e : suc j - 1 ≡ j = omega arith in
-      ap (λ (t : ℕ). behind space (words s (i + suc j) (drop t kinds))) e
+  pub operands_none : (i : ℕ) → length os ≤ i → behind space (words s (p + i) (drop i os)) ≡ []
+  operands_none i l = ap (λ ys. behind space (words s (p + i) ys)) (drop_of_length-le os l)
 
-  pub operands_next : (k : ℕ) (kind : Operand) → 0 < k → k < size_of (byte s i) → kind ≡ operand_at (byte s i) k
-      → operands s i k ≡ operand kind (byte s (i + k)) ++ operands s i (k + 1)
-  unfolding operand
-  operands_next zero kind h l e = absurd (omega arith)
-  operands_next (suc j) kind h l e =
-      let x : ℕ = byte s (i + suc j) in
-      let rest : Line = words s (i + suc (suc j)) (drop (suc j) kinds) in
-      operands_at j
-      ∙ ap (λ (w : Line). behind space w) (first_words j kinds (more_in (row_of (byte s i)) j l))
-      ∙ behind_append space (said (get_or kinds j Nothing) x) rest
-      ∙ ap (λ (o : Operand). operand o x ++ behind space rest) (sym (e ∙ kind_in (row_of (byte s i)) j))
-      ∙ ap (λ (t : Text). operand kind x ++ t) (sym (operands_at (suc j)) ∙ ap (operands s i) (sym (add-one (suc j))))
+-- a call's list that has numbers
+pub list_some : (w : Text) (ns : List ℕ) → 0 < length ns → behind space (listed w ns) ≡ (space ∷ w) ++ behind space (map decimal ns)
+list_some w [] l = absurd (omega arith)
+list_some w (n ∷ ns) l = refl
 
-  pub operands_none : (k : ℕ) → 0 < k → size_of (byte s i) ≤ k → operands s i k ≡ []
-  operands_none zero h l = absurd (omega arith)
-  operands_none (suc j) h l =
-      operands_at j ∙ ap (λ (q : List Operand). behind space (words s (i + suc j) q)) (drop_of_length-le kinds (none_in (row_of (byte s i)) j l))
+-- what follows a first word that is indented
+behind_indented : (n : ℕ) (w : Text) (ws : Line) → behind space (indented n (w ∷ ws)) ≡ space ∷ join space (indented n (w ∷ ws))
+behind_indented zero w ws = refl
+behind_indented (suc n) w ws = refl
 
-  -- indent, name, operands
-  pub fixed_puts : {a b c d : List ℕ} {p q e r : ℕ} (n x : ℕ) → 0 < byte s i → x ≡ byte s i → Puts a p (spaces n) q b
-      → Puts b q (word_of (12 + x)) e c → Puts c e (operands s i 1) r d → Puts a p (fixed s n i) r d
-  unfolding fixed
-  fixed_puts n x l f h k m = puts_as whole (puts_then h (puts_then k m))
-    where
-      whole : spaces n ++ (word_of (12 + x) ++ operands s i 1) ≡ join space (indented n (fixed_line s i))
-      whole =
-          ap (λ (w : Text). spaces n ++ (w ++ operands s i 1)) (ap (λ (y : ℕ). word_of (12 + y)) f ∙ name_word (byte s i) l)
-          ∙ ap (λ (t : Text). spaces n ++ (name_of (byte s i) ++ t)) (operands_at 0 ∙ ap (λ (p : ℕ). behind space (words s p kinds)) (add-one i))
-          ∙ join_indented n (name_of (byte s i)) (words s (suc i) kinds)
+pub spaces_next : (n : ℕ) → spaces (n + 1) ≡ spaces n ++ (space ∷ space ∷ [])
+spaces_next n = let e : 2 * n + 2 ≡ 2 * (n + 1) = omega arith in sym (replicate-append-replicate (2 * n) 2 space ∙ ap (λ k. replicate k space) e)
 
--- whole lines, with their newline
-module _ {a b c : List ℕ} {p e : ℕ} where
-  pub main_line_lem : Puts a p (word_of 5) e b → c ≡ set b e newline → Puts a p main_line (e + 1) c
-  unfolding main_line
-  main_line_lem h k = puts_line (main ∷ []) h k
+-- an indent, a first word and the words behind it are a line
+pub join_indented : (n : ℕ) (w : Text) (ws : Line) → spaces n ++ (w ++ behind space ws) ≡ join space (indented n (w ∷ ws))
+join_indented zero w ws = refl
+join_indented (suc n) w ws =
+    let e : 2 * suc n ≡ suc (suc (2 * n)) = omega arith in
+    ap (λ (k : ℕ). replicate k space ++ (w ++ behind space ws)) e
+    ∙ ap (λ (t : Text). space ∷ space ∷ t) (join_indented n w ws)
+    ∙ ap (λ (t : Text). space ∷ t) (sym (behind_indented n w ws))
 
-  pub fixed_line_lem : (s : List ℕ) (n i : ℕ) → Puts a p (fixed s n i) e b → c ≡ set b e newline → Puts a p (fixed_line_of s n i) (e + 1) c
-  unfolding fixed fixed_line_of
-  fixed_line_lem s n i h k = puts_line (indented n (fixed_line s i)) h k
+-- the operands of a row
+operands_are : (o : Option Row) → operands_in o ≡ elim o [ none ↦ [] | some r ↦ r.operands ]
+operands_are none = refl
+operands_are (some r) = refl
 
-module _ {a b c d : List ℕ} {p q e : ℕ} where
-  pub first_line_lem : Puts a p (word_of 1) q b → Puts b q (space ∷ decimal 1) e c → d ≡ set c e newline → Puts a p first_line (e + 1) d
-  unfolding first_line
-  first_line_lem h k l = puts_line (program ∷ decimal 1 ∷ []) (puts_then h k) l
+-- the fixed part of a statement at i: indent, name, operands
+pub fixed_text : (s : List ℕ) (n i : ℕ) {b : ℕ} {os : List Operand} → b ≡ byte s i → os ≡ operands_of b
+    → spaces n ++ (name_of b ++ behind space (words s (i + 1) os)) ≡ join space (indented n (fixed_line s i))
+fixed_text s n i {b} e f =
+    ap (λ ys. spaces n ++ (name_of b ++ behind space (words s (i + 1) ys))) (f ∙ sym (operands_are (row_of b)))
+    ∙ join_indented n (name_of b) (words s (i + 1) (operands_in (row_of b)))
+    ∙ ap (λ (c : ℕ). join space (indented n (name_of c ∷ words s (i + 1) (operands_in (row_of c))))) e
+    ∙ ap (λ (j : ℕ). join space (indented n (name_of (byte s i) ∷ words s j (operands_in (row_of (byte s i)))))) (add-one i)
 
-  pub else_line_lem : (n : ℕ) → Puts a p (spaces n) q b → Puts b q (word_of 6) e c → d ≡ set c e newline → Puts a p (else_line n) (e + 1) d
-  unfolding else_line
-  else_line_lem n h k l = puts_line (indented n (else ∷ [])) (puts_as (join_indented n else []) (puts_then h k)) l
+-- words behind a line are the line's last words
+pub join_then : (n : ℕ) (w : Text) (ws vs : Line) → join space (indented n (w ∷ ws)) ++ behind space vs ≡ join space (indented n (w ∷ (ws ++ vs)))
+join_then zero w ws vs = append_assoc w (behind space ws) (behind space vs) ∙ ap (λ t. w ++ t) (sym (behind_append space ws vs))
+join_then (suc n) w ws vs =
+    ap (λ t. space ∷ (t ++ behind space vs)) (behind_indented n w ws)
+    ∙ ap (λ t. space ∷ space ∷ t) (join_then n w ws vs)
+    ∙ ap (λ t. space ∷ t) (sym (behind_indented n w (ws ++ vs)))
 
-module _ {o₀ o₁ o₂ o₃ o₄ o₅ o₆ o₇ : List ℕ} {p₀ p₁ p₂ p₃ p₄ p₅ e : ℕ} where
-  pub head_line_lem : (i k m : ℕ) → Puts o₀ p₀ (word_of 2) p₁ o₁ → Puts o₁ p₁ (space ∷ decimal i) p₂ o₂
-      → Puts o₂ p₂ (space ∷ word_of 3) p₃ o₃ → Puts o₃ p₃ (space ∷ decimal k) p₄ o₄
-      → Puts o₄ p₄ (space ∷ word_of 4) p₅ o₅ → Puts o₅ p₅ (space ∷ decimal m) e o₆
-      → o₇ ≡ set o₆ e newline → Puts o₀ p₀ (head_line_of i k m) (e + 1) o₇
-  unfolding head_line_of
-  head_line_lem i k m h₁ h₂ h₃ h₄ h₅ h₆ l =
-      puts_line (head_line i k m)
-      (puts_then h₁ (puts_then h₂ (puts_then h₃ (puts_then h₄ (puts_then h₅ (puts_as (behind_one (decimal m)) h₆))))))
-      l
-
--- a call's fixed part has four bytes
-pub call_fixed : (s : List ℕ) (i : ℕ) → byte s i ≡ 12 → i + 4 ≤ length s
-    → (0 < byte s i) × (byte s i < 14) × (i + size_of (byte s i) ≤ length s)
-call_fixed s i e l = (omega arith, omega arith, rw (ap (λ (b : ℕ). size_of b) e) l)
+-- bytes in a row
+pub slice_up_to : (s : List ℕ) (i m : ℕ) → i + m ≤ length s → slice_range s i (i + m) ≡ up_to i m (byte s)
+slice_up_to s i m l = let e : i + m - i ≡ m = omega arith in ap (λ k. take k (drop i s)) e ∙ go i m l
+  where
+    go : (i m : ℕ) → i + m ≤ length s → take m (drop i s) ≡ up_to i m (byte s)
+    go i zero l = refl
+    go i (suc m) l =
+        let k : i < length s = omega arith in
+        ap (take (suc m)) (drop-cons s i 0 k) ∙ ap (λ t. byte s i ∷ t) (go (suc i) m (omega arith))
 
 -- a call's line: its fixed part, its places and its slots
-module _ {o₀ o₁ o₂ o₃ o₄ : List ℕ} {p₀ p₁ p₂ e : ℕ} where
-  pub call_line : (s : List ℕ) (n i k m : ℕ) → k ≡ byte s (i + 2) → m ≡ byte s (i + 3) → Puts o₀ p₀ (fixed s n i) p₁ o₁
-      → Puts o₁ p₁ (list s (word_of 7) (i + 4) k) p₂ o₂ → Puts o₂ p₂ (list s (word_of 8) (i + 4 + k) m) e o₃ → o₄ ≡ set o₃ e newline
-      → Puts o₀ p₀ (call_line_of s n i) (e + 1) o₄
-  unfolding fixed list call_line_of
-  call_line s n i k m ek em h₁ h₂ h₃ l =
-      puts_as (ap (λ (x : ℕ). line_of x m) ek ∙ ap (λ (x : ℕ). line_of (byte s (i + 2)) x) em)
-      (puts_line (indented n (fixed_line s i ++ lists k m)) (puts_as whole (puts_then h₁ (puts_then h₂ h₃))) l)
-    where
-      -- with x places and y slots
-      places : ℕ → Line
-      places x = listed at (up_to (i + 4) x (byte s))
+module _ (s : List ℕ) (n i : ℕ) where
+  abbrev slots_at : ℕ
+  slots_at = i + 4 + byte s (i + 2)
 
-      slots : ℕ → ℕ → Line
-      slots x y = listed with (up_to (i + 4 + x) y (byte s))
+  -- the lists, by the bytes of each
+  abbrev lists : List ℕ → List ℕ → Text
+  lists xs ys = join space (indented n (fixed_line s i)) ++ (behind space (listed at xs) ++ behind space (listed with ys))
 
-      lists : ℕ → ℕ → Line
-      lists x y = places x ++ slots x y
-
-      line_of : ℕ → ℕ → Text
-      line_of x y = written (indented n (fixed_line s i ++ lists x y) ∷ [])
-
-      whole : fixed s n i ++ (list s (word_of 7) (i + 4) k ++ list s (word_of 8) (i + 4 + k) m) ≡ join space (indented n (fixed_line s i ++ lists k m))
-      whole =
-          let w = name_of (byte s i) in
-          let ws = words s (suc i) (kinds s i) in
-          let t = list s (word_of 7) (i + 4) k ++ list s (word_of 8) (i + 4 + k) m in
-          ap (λ (u : Text). u ++ t) (sym (join_indented n w ws))
-          ∙ append_assoc (spaces n) (w ++ behind space ws) t
-          ∙ ap (λ (u : Text). spaces n ++ u) (append_assoc w (behind space ws) t)
-          ∙ ap (λ (u : Text). spaces n ++ (w ++ (behind space ws ++ u))) (sym (behind_append space (places k) (slots k m)))
-          ∙ ap (λ (u : Text). spaces n ++ (w ++ u)) (sym (behind_append space ws (lists k m)))
-          ∙ join_indented n w (ws ++ lists k m)
+  pub call_text : slots_at + byte s (i + 3) ≤ length s
+      → lists (slice_range s (i + 4) slots_at) (slice_range s slots_at (slots_at + byte s (i + 3))) ++ (newline ∷ []) ≡ call_line s n i
+  call_text l =
+      let places : Line = listed at (up_to (i + 4) (byte s (i + 2)) (byte s)) in
+      let slots : Line = listed with (up_to slots_at (byte s (i + 3)) (byte s)) in
+      ap (λ xs. lists xs (slice_range s slots_at (slots_at + byte s (i + 3))) ++ (newline ∷ [])) (slice_up_to s (i + 4) (byte s (i + 2)) (omega arith))
+      ∙ ap (λ ys. lists (up_to (i + 4) (byte s (i + 2)) (byte s)) ys ++ (newline ∷ [])) (slice_up_to s slots_at (byte s (i + 3)) l)
+      ∙ ap (λ t. join space (indented n (fixed_line s i)) ++ t ++ (newline ∷ [])) (sym (behind_append space places slots))
+      ∙ ap (λ t. t ++ (newline ∷ [])) (join_then n (name_of (byte s i)) (words s (suc i) (operands_in (row_of (byte s i)))) (places ++ slots))

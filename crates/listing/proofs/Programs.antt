@@ -1,12 +1,7 @@
 -- A whole program: its table says where every body stands, and main's place where main does. The functions are put one after the other, each its head
 -- and its body, then main.
-use mathlib.Core.List.{List, [], ◌∷◌, ◌++◌}
-use mathlib.Core.Path.{◌≡◌, refl, sym, ap, subst, ◌∙◌}
-use native.Mathlib.Numerals.{add-one}
-use native.Mathlib.Omega.{arith}
-use Prim.Native.Nat.{ℕ, suc, ◌+◌, ◌*◌, ◌<◌, ◌≤◌}
-use lib.ListN.{drop, drop_of_length-le, get_or, length}
-use lib.Seq.{drop-cons}
+use Rattle.std.proofs.Common.{List, [], ◌∷◌, ◌++◌, ◌≡◌, ℕ, suc, refl, sym, ap, subst, ◌∙◌}
+use Rattle.std.proofs.Common.{◌+◌, ◌<◌, ◌≤◌, length, drop, drop-cons, drop_of_length-le, add-one, arith}
 use Rattle.answers.specs.Check.{Check, ok, ◌>>=◌}
 use Rattle.rules.specs.Syntax.{device, parameter, Function, function, block, done, Program}
 use Rattle.rules.specs.Words.{Text, written, decimal}
@@ -14,16 +9,16 @@ use Rattle.rules.specs.Names.{program, main}
 use Rattle.rules.specs.Program.{read_program}
 use Rattle.rules.specs.Listing.{Line, head_line, block_lines, functions_lines, program_lines, listing}
 use Rattle.program.specs.In.{ProgramIn, BlockIn, scope_of, main_scope}
+use Rattle.program.specs.Reader.{entry}
+use Rattle.program.specs.declared.functions.Head.{Head}
 use Rattle.program.specs.declared.functions.FunctionTable.{FunctionTable}
 use Rattle.program.proofs.In.{program_in}
-use Rattle.listing.specs.declared.blocks.Ends.{Ends}
+use Rattle.listing.specs.declared.writer.Writer.{Writer}
 use Rattle.listing.specs.Puts.{Puts}
-use Rattle.listing.specs.Lines.{head_line_of, first_line, main_line}
-use Rattle.listing.specs.Blocks.{BlockHere, Room, Between, BlockPut}
+use Rattle.listing.specs.Blocks.{BlockHere, BlockPut}
 use Rattle.listing.specs.Whole.{ReadIn, functions_text}
-use Rattle.listing.proofs.Putting.{puts_as, puts_then}
-use Rattle.listing.proofs.Left.{Left, left_start, left_next, left_none}
-use Rattle.listing.proofs.Written.{written_append}
+use Rattle.listing.proofs.Putting.{puts_as, puts_then, Left, left_start, left_next, left_none}
+use Rattle.listing.proofs.LineLaws.{written_append}
 
 module _ {s : List ℕ} {t : FunctionTable} {m : ℕ} (h : ReadIn s t m) where
   stands : ProgramIn s h.tree
@@ -38,14 +33,14 @@ module _ {s : List ℕ} {t : FunctionTable} {m : ℕ} (h : ReadIn s t m) where
 
   -- the body of a function, where the table says
   body_in : (g : ℕ) → g < t.count
-      → (q : ℕ) × BlockIn s (scope_of h.tree.functions g) 8 (get_or t.bodies g 0) (function h.tree.functions g).body q
+      → (q : ℕ) × BlockIn s (scope_of h.tree.functions g) 8 (entry t g).body (function h.tree.functions g).body q
   body_in g l =
       let fs = h.tree.functions in
       let k : g < length fs = omega (arith, h.tabled.heads.count) in
       let b = stands.body g k in
       (b.0, subst (λ (i : ℕ). BlockIn s (scope_of fs g) 8 i (function fs g).body b.0) (sym (h.tabled.heads.bodies g k)) b.1)
 
-  pub function_here : (g : ℕ) → g < t.count → BlockHere s 1 (get_or t.bodies g 0)
+  pub function_here : (g : ℕ) → g < t.count → BlockHere s 1 (entry t g).body
   function_here g l = record {
     side = parameter;
     scope = scope_of h.tree.functions g;
@@ -54,14 +49,8 @@ module _ {s : List ℕ} {t : FunctionTable} {m : ℕ} (h : ReadIn s t m) where
     past = (body_in g l).0;
     stands = (body_in g l).1;
     shallow = omega arith;
+    size = stands.size;
   }
-
-  pub function_room : (g i e r : ℕ) → g < t.count → e ≤ 100 + 410000 * g → r ≤ e + 42 → Room s i r
-  function_room g i e r l k j = record { size = stands.size; room = omega (arith, few, stands.size) }
-
-  -- a head and a body have less than 410,000 characters
-  pub function_short : (g i at e l : ℕ) (r : Ends) → e ≤ at + 410000 * g → l ≤ e + 42 → Between s i l r → r.text ≤ at + 410000 * (g + 1)
-  function_short g i at e l r j k b = omega (arith, b.inside, b.short, stands.size)
 
   main_in : BlockIn s (main_scope h.tree.functions) 8 m h.tree.main (length s)
   main_in = subst (λ (i : ℕ). BlockIn s (main_scope h.tree.functions) 8 i h.tree.main (length s)) (sym h.tabled.main_at_lem) stands.main
@@ -75,14 +64,16 @@ module _ {s : List ℕ} {t : FunctionTable} {m : ℕ} (h : ReadIn s t m) where
     past = length s;
     stands = main_in;
     shallow = omega arith;
+    size = stands.size;
   }
 
-  pub main_room : (e r : ℕ) → e ≤ 6150114 → r ≤ e + 10 → Room s m r
-  main_room e r k j = record { size = stands.size; room = omega (arith, stands.size) }
-
 -- the functions from number g on
-unfoldable pub functions_from : List ℕ → List Function → ℕ → Text
+abbrev pub functions_from : List ℕ → List Function → ℕ → Text
 functions_from s fs g = written (functions_lines s g (drop g fs))
+
+-- the head of number g as the table has it
+abbrev pub head_of : ℕ → Head → Text
+head_of g head = written (head_line g head.locations head.arguments ∷ [])
 
 module _ (s : List ℕ) (fs : List Function) (g : ℕ) where
   abbrev body : List Line
@@ -91,55 +82,47 @@ module _ (s : List ℕ) (fs : List Function) (g : ℕ) where
   abbrev later : List Line
   later = functions_lines s (suc g) (drop (suc g) fs)
 
-  head_first : g < length fs → functions_from s fs g ≡ head_line_of g (function fs g).k (function fs g).m ++ written (body ++ later)
-  unfolding functions_from head_line_of
+  head_first : g < length fs → functions_from s fs g ≡ written (head_line g (function fs g).k (function fs g).m ∷ []) ++ written (body ++ later)
   head_first l =
       ap (λ (q : List Function). written (functions_lines s g q)) (drop-cons fs g (record { k = 0; m = 0; body = block 0 done }) l)
       ∙ written_append (head_line g (function fs g).k (function fs g).m ∷ []) (body ++ later)
 
   body_next : written (body ++ later) ≡ written body ++ functions_from s fs (g + 1)
-  unfolding functions_from
   body_next = written_append body later ∙ ap (λ (k : ℕ). written body ++ written (functions_lines s k (drop k fs))) (sym (add-one g))
 
 -- of a program that reads the functions from number g on are left
-pub record FunctionsLeft (s a : List ℕ) (at : ℕ) (b : List ℕ) (e g : ℕ) : Type 0 where
-  pub left : (p : Program) → read_program s ≡ ok p → Left a at (functions_text s p) b e (functions_from s p.functions g)
+pub record FunctionsLeft (s : List ℕ) (a b : Writer) (g : ℕ) : Type 0 where
+  pub left : (p : Program) → read_program s ≡ ok p → Left a (functions_text s p) b (functions_from s p.functions g)
 
-module _ {s a : List ℕ} {at : ℕ} where
-  pub functions_start : FunctionsLeft s a at a at 0
-  unfolding functions_text functions_from
+module _ {s : List ℕ} {a : Writer} where
+  pub functions_start : FunctionsLeft s a a 0
   functions_start = record { left = λ p e. left_start refl }
 
-  pub functions_step : {t : FunctionTable} {b c d : List ℕ} {m e i k n l : ℕ} (g : ℕ) (r : Ends) → ReadIn s t m → g < t.count
-      → FunctionsLeft s a at b e g → k ≡ get_or t.ks g 0 → n ≡ get_or t.ms g 0 → i ≡ get_or t.bodies g 0 → Puts b e (head_line_of g k n) l c
-      → BlockPut s 1 i c l r d → FunctionsLeft s a at d r.text (g + 1)
-  functions_step {c = c} {d = d} {k = k} {n = n} {l = l} g r h o f ek en ei u v = record { left = λ p w. subst Rest (the_one h p w) rest }
+  pub functions_step : {t : FunctionTable} {b c d : Writer} {m r : ℕ} (g : ℕ) → ReadIn s t m → g < t.count → FunctionsLeft s a b g
+      → Puts b (head_of g (entry t g)) c → BlockPut s 1 (entry t g).body c r d → FunctionsLeft s a d (g + 1)
+  functions_step {t = t} {c = c} {d = d} g h o f u v = record { left = λ p w. subst Rest (the_one h p w) rest }
     where
       fs : List Function
       fs = h.tree.functions
 
       Rest : Program → Type 0
-      Rest p = Left a at (functions_text s p) d r.text (functions_from s p.functions (g + 1))
+      Rest p = Left a (functions_text s p) d (functions_from s p.functions (g + 1))
 
-      head : head_line_of g k n ≡ head_line_of g (function fs g).k (function fs g).m
+      head : head_of g (entry t g) ≡ written (head_line g (function fs g).k (function fs g).m ∷ [])
       head =
-          ap (λ (x : ℕ). head_line_of g x n) (ek ∙ h.tabled.heads.ks g)
-          ∙ ap (λ (x : ℕ). head_line_of g (function fs g).k x) (en ∙ h.tabled.heads.ms g)
+          ap (λ (x : ℕ). written (head_line g x (entry t g).arguments ∷ [])) (h.tabled.heads.ks g)
+          ∙ ap (λ (x : ℕ). written (head_line g (function fs g).k x ∷ [])) (h.tabled.heads.ms g)
 
-      own : Puts c l (written (body s fs g)) r.text d
-      own =
-          let b = body_in h g o in
-          let at_i = subst (λ (j : ℕ). BlockIn s (scope_of fs g) 8 j (function fs g).body b.0) (sym ei) b.1 in
-          (v.block parameter (scope_of fs g) 8 (function fs g).body b.0 at_i).1
+      own : Puts c (written (body s fs g)) d
+      own = let b = body_in h g o in (v.block parameter (scope_of fs g) 8 (function fs g).body b.0 b.1).1
 
       rest : Rest h.tree
       rest =
           let k = head_first s fs g (omega (arith, h.tabled.heads.count)) in
           left_next (left_next (f.left h.tree h.reads) k (puts_as head u)) (body_next s fs g) own
 
-  pub functions_all : {b : List ℕ} {t : FunctionTable} {m e : ℕ} (g : ℕ) → ReadIn s t m → t.count ≤ g → FunctionsLeft s a at b e g
-      → (p : Program) → read_program s ≡ ok p → Puts a at (functions_text s p) e b
-  unfolding functions_from
+  pub functions_all : {b : Writer} {t : FunctionTable} {m : ℕ} (g : ℕ) → ReadIn s t m → t.count ≤ g → FunctionsLeft s a b g
+      → (p : Program) → read_program s ≡ ok p → Puts a (functions_text s p) b
   functions_all g h o f p w =
       let n : length p.functions ≤ g = subst (λ (q : Program). length q.functions ≤ g) (the_one h p w) (omega (arith, h.tabled.heads.count)) in
       left_none (f.left p w) (ap (λ (q : List Function). written (functions_lines s g q)) (drop_of_length-le p.functions n))
@@ -150,12 +133,10 @@ unfolding ◌>>=◌
 listing_is s p e = ap (λ (x : Check Program). x >>= λ q. ok (written (program_lines s q))) e
 
 -- the first line, the functions, main's line and main
-pub program_puts : {s o₀ o₁ o₂ o₃ o₄ : List ℕ} {t : FunctionTable} {m p₁ p₂ p₃ : ℕ} (r : Ends) → ReadIn s t m
-    → Puts o₀ 0 first_line p₁ o₁ → ((p : Program) → read_program s ≡ ok p → Puts o₁ p₁ (functions_text s p) p₂ o₂)
-    → Puts o₂ p₂ main_line p₃ o₃
-    → BlockPut s 1 m o₃ p₃ r o₄ → (text : Text) → listing s ≡ ok text → Puts o₀ 0 text r.text o₄
-unfolding first_line functions_text main_line
-program_puts {s} r h a b c d text e =
+pub program_puts : {s : List ℕ} {o₀ o₁ o₂ o₃ o₄ : Writer} {t : FunctionTable} {m r : ℕ} → ReadIn s t m
+    → Puts o₀ (written ((program ∷ decimal 1 ∷ []) ∷ [])) o₁ → ((p : Program) → read_program s ≡ ok p → Puts o₁ (functions_text s p) o₂)
+    → Puts o₂ (written ((main ∷ []) ∷ [])) o₃ → BlockPut s 1 m o₃ r o₄ → (text : Text) → listing s ≡ ok text → Puts o₀ text o₄
+program_puts {s} h a b c d text e =
     let body = (d.block device (main_scope fs) 8 h.tree.main (length s) (main_in h)).1 in
     puts_as (lines ∙ same) (puts_then a (puts_then (b h.tree h.reads) (puts_then c body)))
   where

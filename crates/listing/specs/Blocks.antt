@@ -1,11 +1,11 @@
 -- What the writer of blocks is called on, and what it gives: whichever block or statement stands at a place of the file, its lines are put.
-use Rattle.std.specs.Prelude.{List, ◌≡◌, ℕ, ◌+◌, ◌*◌, ◌≤◌, length}
+use Rattle.std.specs.Prelude.{List, ◌≡◌, ℕ, ◌+◌, ◌≤◌, length}
 use Rattle.rules.specs.Syntax.{Side, Statement, Block}
 use Rattle.rules.specs.Program.{Scope}
 use Rattle.rules.specs.Words.{written}
 use Rattle.rules.specs.Listing.{statement_lines, block_lines}
 use Rattle.program.specs.In.{BlockIn, StatementIn}
-use Rattle.listing.specs.declared.blocks.Ends.{Ends}
+use Rattle.listing.specs.declared.writer.Writer.{Writer}
 use Rattle.listing.specs.Puts.{Puts}
 
 module _ (s : List ℕ) where
@@ -18,6 +18,7 @@ module _ (s : List ℕ) where
     pub past : ℕ
     pub stands : BlockIn s scope depths i tree past
     pub shallow : n + depths ≤ 9
+    pub size : length s ≤ 4096
 
   pub record StatementHere (n i : ℕ) : Type 0 where
     pub side : Side
@@ -27,23 +28,13 @@ module _ (s : List ℕ) where
     pub past : ℕ
     pub stands : StatementIn s scope depths i tree past
     pub shallow : n + depths ≤ 8
-
-  -- a hundred characters for each byte that is left keep the end of the text small
-  pub record Room (i at : ℕ) : Type 0 where
     pub size : length s ≤ 4096
-    pub room : at + 100 * length s ≤ 7000000 + 100 * i
 
-  -- what is put ends within them
-  pub record Between (i at : ℕ) (r : Ends) : Type 0 where
-    pub some : i + 2 ≤ r.next
-    pub inside : r.next ≤ length s
-    pub short : r.text + 100 * i ≤ at + 100 * r.next
-
-  -- the lines of the block at i, n deep, are put from `at` on
-  pub record BlockPut (n i : ℕ) (before : List ℕ) (at : ℕ) (r : Ends) (after : List ℕ) : Type 0 where
+  -- the lines of the block at i, n deep, are put, and the block ends at r
+  pub record BlockPut (n i : ℕ) (before : Writer) (r : ℕ) (after : Writer) : Type 0 where
     pub block : (d : Side) (S : Scope) (depths : ℕ) (x : Block d) (q : ℕ) → BlockIn s S depths i x q
-        → (r.next ≡ q) × Puts before at (written (block_lines s n x)) r.text after
+        → (r ≡ q) × Puts before (written (block_lines s n x)) after
 
-  pub record StatementPut (n i : ℕ) (before : List ℕ) (at : ℕ) (r : Ends) (after : List ℕ) : Type 0 where
+  pub record StatementPut (n i : ℕ) (before : Writer) (r : ℕ) (after : Writer) : Type 0 where
     pub statement : (d : Side) (S : Scope) (depths : ℕ) (x : Statement d) (q : ℕ) → StatementIn s S depths i x q
-        → (r.next ≡ q) × Puts before at (written (statement_lines s n x)) r.text after
+        → (r ≡ q) × Puts before (written (statement_lines s n x)) after

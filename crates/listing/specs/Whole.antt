@@ -1,8 +1,8 @@
 -- What the writer of a whole program is called on, and what the call answers.
-use Rattle.std.specs.Prelude.{List, ◌≡◌, ℕ}
+use Rattle.std.specs.Prelude.{List, ◌≡◌, ℕ, Result}
 use Rattle.answers.specs.Check.{ok}
-use Rattle.answers.specs.Said.{written_said}
-use Rattle.answers.specs.declared.WrittenAnswer.{WrittenAnswer}
+use Rattle.answers.specs.Said.{said}
+use Rattle.answers.specs.declared.Refusal.{Refusal}
 use Rattle.rules.specs.Syntax.{Program}
 use Rattle.rules.specs.Words.{Text, written}
 use Rattle.rules.specs.Program.{read_program}
@@ -17,9 +17,9 @@ pub record ReadIn (s : List ℕ) (t : FunctionTable) (main : ℕ) : Type 0 where
   pub reads : read_program s ≡ ok tree
   pub tabled : Tabled tree t main
 
-unfoldable pub functions_text : List ℕ → Program → Text
+abbrev pub functions_text : List ℕ → Program → Text
 functions_text s p = written (functions_lines s 0 p.functions)
 
 -- an answer, and what the buffer holds then
-abbrev pub told : WrittenAnswer → List ℕ → Copied
-told r buffer = record { answer = written_said r; buffer = buffer }
+abbrev pub told : Result ℕ Refusal → List ℕ → Copied
+told r buffer = record { answer = said r; buffer = buffer }

@@ -1,77 +1,59 @@
 // The lines of blocks. A loop goes over a block's statements; only nesting recurses.
-ghost use Rattle.std.specs.Prelude.{◌+◌, ◌≤◌, ◌≡◌, length};
-ghost use Rattle.rules.specs.Basics.{byte};
-ghost use Rattle.listing.specs.Blocks.{BlockHere, StatementHere, Room, BlockPut, StatementPut, Between};
+ghost use Rattle.listing.specs.Blocks.{BlockHere, StatementHere, BlockPut, StatementPut};
 
-use crate::lines::{put_call, put_else, put_line};
-use rules::bytes::{wide, word_at};
-use rules::statements::fixed_size;
+use crate::writer::Writer;
+use rules::positions::{block_end, call_end};
+use rules::statements::Kind;
+use rules::words::Word;
 
-// Where the text ends, and where the block or statement does.
-#[derive(Clone, Copy)]
-pub struct Ends {
-    pub text: usize,
-    pub next: usize,
-}
-
-// The block whose length word is at `i`, its lines n deep.
+// The block whose length word is at `at`, its lines so deep: the position after it.
 #[cycle(put_block_put_statement)]
-pub fn put_block(s: &[u8], i: usize, n: usize, out: &mut [u8], at: usize) -> Ends
-    requires { BlockHere s.now n i × Room s.now i at }
-    ensures block_put { BlockPut s.now n i out.old at result out.new }
-    ensures between { Between s.now i at result }
+pub fn put_block(out: &mut Writer, s: &[u8], at: usize, depth: usize) -> usize
+    requires { BlockHere s.now depth at }
+    ensures { BlockPut s.now depth at out.old result out.new }
 {
-    let stop = i + 2 + word_at(s, i);
-    let mut p = i + 2;
-    let mut e = at;
+    let stop = block_end(s, at);
+    let mut p = at + 2;
     while p < stop {
-        let t = put_statement(s, p, n, out, e);
-        p = t.next;
-        e = t.text;
+        p = put_statement(out, s, p, depth);
     }
-    Ends { text: e, next: p }
+    p
 }
 
-// The statement at `i`, with the blocks of an if or a while.
+// The statement at `at`, with the blocks of an if or a while: the position after it.
 #[cycle(put_block_put_statement)]
-pub fn put_statement(s: &[u8], i: usize, n: usize, out: &mut [u8], at: usize) -> Ends
-    requires { StatementHere s.now n i × Room s.now i at }
-    ensures statement_put { StatementPut s.now n i out.old at result out.new }
-    ensures between { Between s.now i at result }
+fn put_statement(out: &mut Writer, s: &[u8], at: usize, depth: usize) -> usize
+    requires { StatementHere s.now depth at }
+    ensures { StatementPut s.now depth at out.old result out.new }
 {
-    let statement = s[i];
-    match statement {
-        10 => {
-            let line = put_line(s, i, n, out, at);
-            let a = put_block(s, i + 2, n + 1, out, line);
-            let other = put_else(out, a.text, n);
-            put_block(s, a.next, n + 1, out, other)
+    let kind = Kind::known(s[at]);
+    match kind {
+        Kind::If => {
+            out.statement_line(kind, s, at, depth);
+            let middle = put_block(out, s, at + 2, depth + 1);
+            out.line(depth, Word::Else, &[]);
+            put_block(out, s, middle, depth + 1)
         }
-        11 => {
-            let line = put_line(s, i, n, out, at);
-            put_block(s, i + 2, n + 1, out, line)
+        Kind::While => {
+            out.statement_line(kind, s, at, depth);
+            put_block(out, s, at + 2, depth + 1)
         }
-        12 => {
-            let e = put_call(s, i, n, out, at);
-            Ends {
-                text: e,
-                next: call_end(s, i),
-            }
+        Kind::Call => {
+            out.call_line(s, at, depth);
+            call_end(s, at)
         }
-        _ => {
-            let e = put_line(s, i, n, out, at);
-            Ends {
-                text: e,
-                next: i + fixed_size(statement),
-            }
+        Kind::Init
+        | Kind::Magic
+        | Kind::Free
+        | Kind::Gate
+        | Kind::Measure
+        | Kind::Merge
+        | Kind::Ref
+        | Kind::Get
+        | Kind::Set
+        | Kind::Bool => {
+            out.statement_line(kind, s, at, depth);
+            at + kind.size()
         }
     }
-}
-
-// The position after the call at `i` and its lists.
-fn call_end(s: &[u8], i: usize) -> usize
-    requires { (i + 4 ≤ length s.now) × (length s.now ≤ 4096) }
-    ensures { result ≡ i + 4 + byte s.now (i + 2) + byte s.now (i + 3) }
-{
-    i + 4 + wide(s[i + 2]) + wide(s[i + 3])
 }

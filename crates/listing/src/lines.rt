@@ -1,137 +1,71 @@
-// The lines of a listing, one function for each form.
-ghost use Rattle.std.specs.Prelude.{◌+◌, ◌*◌, ◌≤◌, ◌<◌, ◌≡◌, length};
+// The lines of a listing.
+ghost use Rattle.std.specs.Prelude.{[], ◌∷◌, map, ◌+◌, ◌≤◌, ◌≡◌, length};
 ghost use Rattle.rules.specs.Basics.{byte};
+ghost use Rattle.rules.specs.Words.{space, join, written};
+ghost use Rattle.rules.specs.Kinds.{text_of, byte_of};
 ghost use Rattle.rules.specs.Table.{size_of};
+ghost use Rattle.rules.specs.Listing.{indented, fixed_line};
 ghost use Rattle.listing.specs.Puts.{Puts};
-ghost use Rattle.listing.specs.Lines.{spaces, operands, fixed, fixed_line_of, call_line_of, else_line, head_line_of, first_line, main_line};
+ghost use Rattle.listing.specs.Lines.{text_of_item, spaces, call_line};
 
-use crate::put::{put, put_word};
-use crate::spaced::{SPACE, number_behind, put_list, put_operand, word_behind};
-use rules::bytes::wide;
-use rules::statements::{fixed_size, operand_kind};
-use rules::words;
+use crate::items::Item;
+use crate::writer::Writer;
+use rules::statements::Kind;
+use rules::words::Word;
 
-const NEWLINE: u8 = 0x0A;
-
-// Two spaces for each of n depths.
-fn put_indent(out: &mut [u8], at: usize, n: usize) -> usize
-    requires { (n ≤ 8) × (at ≤ 9000000) }
-    ensures puts { Puts out.old at (spaces n) result out.new }
-    ensures upper_bound { result ≤ at + 16 }
-{
-    let end = at + 2 * n;
-    let mut e = at;
-    while e < end {
-        put(out, e, SPACE);
-        e += 1;
+impl Writer<'_> {
+    // A line: its first word, two spaces further in for each depth, and the items behind it.
+    pub fn line(&mut self, depth: usize, first: Word, items: &[Item])
+        ensures { Puts self.old (written (indented depth (text_of first ∷ map text_of_item items.now) ∷ [])) self.new }
+    {
+        self.indent(depth);
+        self.word(first);
+        for item in items {
+            self.item(*item);
+        }
+        self.character(b'\n');
     }
-    e
-}
 
-// The operands of the statement at `i`, by the table.
-fn put_operands(s: &[u8], i: usize, out: &mut [u8], at: usize) -> usize
-    requires { (0 < byte s.now i) × (byte s.now i < 14) × (i + size_of (byte s.now i) ≤ length s.now) × (at ≤ 9000000) }
-    ensures puts { Puts out.old at (operands s.now i 1) result out.new }
-    ensures upper_bound { result ≤ at + 50 }
-{
-    let statement = s[i];
-    let size = fixed_size(statement);
-    let mut k: usize = 1;
-    let mut e = at;
-    while k < size {
-        e = put_operand(out, e, operand_kind(statement, k), s[i + k]);
-        k += 1;
+    // The line of the statement at `at`, which is no call.
+    pub fn statement_line(&mut self, kind: Kind, s: &[u8], at: usize, depth: usize)
+        requires { (byte_of kind ≡ byte s.now at) × (at + size_of (byte s.now at) ≤ length s.now) }
+        ensures { Puts self.old (written (indented depth (fixed_line s.now at) ∷ [])) self.new }
+    {
+        self.fixed_part(kind, s, at, depth);
+        self.character(b'\n');
     }
-    e
-}
 
-// The statement at `i` behind its indent: its name and its operands.
-fn put_fixed(s: &[u8], i: usize, n: usize, out: &mut [u8], at: usize) -> usize
-    requires i_nonzero { (0 < byte s.now i) × (byte s.now i < 14) × (i + size_of (byte s.now i) ≤ length s.now) }
-    requires n_bound { (n ≤ 8) × (at ≤ 8000000) }
-    ensures puts { Puts out.old at (fixed s.now n i) result out.new }
-    ensures upper_bound { result ≤ at + 75 }
-{
-    let p = put_indent(out, at, n);
-    let e = put_word(out, p, words::NAMES + wide(s[i]));
-    put_operands(s, i, out, e)
-}
+    // The line of the call at `at`, with its two lists.
+    pub fn call_line(&mut self, s: &[u8], at: usize, depth: usize)
+        requires { (byte s.now at ≡ 12) × (at + 4 + byte s.now (at + 2) + byte s.now (at + 3) ≤ length s.now) }
+        ensures { Puts self.old (call_line s.now depth at) self.new }
+    {
+        self.fixed_part(Kind::Call, s, at, depth);
+        let places = at + 4;
+        let slots = places + s[at + 2] as usize;
+        self.list(Word::At, &s[places..slots]);
+        self.list(Word::With, &s[slots..slots + s[at + 3] as usize]);
+        self.character(b'\n');
+    }
 
-// The line of the statement at `i`, which is no call.
-pub fn put_line(s: &[u8], i: usize, n: usize, out: &mut [u8], at: usize) -> usize
-    requires i_nonzero { (0 < byte s.now i) × (byte s.now i < 14) × (i + size_of (byte s.now i) ≤ length s.now) }
-    requires n_bound { (n ≤ 8) × (at ≤ 8000000) }
-    ensures puts { Puts out.old at (fixed_line_of s.now n i) result out.new }
-    ensures upper_bound { result ≤ at + 76 }
-{
-    let e = put_fixed(s, i, n, out, at);
-    put(out, e, NEWLINE);
-    e + 1
-}
+    // The statement at `at` behind its indent: its name and its operands.
+    fn fixed_part(&mut self, kind: Kind, s: &[u8], at: usize, depth: usize)
+        requires { (byte_of kind ≡ byte s.now at) × (at + size_of (byte s.now at) ≤ length s.now) }
+        ensures { Puts self.old (join space (indented depth (fixed_line s.now at))) self.new }
+    {
+        self.indent(depth);
+        self.word(Word::Name(kind));
+        let operands = kind.operands();
+        for i in 0..operands.len() {
+            self.operand(operands[i], s[at + 1 + i]);
+        }
+    }
 
-// The line of the call at `i`: with its two lists.
-pub fn put_call(s: &[u8], i: usize, n: usize, out: &mut [u8], at: usize) -> usize
-    requires i_value { (byte s.now i ≡ 12) × (i + 4 + byte s.now (i + 2) + byte s.now (i + 3) ≤ length s.now) }
-    requires n_bound { (n ≤ 8) × (at ≤ 7000000) }
-    ensures puts { Puts out.old at (call_line_of s.now n i) result out.new }
-    ensures upper_bound { result ≤ at + 96 + 4 * (byte s.now (i + 2) + byte s.now (i + 3)) }
-{
-    let k = wide(s[i + 2]);
-    let m = wide(s[i + 3]);
-    let a = put_fixed(s, i, n, out, at);
-    let b = put_list(s, i + 4, k, words::AT, out, a);
-    let e = put_list(s, i + 4 + k, m, words::WITH, out, b);
-    put(out, e, NEWLINE);
-    e + 1
-}
-
-// `else`
-pub fn put_else(out: &mut [u8], at: usize, n: usize) -> usize
-    requires { (n ≤ 8) × (at ≤ 9000000) }
-    ensures puts { Puts out.old at (else_line n) result out.new }
-    ensures upper_bound { result ≤ at + 26 }
-{
-    let p = put_indent(out, at, n);
-    let e = put_word(out, p, words::ELSE);
-    put(out, e, NEWLINE);
-    e + 1
-}
-
-// `function 0 locations 2 arguments 1`
-pub fn put_head(out: &mut [u8], at: usize, i: u8, k: u8, m: u8) -> usize
-    requires { at ≤ 9000000 }
-    ensures puts { Puts out.old at (head_line_of i k m) result out.new }
-    ensures upper_bound { result ≤ at + 42 }
-{
-    let a = put_word(out, at, words::FUNCTION);
-    let b = number_behind(out, a, i);
-    let c = word_behind(out, b, words::LOCATIONS);
-    let d = number_behind(out, c, k);
-    let e = word_behind(out, d, words::ARGUMENTS);
-    let f = number_behind(out, e, m);
-    put(out, f, NEWLINE);
-    f + 1
-}
-
-// `program 1`
-pub fn put_first(out: &mut [u8], at: usize) -> usize
-    requires { at ≤ 9000000 }
-    ensures puts { Puts out.old at first_line result out.new }
-    ensures upper_bound { result ≤ at + 14 }
-{
-    let a = put_word(out, at, words::PROGRAM);
-    let b = number_behind(out, a, 1);
-    put(out, b, NEWLINE);
-    b + 1
-}
-
-// `main`
-pub fn put_main(out: &mut [u8], at: usize) -> usize
-    requires { at ≤ 9000000 }
-    ensures puts { Puts out.old at main_line result out.new }
-    ensures upper_bound { result ≤ at + 10 }
-{
-    let a = put_word(out, at, words::MAIN);
-    put(out, a, NEWLINE);
-    a + 1
+    fn indent(&mut self, depth: usize)
+        ensures { Puts self.old (spaces depth) self.new }
+    {
+        for _ in 0..depth {
+            self.characters(b"  ");
+        }
+    }
 }

@@ -1,6 +1,6 @@
 -- The loop over a block's statements. At a position some of the statements are left to be put; a statement that is put goes from the rest to what is
 -- put, and at the block's end there is no rest.
-use Rattle.std.proofs.Common.{List, ◌≡◌, ℕ, suc, refl, sym, ap, subst, ◌∙◌, ◌+◌, ◌<◌, ◌≤◌, arith}
+use Rattle.std.proofs.Common.{List, ◌≡◌, ℕ, suc, sym, ap, subst, ◌∙◌, ◌+◌, ◌<◌, ◌≤◌, arith}
 use Rattle.rules.specs.Basics.{word}
 use Rattle.rules.specs.Syntax.{Side, Statements, Block, block}
 use Rattle.rules.specs.Program.{Scope}
@@ -11,7 +11,7 @@ use Rattle.program.proofs.In.{block_in, statements_end, statements_next}
 use Rattle.listing.specs.declared.writer.Writer.{Writer}
 use Rattle.listing.specs.Puts.{Puts}
 use Rattle.listing.specs.Blocks.{BlockHere, StatementHere, BlockPut, StatementPut}
-use Rattle.listing.proofs.Putting.{puts_as, Left, left_start, left_next, left_none}
+use Rattle.listing.proofs.Putting.{puts_as, Left, left_next, left_none}
 use Rattle.listing.proofs.LineLaws.{written_append}
 
 module _ (s : List ℕ) (n : ℕ) where
@@ -20,9 +20,6 @@ module _ (s : List ℕ) (n : ℕ) where
     pub along : (d : Side) (S : Scope) (depths : ℕ) (ts : Statements d) → StatementsIn s S depths from stop ts
         → (rest : Statements d) × StatementsIn s S depths p stop rest
         × Left a (written (statements_lines s n ts)) b (written (statements_lines s n rest))
-
-  pub along_start : (from stop : ℕ) (a : Writer) → Along from stop a from a
-  along_start from stop a = record { along = λ d S depths ts h. (ts, h, left_start refl) }
 
   -- the statements of a block that ends at r
   inside : {d : Side} {S : Scope} {depths i q : ℕ} {x : Block d} (r : ℕ) → r ≡ i + 2 + word s i → BlockIn s S depths i x q

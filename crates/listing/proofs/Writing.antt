@@ -1,5 +1,5 @@
 -- The call's answers: a program's own refusal, 24 where the listing is longer than the buffer, and the listing over the buffer's start.
-use Rattle.std.proofs.Common.{Bool, true, false, List, ◌≡◌, ℕ, refl, sym, ap, ◌∙◌, ◌^◌, ◌<◌, ◌≤◌, length, arith}
+use Rattle.std.proofs.Common.{Bool, true, false, List, ◌≡◌, ℕ, sym, ap, ◌∙◌, ◌^◌, ◌<◌, ◌≤◌, length, arith}
 use Rattle.std.specs.Prelude.{Ok, Err}
 use borrow.Author.Tests.{lt-leb, le-leb}
 use lib.Dec.{leb}
@@ -47,26 +47,18 @@ module _ (s buffer : List ℕ) where
 abbrev Said : Check (Unit {0}) → Check Program → Type 0
 Said said m = said ≡ within (ProgramOf 0) (m >> ok tt)
 
-module _ (s : List ℕ) where
-  pub program_gives : Said (ok tt) (read_program s) → (p : Program) × (read_program s ≡ ok p)
-  unfolding ◌>>◌
-  program_gives e = go (read_program s) refl e
-    where
-      go : (m : Check Program) → read_program s ≡ m → Said (ok tt) m → (p : Program) × (read_program s ≡ ok p)
-      go (ok p) f g = (p, f)
-      go (refused r) f g = ok_not_refused g
+-- a file that is no program
+pub refused_exit : (s buffer : List ℕ) (x : Refusal) → Said (refused x) (read_program s)
+    → told (Err x) buffer ≡ write_listing_of s buffer
+unfolding ◌>>◌ ◌>>=◌
+refused_exit s buffer x e = go (read_program s) e
+  where
+    -- the call, by what reading gave
+    call : Check Program → Copied
+    call m =
+        copied buffer
+        (within (ProgramOf 0) (m >>= λ p. ok (written (program_lines s p))) >>= λ t. need (leb (length t) (length buffer)) 24 0 >> ok t)
 
-  -- a file that is no program
-  pub refused_exit : (buffer : List ℕ) (x : Refusal) → Said (refused x) (read_program s) → told (Err x) buffer ≡ write_listing_of s buffer
-  unfolding ◌>>◌ ◌>>=◌
-  refused_exit buffer x e = go (read_program s) e
-    where
-      -- the call, by what reading gave
-      call : Check Program → Copied
-      call m =
-          copied buffer
-          (within (ProgramOf 0) (m >>= λ p. ok (written (program_lines s p))) >>= λ t. need (leb (length t) (length buffer)) 24 0 >> ok t)
-
-      go : (m : Check Program) → Said (refused x) m → told (Err x) buffer ≡ call m
-      go (ok p) g = ok_not_refused (sym g)
-      go (refused r) g = let q : x ≡ in_file (ProgramOf 0) r = cc in ap (λ (y : Refusal). told (Err y) buffer) q
+    go : (m : Check Program) → Said (refused x) m → told (Err x) buffer ≡ call m
+    go (ok p) g = ok_not_refused (sym g)
+    go (refused r) g = let q : x ≡ in_file (ProgramOf 0) r = cc in ap (λ (y : Refusal). told (Err y) buffer) q

@@ -3,10 +3,11 @@
 
 ghost use Rattle.std.specs.Prelude.{◌≡◌};
 ghost use Rattle.rules.specs.Promises.{write_listing_of};
-ghost use Rattle.listing.specs.Whole.{ReadIn, told};
+ghost use Rattle.listing.specs.Whole.{told};
 
 use answers::{Fault, Refusal};
-use program::{ReadProgram, read_program};
+use program::file::ReadProgram;
+use program::read_program;
 use whole::put_program;
 
 mod blocks;
@@ -21,17 +22,16 @@ pub fn write_listing(s: &[u8], out: &mut [u8]) -> Result<usize, Refusal>
     ensures { told result out.new ≡ write_listing_of s.now out.old }
 {
     let program = read_program(s, 0)?;
-    write_read(s, &program, out)
+    write_read(&program, out)
 }
 
 // Of a program that was read. The pass over an empty buffer measures, so that nothing is written where the buffer is too short.
-fn write_read(s: &[u8], program: &ReadProgram, out: &mut [u8]) -> Result<usize, Refusal>
-    requires { ReadIn s.now program.now.functions program.now.main }
-    ensures { told result out.new ≡ write_listing_of s.now out.old }
+fn write_read(program: &ReadProgram, out: &mut [u8]) -> Result<usize, Refusal>
+    ensures { told result out.new ≡ write_listing_of program.now.bytes.now out.old }
 {
-    let n = put_program(s, program, &mut []);
+    let n = put_program(program, &mut []);
     if out.len() < n {
         return Err(Fault::NoSpace.at(0));
     }
-    Ok(put_program(s, program, out))
+    Ok(put_program(program, out))
 }

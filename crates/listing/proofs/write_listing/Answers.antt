@@ -2,14 +2,8 @@
 use Rattle.std.proofs.Common.{ap, ◌∙◌}
 use Rattle.answers.proofs.Passed.{passed_as}
 use Rattle.listing.specs.Whole.{told}
-use Rattle.listing.proofs.Writing.{program_gives, refused_exit}
+use Rattle.listing.proofs.Writing.{refused_exit}
 use Rattle.listing.proofs.write_listing.Goals as goal
-
-pub write_read-requires : goal.write_read-requires
-write_read-requires c =
-    let r = c.in_ok-program.ensures in
-    let p = program_gives c.args.s.now r.answers in
-    record { tree = p.0; reads = p.1; tabled = r.tables p.0 p.1 }
 
 pub returns-in_err-program : goal.returns-in_err-program
 returns-in_err-program c =

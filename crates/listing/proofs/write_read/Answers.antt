@@ -6,10 +6,11 @@ use Rattle.listing.proofs.write_read.Goals as goal
 
 pub returns-then-out-n : goal.returns-then-out-n
 returns-then-out-n c =
-    let e = listing_is c.args.s.now c.requires.tree c.requires.reads in
-    short_exit c.args.s.now c.args.out.now e (c.put_program-n.ensures _ e) c.if-out-n.true c.at.ensures
+    let e = listing_is c.args.program.now.reading in
+    short_exit c.args.program.now.bytes.now c.args.out.now e (c.put_program-n.ensures _ e) c.if-out-n.true c.at.ensures
 
 pub returns : goal.returns
 returns c =
-    let e = listing_is c.args.s.now c.requires.tree c.requires.reads in
-    written_exit c.args.s.now c.args.out.now e (c.put_program-n.ensures _ e) c.if-out-n.false (search rules) (c.put_program.ensures _ e)
+    let e = listing_is c.args.program.now.reading in
+    written_exit c.args.program.now.bytes.now c.args.out.now e (c.put_program-n.ensures _ e) c.if-out-n.false (search rules)
+    (c.put_program.ensures _ e)

@@ -3,4 +3,4 @@ use Rattle.listing.proofs.Programs.{FunctionsLeft}
 use Rattle.listing.proofs.whole.put_functions.Given as goal
 
 abbrev pub invariant-loop-g : goal.invariant-loop-g
-invariant-loop-g l = FunctionsLeft l.s l.initial.out l.out l.g
+invariant-loop-g l = FunctionsLeft l.program.bytes.now l.initial.out l.out l.g

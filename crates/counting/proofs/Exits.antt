@@ -14,7 +14,7 @@ use Rattle.rules.specs.declared.statements.Kind.{Kind}
 use Rattle.rules.specs.declared.statements.Kind.TheVariants.{If, While, Call}
 use Rattle.rules.proofs.KindBytes.{byte_injective}
 use Rattle.theory.specs.Counts.{statement_size, block_size}
-use Rattle.program.specs.Reader.{entry}
+use Rattle.program.specs.Heads.{entry}
 use Rattle.program.specs.declared.functions.Head.{Head}
 use Rattle.counting.specs.Counting.{cap, Sizes}
 use Rattle.counting.specs.Below.{BlockBelow, Placed}

@@ -6,9 +6,11 @@ use Prim.Native.Nat.{ℕ, ◌+◌, ◌<◌, ◌≤◌}
 use lib.ListN.{get_or, length}
 use lib.Seq.{length-take-le}
 use Rattle.std.specs.Prelude.{Some, None}
-use Rattle.rules.specs.Syntax.{device, function, Program}
+use Rattle.rules.specs.Syntax.{Side, device, Block, function, Program}
 use Rattle.program.specs.In.{ProgramIn, BlockIn, scope_of, main_scope}
-use Rattle.program.specs.Reader.{Tabled, entry}
+use Rattle.program.specs.Heads.{Tabled, entry}
+use Rattle.program.specs.Reading.{Reading}
+use Rattle.program.proofs.Whole.{whole}
 use Rattle.counting.specs.Counting.{Sizes, Counts}
 use Rattle.counting.specs.Below.{BlockBelow, Placed}
 use Rattle.counting.specs.Found.{Right, Found, BlockFound, nothing_known}
@@ -51,6 +53,11 @@ pub record Before (b : Body) (f : ℕ) (m : Memory) : Type 0 where
 
 pub before_start : (b : Body) → Before b 0 nothing_known
 before_start b = record { known = λ p φ P Z. right_blank φ }
+
+-- what is asked of main's block, where its functions were counted
+pub main_asks : {b : Body} {f main : ℕ} {m : Memory} → IsMain b → Before b f m → Reading b.bytes.now b.functions.now main
+    → ((p : Program) × Placed b p) × ((d : Side) × (x : Block d) × (q : ℕ) × BlockBelow b.bytes.now b.before main x q)
+main_asks {b} e k r = let w = whole r in ((_, placed b e w.stands w.tabled), (_, _, _, main_below b e w.stands w.tabled))
 
 module _ {b : Body} {f : ℕ} {m m' : Memory} where
   pub before_step : {c : ℕ} → Before b f m → Found b (λ φ. φ f) m c m' → get_or m'.counts f None ≡ Some c → Before b (f + 1) m'

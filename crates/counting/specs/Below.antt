@@ -4,7 +4,7 @@ use Rattle.std.specs.Prelude.{List, ℕ, ◌<◌, ◌≤◌, length}
 use Rattle.rules.specs.Syntax.{Side, Statement, Statements, Block, function, Program}
 use Rattle.rules.specs.Program.{Scope}
 use Rattle.program.specs.In.{BlockIn, StatementIn, StatementsIn}
-use Rattle.program.specs.Reader.{entry}
+use Rattle.program.specs.Heads.{entry}
 use Rattle.counting.specs.declared.blocks.Body.{Body}
 
 module _ {d : Side} (s : List ℕ) (g : ℕ) where

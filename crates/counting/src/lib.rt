@@ -4,12 +4,12 @@
 ghost use Rattle.std.specs.Prelude.{◌≡◌, ℕ, ◌≤◌};
 ghost use Rattle.rules.specs.Syntax.{Program};
 ghost use Rattle.program.specs.In.{ProgramIn};
-ghost use Rattle.program.specs.Reader.{Tabled};
+ghost use Rattle.program.specs.Heads.{Tabled};
 ghost use Rattle.counting.specs.Counting.{Sizes, Counts};
 
 use blocks::{Body, count_block, count_callee};
 use memory::Memory;
-use program::functions::FunctionTable;
+use program::file::ReadProgram;
 
 mod blocks;
 mod memory;
@@ -24,21 +24,21 @@ pub struct Counted {
 
 // The counts of all functions and of main. The functions come first, in their order, so that every callee is remembered when its caller is counted and
 // the calls of the count do not nest from function to function.
-pub fn count_program(s: &[u8], table: &FunctionTable, main: usize) -> Counted
-    requires { (p : Program) × ProgramIn s.now p × Tabled p table.now main }
-    ensures counts { (p : Program) → ProgramIn s.now p → Tabled p table.now main → (φ : ℕ → ℕ) → Sizes p φ → Counts p φ result }
+pub fn count_program(program: &ReadProgram) -> Counted
+    ensures counts { (p : Program) → ProgramIn program.now.bytes.now p → Tabled p program.now.functions program.now.main
+        → (φ : ℕ → ℕ) → Sizes p φ → Counts p φ result }
     ensures main_bound { result.main ≤ 65536 }
 {
-    let body = Body {
-        bytes: s,
-        functions: table,
-        before: table.count,
+    let main = Body {
+        bytes: program.bytes,
+        functions: &program.functions,
+        before: program.functions.count,
     };
     let mut memory = Memory::blank();
-    for f in 0..table.count as u8 {
-        count_callee(body, f, &mut memory);
+    for f in 0..program.functions.count as u8 {
+        count_callee(main, f, &mut memory);
     }
-    let sum = count_block(body, main, &mut memory);
+    let sum = count_block(main, program.main, &mut memory);
     Counted {
         main: sum.count,
         functions: memory.counts,

@@ -1,22 +1,19 @@
 use mathlib.Core.Path.{refl}
-use Rattle.counting.specs.declared.blocks.Body.{Body}
-use Rattle.counting.proofs.Whole.{placed, main_below, before_start, before_step, program_exit}
+use Rattle.program.proofs.Whole.{whole}
+use Rattle.counting.proofs.Whole.{placed, main_asks, before_start, before_step, program_exit}
 use Rattle.counting.proofs.count_program.Goals as goal
 
 pub loop-f-init : goal.loop-f-init
 loop-f-init c = rw c.blank-memory.ensures (before_start _)
 
 pub count_callee-requires : goal.count_callee-requires
-count_callee-requires c = let q = c.requires in (c.loop-f-test.true, (_, placed _ refl q.1 q.2))
+count_callee-requires c = let w = whole c.args.program.now.reading in (c.loop-f-test.true, (_, placed _ refl w.stands w.tabled))
 
 pub loop-f-preserved : goal.loop-f-preserved
 loop-f-preserved c = before_step c.loop-f.invariant c.count_callee.ensures.found c.count_callee.ensures.known
 
 pub count_block-sum-requires : goal.count_block-sum-requires
-count_block-sum-requires c =
-    let q = c.requires in
-    let main : Body = record { bytes = c.args.s; functions = c.args.table; before = c.args.table.now.count } in
-    ((_, placed main refl q.1 q.2), (_, _, _, main_below main refl q.1 q.2))
+count_block-sum-requires c = main_asks refl c.loop-f.invariant c.args.program.now.reading
 
 pub returns : goal.returns
 returns c =

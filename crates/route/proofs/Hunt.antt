@@ -2,7 +2,7 @@
 -- were left before it, and each level's hops lead to the level before.
 use mathlib.Core.Bool.{Bool, true, false, not, ◌&&◌, ◌||◌}
 use mathlib.Core.List.{List}
-use mathlib.Core.Logic.{◌⊎◌, inl, inr, ⊎_elim}
+use mathlib.Core.Logic.{◌⊎◌, inl, inr}
 use mathlib.Core.Option.{none}
 use mathlib.Core.Path.{◌≡◌, refl, sym, ap, subst, ◌∙◌}
 use native.Mathlib.Numerals.{add-one}
@@ -12,17 +12,18 @@ use borrow.Author.Tests.{eq-eqb, eqb-true}
 use lib.Dec.{eqb}
 use lib.ListN.{length, get_or, set}
 use lib.Seq.{get_or-set_same, get_or-set_other}
+use Rattle.std.specs.Prelude.{Some}
 use Rattle.rules.specs.Region.{Region, joined}
 use Rattle.rules.specs.Path.{route}
 use Rattle.sets.specs.declared.LocationSet.{LocationSet}
-use Rattle.sets.specs.Sets.{has, row_of, FirstFrom}
+use Rattle.sets.specs.declared.rows.Rows.{Rows}
+use Rattle.sets.specs.Sets.{has, row_of, First}
 use Rattle.sets.proofs.Bools.{clash, either, and_both, both_and, or_left, or_right, side}
 use Rattle.sets.proofs.SetLaws.{has_lt}
-use Rattle.sets.proofs.Sweep.{none_has}
-use Rattle.device.specs.Reader.{Rows}
+use Rattle.device.proofs.RegionLaws.{joined_turn}
+use Rattle.device.specs.Reader.{RowsOf}
 use Rattle.route.specs.Hops.{followed}
 use Rattle.route.specs.Sweeps.{Spread}
-use Rattle.route.proofs.Edges.{joined_turn}
 use Rattle.route.proofs.Hopped.{Hop, hop_route}
 use Rattle.route.proofs.Shortest.{no_way, way_two}
 use Rattle.route.proofs.Sides.{Known, Joins, Both, Raised, raised, raise, only, only_here, only_pos, kept, newest}
@@ -35,7 +36,7 @@ use Rattle.route.proofs.Walks.{joined_even, far, closed_here}
 pub whole : LocationSet → LocationSet → ℕ → Bool
 whole left next y = has left y || has next y
 
-module _ {rows : List ℕ} {S L : ℕ → Bool} {n : ℕ} {before h : List ℕ} {left next : LocationSet} (u : Spread rows S n L before left next h) where
+module _ {rows : Rows} {S L : ℕ → Bool} {n : ℕ} {before h : List ℕ} {left next : LocationSet} (u : Spread rows S n L before left next h) where
   pub spread_whole : (y : ℕ) → whole left next y ≡ L y
   unfolding whole
   spread_whole y = ap (λ (t : Bool). t || has next y) (u.stay y) ∙ go (L y) (has next y) (u.new y)
@@ -87,12 +88,12 @@ pub record Hunt (E : ℕ → ℕ → Bool) (B : ℕ → Bool) (a b : ℕ) (F : �
   pub other : Joins E (only a) F (whole left next) 1
   pub hop : (y n : ℕ) → raised P (has next) k y ≡ suc (suc n) → Hop E (raised P (has next) k) h y (suc n)
 
-pub inner_whole : {free : ℕ → Bool} {a b : ℕ} {rows : List ℕ} {S L : ℕ → Bool} {n : ℕ} {before h : List ℕ} {left next : LocationSet}
+pub inner_whole : {free : ℕ → Bool} {a b : ℕ} {rows : Rows} {S L : ℕ → Bool} {n : ℕ} {before h : List ℕ} {left next : LocationSet}
     → Inner free a b L → Spread rows S n L before left next h → Inner free a b (whole left next)
 inner_whole i u = record { is = λ y. spread_whole u y ∙ i.is y }
 
 -- each level takes one at least
-pub hunt_less : {rows : List ℕ} {h h' : List ℕ} (left next : LocationSet) {left' next' : LocationSet}
+pub hunt_less : {rows : Rows} {h h' : List ℕ} (left next : LocationSet) {left' next' : LocationSet}
     → Spread rows (has next) 256 (has left) h left' next' h' → ((y : ℕ) → has next y ≡ true → has left y ≡ false)
     → (y : ℕ) → has next y ≡ true → count (whole left' next') 256 < count (whole left next) 256
 unfolding whole
@@ -104,11 +105,7 @@ hunt_less left next {left'} {next'} u d y p =
 pub hunt_some : (left next : LocationSet) (y : ℕ) → has next y ≡ true → 0 < count (whole left next) 256
 hunt_some left next y p = count_some (whole left next) 256 y (has_lt next y p) (whole_next left next y p)
 
--- a set with a member has a first
-pub first_in : (s : LocationSet) (x y : ℕ) → has s y ≡ true → FirstFrom s 0 x → x < 256
-first_in s x y p f = ⊎_elim (λ h. h) (λ h. let m = f.most in absurd (clash p (none_has s x f (omega arith) y))) (side x 256)
-
-module _ {R : Region} {rows : List ℕ} (w : Rows R rows) where
+module _ {R : Region} {rows : Rows} (w : RowsOf R rows) where
   -- a sweep over a level
   module _ {S L : ℕ → Bool} {n : ℕ} {before h : List ℕ} {left next : LocationSet} (u : Spread rows S n L before left next h)
       {P : ℕ → ℕ} {k : ℕ} (at : (y : ℕ) → S y ≡ true → P y ≡ k) (on : (y : ℕ) → P y ≡ k → S y ≡ true)
@@ -259,10 +256,10 @@ module _ (R : Region) {free B : ℕ → Bool} {a b : ℕ} (i : Inner free a b B)
         record { edge = ap (joined R a) s ∙ c; level = ap P s ∙ d; least = λ z c d. let q = g z c d in omega arith }
 
   -- where the next level meets what is joined to a, the first of both is the hop of a
-  pub hunt_found : {rows : List ℕ} {k : ℕ} {left next : LocationSet} {h : List ℕ} (t m : LocationSet) (x : ℕ) → Rows R rows
+  pub hunt_found : {rows : Rows} {k : ℕ} {left next : LocationSet} {h : List ℕ} (t m : LocationSet) (x : ℕ) → RowsOf R rows
       → Hunt (joined R) B a b (has t) left next h k → (a ≡ b → ⊥) → t ≡ row_of rows a → ((y : ℕ) → has m y ≡ (has t y && has next y))
-      → FirstFrom m 0 x → x < 256 → a < length h → route R free a b ≡ followed (set h a x) a (k + 1)
-  hunt_found {rows} {k} {left} {next} {h} t m x w v d e o g b' l =
+      → First m x → a < length h → route R free a b ≡ followed (set h a x) a (Some (k + 1))
+  hunt_found {rows} {k} {left} {next} {h} t m x w v d e o g l =
       rw (add-one k) (hop_route R free a b (inner_mid i R) K (set h a x) (hop_else K v.hop x) k d at_a (omega arith)
       (λ z c s. near z c s (either (has next z))) (λ q u. let f = far R free a b (inner_mid i R) v.both u in omega arith))
     where
@@ -273,7 +270,7 @@ module _ (R : Region) {free B : ℕ → Bool} {a b : ℕ} (i : Inner free a b B)
       K = known_next (joined_even R) v.both v.mine (and_whole left next) r
 
       p : (has t x ≡ true) × (has next x ≡ true)
-      p = and_both (has t x) (has next x) (sym (o x) ∙ g.member b')
+      p = and_both (has t x) (has next x) (sym (o x) ∙ g.member)
 
       row : (z : ℕ) → has t z ≡ joined R a z
       row z = ap (λ (s : LocationSet). has s z) e ∙ w.row a z
@@ -285,7 +282,7 @@ module _ (R : Region) {free B : ℕ → Bool} {a b : ℕ} (i : Inner free a b B)
       least z c s (inr q) = q
       least z c s (inl q) =
           let n = newest (joined_even R) v.both v.mine (and_whole left next) r z s in
-          absurd (clash (o z ∙ both_and (has t z) (has next z) (row z ∙ c) n) (g.passed z (omega arith) q))
+          absurd (clash (o z ∙ both_and (has t z) (has next z) (row z ∙ c) n) (g.passed z q))
 
       near : (z : ℕ) → joined R a z ≡ true → 0 < raised v.P (has next) k z → (has next z ≡ true) ⊎ (has next z ≡ false)
           → suc k ≤ raised v.P (has next) k z
@@ -297,7 +294,7 @@ module _ (R : Region) {free B : ℕ → Bool} {a b : ℕ} (i : Inner free a b B)
 
 -- ends that an edge joins
 pub ends_hop : (R : Region) (free : ℕ → Bool) (a b : ℕ) (h : List ℕ) → (a ≡ b → ⊥) → joined R a b ≡ true → a < length h
-    → route R free a b ≡ followed (set h a b) a 1
+    → route R free a b ≡ followed (set h a b) a (Some 1)
 ends_hop R free a b h d j l =
     hop_route R free a b (inner_mid i R) K (set h a b) (hop_else R i K none_yet b) 0 d at_a (omega arith) (λ z c s. omega arith)
     (λ q u. way_two R free a b u)

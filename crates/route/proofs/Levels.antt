@@ -1,23 +1,23 @@
 -- An end's turn, one law for each way that a word can go. A word of the new level is the common part of what is joined to the newest level and
 -- what is left, so what is left loses just that word, and the level meets the other end's set in it where the two have a bit in common.
 use mathlib.Core.Bool.{Bool, true, false, not, ◌&&◌, ◌||◌}
-use mathlib.Core.List.{List}
 use mathlib.Core.Logic.{◌⊎◌, inl, inr, ⊎_elim}
 use mathlib.Core.Path.{◌≡◌, refl, sym, ap, ap₂, ◌∙◌}
 use native.Mathlib.Omega.{arith}
 use Prim.Native.Nat.{ℕ, zero, suc, ◌+◌, ◌-◌, ◌*◌, ◌/◌, ◌%◌, ◌^◌, ◌≤◌, ◌<◌}
 use borrow.Author.Tests.{eq-eqb}
 use lib.Bits.{bit_and, bit_or, bit_xor, and_le_l}
-use lib.Count.{count_trailing_zeros}
 use lib.Dec.{eqb}
 use lib.ListN.{length, get_or, set}
 use lib.Seq.{get_or-set_same, get_or-set_other}
 use Rattle.sets.specs.declared.LocationSet.{LocationSet}
+use Rattle.sets.specs.declared.rows.Rows.{Rows}
 use Rattle.sets.specs.Sets.{bit_of, has}
 use Rattle.sets.proofs.Bits.{or_bit, and_bit, xor_bit, no_bit, bit_lt, trailing_bit}
 use Rattle.sets.proofs.Bools.{clash, or_cases, or_left, and_both, both_and, side}
 use Rattle.sets.proofs.SetLaws.{high_off, has_lt}
-use Rattle.route.specs.Sweeps.{Word, Put, Joined, Advanced, Turned}
+use Rattle.route.specs.declared.turn.Turn.{Turn}
+use Rattle.route.specs.Sweeps.{Word, Put, Joined, Advanced}
 use Rattle.route.proofs.Members.{set_word}
 use Rattle.route.proofs.Swept.{joined_start, joined_skip, joined_own}
 
@@ -57,7 +57,7 @@ module _ {S : ℕ → Bool} {i w : ℕ} (s : Word S i w) where
   word_none e y h l = word_at y h l ∙ ap (λ (v : ℕ). eqb (bit_of v (y - i * 64)) 1) e ∙ ap (λ (d : ℕ). eqb d 1) (no_bit (y - i * 64))
 
   word_some : w < 2 ^ 64 → (w ≡ 0 → ⊥) → (j : ℕ) × (j < 64) × (bit_of w j ≡ 1)
-  word_some f n = let t = trailing_bit 64 w (omega arith) f in (count_trailing_zeros 64 w, t.0, t.1)
+  word_some f n = let t = trailing_bit w (omega arith) f in (_, t.small, t.on)
 
 -- a set with another word
 pub put_word : (s : LocationSet) (i w : ℕ) → i < 4 → length s.words ≡ 4 → Put s i w (record { words = set s.words i w })
@@ -85,32 +85,29 @@ all_kept true s e = rw e
 all_kept false s e = refl
 
 -- ---- a turn
-pub turned_start : {rows : List ℕ} {N F : ℕ → Bool} (left out : LocationSet) → ((y : ℕ) → has out y ≡ false)
-    → Turned rows N F (has left) 0 left out 0 false
-turned_start left out e =
+pub advanced_start : {rows : Rows} {N F : ℕ → Bool} (left out : LocationSet) → ((y : ℕ) → has out y ≡ false)
+    → Advanced rows N F (has left) 0 (record { left = left; joined = out; any = false })
+advanced_start left out e =
     record {
-      meets = λ m. absurd (clash m refl);
-      on = λ _. record {
-        taken = λ y h. absurd (omega arith);
-        later = λ y h. refl;
-        next = joined_start e;
-        some = λ n. absurd (n refl);
-        none = λ a y h. absurd (omega arith);
-        apart = λ y h. absurd (omega arith);
-      };
+      taken = λ y h. absurd (omega arith);
+      later = λ y h. refl;
+      next = joined_start e;
+      some = λ n. absurd (clash n refl);
+      none = λ a y h. absurd (omega arith);
+      apart = λ y h. absurd (omega arith);
     }
 
-module _ {rows : List ℕ} {N F L : ℕ → Bool} (i : ℕ) {left out : LocationSet} {any : ℕ} (u : Advanced rows N F L (i * 64) left out any) where
+module _ {rows : Rows} {N F L : ℕ → Bool} (i : ℕ) {t : Turn} (u : Advanced rows N F L (i * 64) t) where
   -- the word of the new level
   pub level_word : {J : ℕ → Bool} (a : ℕ) → Word J i a → i < 4 → ((y : ℕ) → N y ≡ (J y && L y))
-      → Word N i (bit_and a (get_or left.words i 0))
-  level_word a s h n = record { bit = λ j l. n (i * 64 + j) ∙ ap₂ ◌&&◌ (s.bit j l) (stays j l) ∙ sym (and_on a (get_or left.words i 0) j) }
+      → Word N i (bit_and a (get_or t.left.words i 0))
+  level_word a s h n = record { bit = λ j l. n (i * 64 + j) ∙ ap₂ ◌&&◌ (s.bit j l) (stays j l) ∙ sym (and_on a (get_or t.left.words i 0) j) }
     where
-      stays : (j : ℕ) → j < 64 → L (i * 64 + j) ≡ eqb (bit_of (get_or left.words i 0) j) 1
-      stays j l = sym (u.later (i * 64 + j) (omega arith)) ∙ (set_word left i h).bit j l
+      stays : (j : ℕ) → j < 64 → L (i * 64 + j) ≡ eqb (bit_of (get_or t.left.words i 0) j) 1
+      stays j l = sym (u.later (i * 64 + j) (omega arith)) ∙ (set_word t.left i h).bit j l
 
   -- no location of the new level is in the word
-  pub advanced_skip : {w : ℕ} → Word N i w → w ≡ 0 → Advanced rows N F L (i * 64 + 64) left out any
+  pub advanced_skip : {w : ℕ} → Word N i w → w ≡ 0 → Advanced rows N F L (i * 64 + 64) t
   advanced_skip s e =
       record {
         taken = λ y h. ⊎_elim (λ l. u.taken y l) (λ l. u.later y l ∙ all_kept (L y) (N y) (word_none s e y l h)) (side y (i * 64));
@@ -122,83 +119,83 @@ module _ {rows : List ℕ} {N F L : ℕ → Bool} (i : ℕ) {left out : Location
       }
 
   -- with its own word a set still has what the level is joined to
-  pub level_own : {own : LocationSet} {w : ℕ} → Word N i w → i < 4 → Put out i (bit_or (get_or out.words i 0) w) own → Joined rows N (i * 64) own
+  pub level_own : {own : LocationSet} {w : ℕ} → Word N i w → i < 4 → Put t.joined i (bit_or (get_or t.joined.words i 0) w) own → Joined rows N (i * 64) own
   level_own {own} {w} s h p =
       joined_own u.next (λ y q f. from y q f (side y (i * 64)) (side y (i * 64 + 64))) (λ y q. to y q (side y (i * 64)) (side y (i * 64 + 64)))
     where
-      both : (y : ℕ) → i * 64 ≤ y → y < i * 64 + 64 → has own y ≡ (has out y || N y)
+      both : (y : ℕ) → i * 64 ≤ y → y < i * 64 + 64 → has own y ≡ (has t.joined y || N y)
       both y k l =
-          word_at p.here y k l ∙ or_on (get_or out.words i 0) w (y - i * 64)
-          ∙ ap₂ ◌||◌ (sym (word_at (set_word out i h) y k l)) (sym (word_at s y k l))
+          word_at p.here y k l ∙ or_on (get_or t.joined.words i 0) w (y - i * 64)
+          ∙ ap₂ ◌||◌ (sym (word_at (set_word t.joined i h) y k l)) (sym (word_at s y k l))
 
       from : (y : ℕ) → has own y ≡ true → N y ≡ false → (y < i * 64) ⊎ (i * 64 ≤ y) → (y < i * 64 + 64) ⊎ (i * 64 + 64 ≤ y)
-          → has out y ≡ true
+          → has t.joined y ≡ true
       from y q f (inl k) e = sym (p.under y k) ∙ q
-      from y q f (inr k) (inl l) = ⊎_elim (λ a. a) (λ a. absurd (clash a f)) (or_cases (has out y) (N y) (sym (both y k l) ∙ q))
+      from y q f (inr k) (inl l) = ⊎_elim (λ a. a) (λ a. absurd (clash a f)) (or_cases (has t.joined y) (N y) (sym (both y k l) ∙ q))
       from y q f (inr k) (inr l) = sym (p.above y l) ∙ q
 
-      to : (y : ℕ) → has out y ≡ true → (y < i * 64) ⊎ (i * 64 ≤ y) → (y < i * 64 + 64) ⊎ (i * 64 + 64 ≤ y) → has own y ≡ true
+      to : (y : ℕ) → has t.joined y ≡ true → (y < i * 64) ⊎ (i * 64 ≤ y) → (y < i * 64 + 64) ⊎ (i * 64 + 64 ≤ y) → has own y ≡ true
       to y q (inl k) e = p.under y k ∙ q
-      to y q (inr k) (inl l) = both y k l ∙ or_left (has out y) (N y) q
+      to y q (inr k) (inl l) = both y k l ∙ or_left (has t.joined y) (N y) q
       to y q (inr k) (inr l) = p.above y l ∙ q
 
   -- the word has locations of the new level
   module _ {J : ℕ → Bool} (a f : ℕ) (sj : Word J i a) (sf : Word F i f) (h : i < 4) (n : (y : ℕ) → N y ≡ (J y && L y)) (fit : a < 2 ^ 64) where
-    s : Word N i (bit_and a (get_or left.words i 0))
+    s : Word N i (bit_and a (get_or t.left.words i 0))
     s = level_word a sj h n
 
-    small : bit_and a (get_or left.words i 0) < 2 ^ 64
-    small = let l = and_le_l a (get_or left.words i 0) in omega arith
+    small : bit_and a (get_or t.left.words i 0) < 2 ^ 64
+    small = let l = and_le_l a (get_or t.left.words i 0) in omega arith
 
-    both : Word (λ y. N y && F y) i (bit_and (bit_and a (get_or left.words i 0)) f)
-    both = record { bit = λ j l. ap₂ ◌&&◌ (s.bit j l) (sf.bit j l) ∙ sym (and_on (bit_and a (get_or left.words i 0)) f j) }
+    both : Word (λ y. N y && F y) i (bit_and (bit_and a (get_or t.left.words i 0)) f)
+    both = record { bit = λ j l. ap₂ ◌&&◌ (s.bit j l) (sf.bit j l) ∙ sym (and_on (bit_and a (get_or t.left.words i 0)) f j) }
 
     -- one of which is the other end's too
-    pub level_meets : (bit_and (bit_and a (get_or left.words i 0)) f ≡ 0 → ⊥) → (y : ℕ) × (N y ≡ true) × (F y ≡ true)
+    pub level_meets : (bit_and (bit_and a (get_or t.left.words i 0)) f ≡ 0 → ⊥) → (y : ℕ) × (N y ≡ true) × (F y ≡ true)
     level_meets m =
-        let l = and_le_l (bit_and a (get_or left.words i 0)) f in
+        let l = and_le_l (bit_and a (get_or t.left.words i 0)) f in
         let k = small in
-        let t = word_some both (omega arith) m in
-        let r = and_both (N (i * 64 + t.0)) (F (i * 64 + t.0)) (both.bit t.0 t.1 ∙ eq-eqb _ 1 t.2) in
-        (i * 64 + t.0, r.0, r.1)
+        let b = word_some both (omega arith) m in
+        let r = and_both (N (i * 64 + b.0)) (F (i * 64 + b.0)) (both.bit b.0 b.1 ∙ eq-eqb _ 1 b.2) in
+        (i * 64 + b.0, r.0, r.1)
 
     -- none of which is
-    pub advanced_more : {left' out' : LocationSet} → (bit_and a (get_or left.words i 0) ≡ 0 → ⊥) → bit_and (bit_and a (get_or left.words i 0)) f ≡ 0
-        → Put left i (bit_xor (get_or left.words i 0) (bit_and a (get_or left.words i 0))) left' → Joined rows N (i * 64 + 64) out'
-        → Advanced rows N F L (i * 64 + 64) left' out' (bit_and a (get_or left.words i 0))
+    pub advanced_more : {left' out' : LocationSet} → (bit_and a (get_or t.left.words i 0) ≡ 0 → ⊥) → bit_and (bit_and a (get_or t.left.words i 0)) f ≡ 0
+        → Put t.left i (bit_xor (get_or t.left.words i 0) (bit_and a (get_or t.left.words i 0))) left' → Joined rows N (i * 64 + 64) out'
+        → Advanced rows N F L (i * 64 + 64) (record { left = left'; joined = out'; any = true })
     advanced_more {left'} some z p o =
         record {
           taken = λ y l. ⊎_elim (λ k. p.under y k ∙ u.taken y k) (λ k. loses y k l) (side y (i * 64));
           later = λ y l. p.above y l ∙ u.later y (omega arith);
           next = o;
-          some = λ _. let t = word_some s small some in (i * 64 + t.0, s.bit t.0 t.1 ∙ eq-eqb _ 1 t.2);
-          none = λ e. absurd (some e);
+          some = λ _. let b = word_some s small some in (i * 64 + b.0, s.bit b.0 b.1 ∙ eq-eqb _ 1 b.2);
+          none = λ e. absurd (clash refl e);
           apart = λ y l q r. ⊎_elim (λ k. u.apart y k q r) (λ k. clash (both_and (N y) (F y) q r) (word_none both z y k l)) (side y (i * 64));
         }
       where
         loses : (y : ℕ) → i * 64 ≤ y → y < i * 64 + 64 → has left' y ≡ (L y && not (N y))
         loses y k l =
-            word_at p.here y k l ∙ less_on a (get_or left.words i 0) (y - i * 64)
-            ∙ ap₂ (λ (t v : Bool). t && not v) (sym (word_at (set_word left i h) y k l) ∙ u.later y k) (sym (word_at s y k l))
+            word_at p.here y k l ∙ less_on a (get_or t.left.words i 0) (y - i * 64)
+            ∙ ap₂ (λ (p q : Bool). p && not q) (sym (word_at (set_word t.left i h) y k l) ∙ u.later y k) (sym (word_at s y k l))
 
 -- ---- the whole turn
 pub level_left : {N : ℕ → Bool} (J L : ℕ → Bool) → ((y : ℕ) → N y ≡ (J y && L y)) → (y : ℕ) → N y ≡ true
     → (J y ≡ true) × (L y ≡ true)
 level_left J L n y q = and_both (J y) (L y) (sym (n y) ∙ q)
 
-module _ {rows : List ℕ} {N F : ℕ → Bool} (J : ℕ → Bool) (before : LocationSet) {left out : LocationSet} {any : ℕ}
+module _ {rows : Rows} {N F : ℕ → Bool} (J : ℕ → Bool) (before : LocationSet) {t : Turn}
     (n : (y : ℕ) → N y ≡ (J y && has before y))
-    (u : Advanced rows N F (has before) 256 left out any) where
+    (u : Advanced rows N F (has before) 256 t) where
   pub level_lt : (y : ℕ) → N y ≡ true → y < 256
   level_lt y q = has_lt before y (level_left J (has before) n y q).1
 
-  pub all_taken : (y : ℕ) → has left y ≡ (has before y && not (N y))
-  all_taken y = ⊎_elim (λ h. u.taken y h) (λ h. high_off left y h ∙ sym (gone (high_off before y h))) (side y 256)
+  pub all_taken : (y : ℕ) → has t.left y ≡ (has before y && not (N y))
+  all_taken y = ⊎_elim (λ h. u.taken y h) (λ h. high_off t.left y h ∙ sym (gone (high_off before y h))) (side y 256)
     where
       gone : has before y ≡ false → (has before y && not (N y)) ≡ false
       gone e = rw e
 
-  pub level_none : any ≡ 0 → (y : ℕ) → has before y ≡ true → J y ≡ true → ⊥
+  pub level_none : t.any ≡ false → (y : ℕ) → has before y ≡ true → J y ≡ true → ⊥
   level_none a y l j = clash (n y ∙ both_and (J y) (has before y) j l) (u.none a y (has_lt before y l))
 
   pub level_apart : (y : ℕ) → N y ≡ true → F y ≡ true → ⊥

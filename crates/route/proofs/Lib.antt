@@ -1,11 +1,9 @@
-pub mod LowBits
 pub mod Members
 pub mod Swept
 pub mod Levels
 pub mod Written
 pub mod Sizes
 pub mod Sides
-pub mod Edges
 pub mod Walks
 pub mod Shortest
 pub mod Turns

@@ -10,11 +10,11 @@ use borrow.Author.Tests.{eq-eqb, ne_eqb}
 use lib.Dec.{eqb}
 use lib.ListN.{get_or}
 use Rattle.sets.specs.declared.LocationSet.{LocationSet}
-use Rattle.sets.specs.Sets.{bit_of, has}
+use Rattle.sets.specs.Sets.{bit_of, has, Lowest, Cleared}
 use Rattle.sets.proofs.Bits.{bit_lt, no_bit}
 use Rattle.sets.proofs.Bools.{side}
 use Rattle.sets.proofs.SetLaws.{in_word, off_word}
-use Rattle.route.specs.Sweeps.{Lowest, Cleared, Word}
+use Rattle.route.specs.Sweeps.{Word}
 
 -- r is what is left of w from bit m on
 pub record Rest (w r m : ℕ) : Type 0 where

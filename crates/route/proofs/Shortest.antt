@@ -3,7 +3,7 @@
 use mathlib.Core.Bool.{Bool, true, false, not, ◌&&◌, false≢true}
 use mathlib.Core.List.{List, [], ◌∷◌}
 use mathlib.Core.Option.{Option, none, some}
-use mathlib.Core.Path.{◌≡◌, refl}
+use mathlib.Core.Path.{◌≡◌, refl, ap}
 use native.Mathlib.Decide.{ℕ_discrete}
 use native.Mathlib.Omega.{arith}
 use Prim.Native.Nat.{ℕ, suc, ◌-◌, ◌≤◌}
@@ -14,6 +14,7 @@ use Rattle.rules.specs.Basics.{any, distinct}
 use Rattle.rules.specs.Region.{Region}
 use Rattle.rules.specs.Path.{NotAfter, between, Along, last, then, Path, route}
 use Rattle.theory.proofs.Routes.{no_route, the_route}
+use Rattle.std.specs.Prelude.{Some}
 use Rattle.sets.proofs.Bools.{and_both, not_of, clash}
 use Rattle.route.specs.Found.{edges_of}
 
@@ -60,16 +61,16 @@ module _ (R : Region) (free : ℕ → Bool) (a b : ℕ) where
     path : Path R free a b p
     path = record { along = w; once = once n w s }
 
-    pub way_edges : edges_of (route R free a b) ≡ length p - 1
+    pub way_edges : edges_of (route R free a b) ≡ Some (length p - 1)
     way_edges = go (route R free a b) refl
       where
-        go : (r : Option (List ℕ)) → route R free a b ≡ r → edges_of r ≡ length p - 1
+        go : (r : Option (List ℕ)) → route R free a b ≡ r → edges_of r ≡ Some (length p - 1)
         go none e = absurd ((no_route R free a b).0 e p path)
         go (some q) e =
             let t = (the_route R free a b q).0 e in
             let l = t.shortest p path in
             let m = s q t.path.along in
-            omega arith
+            ap Some (omega arith)
 
     pub way_route : ((q : List ℕ) → Way a q → length q ≡ length p → NotAfter p q) → route R free a b ≡ some p
     way_route f =

@@ -10,6 +10,7 @@ use Prim.Native.Nat.{ℕ, ◌+◌, ◌≤◌, ◌<◌}
 use lib.ListN.{length, get_or, set, length-set}
 use lib.Seq.{get_or-set_same, get_or-set_other}
 use Rattle.sets.specs.declared.LocationSet.{LocationSet}
+use Rattle.sets.specs.declared.rows.Rows.{Rows}
 use Rattle.sets.specs.Sets.{has, row_of}
 use Rattle.sets.proofs.Bools.{clash, either, or_left, or_right, or_cases, and_both, both_and, not_of, of_not, side}
 use Rattle.sets.proofs.SetLaws.{has_lt}
@@ -19,7 +20,7 @@ use Rattle.route.specs.Sweeps.{Joined, Noted, Spread}
 gap : {S : ℕ → Bool} {n m : ℕ} → ((z : ℕ) → n ≤ z → z < m → S z ≡ false) → (x : ℕ) → x < m → S x ≡ true → x < n
 gap {n = n} f x h p = ⊎_elim (λ l. l) (λ l. absurd (clash p (f x l h))) (side x n)
 
-module _ {rows : List ℕ} {S : ℕ → Bool} where
+module _ {rows : Rows} {S : ℕ → Bool} where
   pub joined_start : {out : LocationSet} → ((y : ℕ) → has out y ≡ false) → Joined rows S 0 out
   joined_start e = record { to = λ y p f. absurd (clash p (e y)); all = λ x y h. absurd (omega arith) }
 
@@ -74,7 +75,7 @@ module _ {S : ℕ → Bool} {v : ℕ} where
         at y k q (yes d) = ap (λ (z : ℕ). get_or (set h n v) z 0) d ∙ get_or-set_same h n v 0 l
         at y k q (no d) = get_or-set_other h n y v 0 d ∙ u.at y (omega arith) q
 
-module _ {rows : List ℕ} {S L : ℕ → Bool} where
+module _ {rows : Rows} {S L : ℕ → Bool} where
   pub spread_start : {left next : LocationSet} {h : List ℕ} → ((y : ℕ) → has left y ≡ L y) → ((y : ℕ) → has next y ≡ false)
       → Spread rows S 0 L h left next h
   spread_start {left} {next} e f =

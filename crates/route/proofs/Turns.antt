@@ -1,6 +1,5 @@
 -- The levels of both ends grow in turn: how the turns begin, how one is followed by the next, and what they say at the end of the route's edges.
 use mathlib.Core.Bool.{Bool, true, false, not, ◌&&◌}
-use mathlib.Core.List.{List}
 use mathlib.Core.Logic.{◌⊎◌, inl, inr}
 use mathlib.Core.Option.{none}
 use mathlib.Core.Path.{◌≡◌, refl, sym, ap, ◌∙◌}
@@ -8,15 +7,17 @@ use native.Mathlib.Omega.{arith}
 use Prim.Native.Nat.{ℕ, suc, ◌+◌, ◌<◌}
 use borrow.Author.Tests.{eq-eqb}
 use lib.Dec.{eqb}
+use Rattle.std.specs.Prelude.{Some, None}
 use Rattle.rules.specs.Region.{Region, joined}
 use Rattle.rules.specs.Path.{between, last, route}
 use Rattle.sets.specs.declared.LocationSet.{LocationSet}
+use Rattle.sets.specs.declared.rows.Rows.{Rows}
 use Rattle.sets.specs.Sets.{has, row_of}
 use Rattle.sets.proofs.Bools.{clash, and_both, not_of}
-use Rattle.device.specs.Reader.{Rows}
+use Rattle.device.proofs.RegionLaws.{joined_turn}
+use Rattle.device.specs.Reader.{RowsOf}
 use Rattle.route.specs.Found.{edges_of}
 use Rattle.route.specs.Sweeps.{Joined}
-use Rattle.route.proofs.Edges.{joined_turn}
 use Rattle.route.proofs.Shortest.{no_way, way_two, way_edges}
 use Rattle.route.proofs.Sides.{Joins, Both, raised, raise, only, swap, turn, turn_joins, turn_fewer, start, start_joins}
 use Rattle.route.proofs.Walks.{joined_even, far, meet, closed_here, closed_there}
@@ -68,7 +69,7 @@ module _ {free : ℕ → Bool} {a b : ℕ} {B : ℕ → Bool} (i : Inner free a 
   pub inner_second : B b ≡ false
   inner_second = i.is b ∙ rw (eq-eqb b b refl)
 
-module _ {R : Region} {rows : List ℕ} (w : Rows R rows) where
+module _ {R : Region} {rows : Rows} (w : RowsOf R rows) where
   pub row_edge : (x y : ℕ) → has (row_of rows x) y ≡ true → joined R y x ≡ true
   row_edge x y h = joined_turn R y x ∙ sym (w.row x y) ∙ h
 
@@ -122,17 +123,17 @@ module _ {R : Region} {rows : List ℕ} (w : Rows R rows) where
 
 module _ (R : Region) {free B : ℕ → Bool} {a b : ℕ} (i : Inner free a b B) (d : a ≡ b → ⊥) where
   found_here : {J F L : ℕ → Bool} {k : ℕ} → Turn (joined R) B b a J F L k → (y : ℕ) → L y ≡ true → J y ≡ true → F y ≡ true
-      → k + 1 ≡ edges_of (route R free a b)
+      → Some (k + 1) ≡ edges_of (route R free a b)
   found_here v y l j f =
       let r = meet R free a b (inner_mid i R) v.both v.mine v.other y l j f in
       let n = r.2 in
       let s = v.sum in
       let e = way_edges R free a b d r.1 (λ q o. let g = far R free a b (inner_mid i R) v.both o in omega arith) in
-      omega arith
+      ap Some (omega arith) ∙ sym e
 
   -- where the next levels meet, one edge more than the turns so far
   pub turns_found : {J F L : ℕ → Bool} {k : ℕ} → Turns (joined R) B a b J F L k → (y : ℕ) → L y ≡ true → J y ≡ true → F y ≡ true
-      → k + 1 ≡ edges_of (route R free a b)
+      → Some (k + 1) ≡ edges_of (route R free a b)
   turns_found (inl v) y l j f = found_here v y l j f
   turns_found (inr v) y l j f =
       let s = v.sum in
@@ -141,12 +142,12 @@ module _ (R : Region) {free B : ℕ → Bool} {a b : ℕ} (i : Inner free a b B)
 
   -- where an end has no further level there is no route
   pub turns_none : {J F L : ℕ → Bool} {k : ℕ} → Turns (joined R) B a b J F L k → ((y : ℕ) → L y ≡ true → J y ≡ true → ⊥)
-      → 0 ≡ edges_of (route R free a b)
+      → None ≡ edges_of (route R free a b)
   turns_none (inl v) never = rw (no_way R free a b (λ p w. closed_here R free a b (inner_mid i R) v.both v.mine never w))
   turns_none (inr v) never = rw (no_way R free a b (λ p w. closed_there R free a b (inner_mid i R) v.both v.mine never w))
 
 -- ends that an edge joins
-pub ends_joined : (R : Region) (free : ℕ → Bool) (a b : ℕ) → (a ≡ b → ⊥) → joined R a b ≡ true → 1 ≡ edges_of (route R free a b)
+pub ends_joined : (R : Region) (free : ℕ → Bool) (a b : ℕ) → (a ≡ b → ⊥) → joined R a b ≡ true → Some 1 ≡ edges_of (route R free a b)
 ends_joined R free a b d j = sym (way_edges R free a b d (last j) (λ q w. way_two R free a b w))
 
 -- no way leads from a location to itself

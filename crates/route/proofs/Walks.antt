@@ -10,7 +10,7 @@ use lib.ListN.{length}
 use Rattle.rules.specs.Region.{Region, joined}
 use Rattle.rules.specs.Path.{between, Along, last, then}
 use Rattle.sets.proofs.Bools.{side}
-use Rattle.route.proofs.Edges.{joined_turn}
+use Rattle.device.proofs.RegionLaws.{joined_turn}
 use Rattle.route.proofs.Sides.{Known, Joins, Both, Even, onward}
 
 pub joined_even : (R : Region) → Even (joined R)

@@ -4,9 +4,8 @@ use mathlib.Core.Path.{◌≡◌, refl, sym, ap, ◌∙◌}
 use native.Mathlib.Numerals.{add-one}
 use native.Mathlib.Omega.{arith}
 use Prim.Native.Nat.{ℕ, suc, ◌+◌, ◌-◌, ◌≤◌, ◌<◌}
-use lib.ListN.{length, get_or, set, drop, length-append, length-drop}
+use lib.ListN.{length, get_or, set, drop, length-append, length-drop, drop_of_length-le}
 use lib.Seq.{drop-cons, set_at, append_snoc}
-use Rattle.rules.specs.Promises.{over}
 use Rattle.route.specs.Hops.{hops}
 
 -- i locations are written, x comes next, and the whole has n
@@ -35,8 +34,9 @@ module _ {h : List ℕ} {a n : ℕ} {before out : List ℕ} {x i : ℕ} (w : Wri
         whole = w.whole ∙ ap (λ (m : ℕ). w.done ++ hops h m x) z ∙ sym (append_snoc w.done x (hops h (n - (i + 1)) (get_or h x 0)));
       }
 
-  pub writing_end : i ≡ n → out ≡ over (hops h n a) before
-  writing_end e =
+  -- all is written
+  pub writing_all : n ≡ length before → i ≡ n → out ≡ hops h n a
+  writing_all l e =
       let z : n - i ≡ 0 = omega arith in
-      let s : hops h n a ≡ w.done = w.whole ∙ ap (λ (m : ℕ). w.done ++ hops h m x) z ∙ append-nil w.done in
-      w.held ∙ rw (s, w.long)
+      w.held ∙ ap (λ (rest : List ℕ). w.done ++ rest) (drop_of_length-le before (omega arith)) ∙ append-nil w.done
+      ∙ sym (w.whole ∙ ap (λ (m : ℕ). w.done ++ hops h m x) z ∙ append-nil w.done)

@@ -1,19 +1,9 @@
 -- What the sweeps over a set's members have done when they stand before number n: the members below n are done, the others not.
-use Rattle.std.specs.Prelude.{Bool, true, false, not, ◌&&◌, List, ◌≡◌, ℕ, ◌+◌, ◌*◌, ◌≤◌, ◌<◌, eqb, length, get_or}
+use Rattle.std.specs.Prelude.{Bool, true, false, not, ◌&&◌, List, Option, MatchOption, ◌≡◌, ℕ, ◌+◌, ◌*◌, ◌≤◌, ◌<◌, eqb, length, get_or}
 use Rattle.sets.specs.declared.LocationSet.{LocationSet}
+use Rattle.sets.specs.declared.rows.Rows.{Rows}
 use Rattle.sets.specs.Sets.{bit_of, has, row_of}
-
--- t is the lowest bit of w that is set
-pub record Lowest (w t : ℕ) : Type 0 where
-  pub small : t < 64
-  pub on : bit_of w t ≡ 1
-  pub below : (j : ℕ) → j < t → bit_of w j ≡ 0
-
--- r is w without its lowest bit
-pub record Cleared (w r : ℕ) : Type 0 where
-  pub less : r < w
-  pub off : (t : ℕ) → Lowest w t → bit_of r t ≡ 0
-  pub same : (t j : ℕ) → Lowest w t → (j ≡ t → ⊥) → bit_of r j ≡ bit_of w j
+use Rattle.route.specs.declared.turn.Turn.{Turn}
 
 -- w is word i of S
 pub record Word (S : ℕ → Bool) (i w : ℕ) : Type 0 where
@@ -26,24 +16,23 @@ pub record Put (s : LocationSet) (i w : ℕ) (r : LocationSet) : Type 0 where
   pub above : (y : ℕ) → i * 64 + 64 ≤ y → has r y ≡ has s y
 
 -- out has what the members of S are joined to; which members of S it has is left open
-pub record Joined (rows : List ℕ) (S : ℕ → Bool) (n : ℕ) (out : LocationSet) : Type 0 where
+pub record Joined (rows : Rows) (S : ℕ → Bool) (n : ℕ) (out : LocationSet) : Type 0 where
   pub to : (y : ℕ) → has out y ≡ true → S y ≡ false → (x : ℕ) × (x < n) × (S x ≡ true) × (has (row_of rows x) y ≡ true)
   pub all : (x y : ℕ) → x < n → S x ≡ true → has (row_of rows x) y ≡ true → has out y ≡ true
 
--- an end's turn that meets nothing: N is its new level, F what the other end's newest level is joined to, L what was left before; left has what is
--- left afterwards, out what N is joined to, and any is 0 where N has no location
-pub record Advanced (rows : List ℕ) (N F L : ℕ → Bool) (n : ℕ) (left out : LocationSet) (any : ℕ) : Type 0 where
-  pub taken : (y : ℕ) → y < n → has left y ≡ (L y && not (N y))
-  pub later : (y : ℕ) → n ≤ y → has left y ≡ L y
-  pub next : Joined rows N n out
-  pub some : (any ≡ 0 → ⊥) → (y : ℕ) × (N y ≡ true)
-  pub none : any ≡ 0 → (y : ℕ) → y < n → N y ≡ false
+-- an end's turn that meets nothing: N is its new level, F what the other end's newest level is joined to, L what was left before; t has what is left
+-- afterwards, what N is joined to, and whether N has a location
+pub record Advanced (rows : Rows) (N F L : ℕ → Bool) (n : ℕ) (t : Turn) : Type 0 where
+  pub taken : (y : ℕ) → y < n → has t.left y ≡ (L y && not (N y))
+  pub later : (y : ℕ) → n ≤ y → has t.left y ≡ L y
+  pub next : Joined rows N n t.joined
+  pub some : t.any ≡ true → (y : ℕ) × (N y ≡ true)
+  pub none : t.any ≡ false → (y : ℕ) → y < n → N y ≡ false
   pub apart : (y : ℕ) → y < n → N y ≡ true → F y ≡ true → ⊥
 
--- a turn: it says met where N meets F, and nothing else then
-pub record Turned (rows : List ℕ) (N F L : ℕ → Bool) (n : ℕ) (left out : LocationSet) (any : ℕ) (met : Bool) : Type 0 where
-  pub meets : met ≡ true → (y : ℕ) × (N y ≡ true) × (F y ≡ true)
-  pub on : met ≡ false → Advanced rows N F L n left out any
+-- a turn, none where N meets F
+abbrev pub Turned : Rows → (ℕ → Bool) → (ℕ → Bool) → (ℕ → Bool) → ℕ → Option Turn → Type 0
+Turned rows N F L n r = MatchOption r ((y : ℕ) × (N y ≡ true) × (F y ≡ true)) (Advanced rows N F L n)
 
 -- v stands at the members of S, and elsewhere what stood there before
 pub record Noted (S : ℕ → Bool) (v n : ℕ) (before after : List ℕ) : Type 0 where
@@ -54,7 +43,7 @@ pub record Noted (S : ℕ → Bool) (v n : ℕ) (before after : List ℕ) : Type
 
 -- next has what the members of S are joined to among the locations L, and left has the others of these; in h stands for each of next the first of S that is
 -- joined to it, and elsewhere what stood in before
-pub record Spread (rows : List ℕ) (S : ℕ → Bool) (n : ℕ) (L : ℕ → Bool) (before : List ℕ) (left next : LocationSet) (h : List ℕ) : Type 0 where
+pub record Spread (rows : Rows) (S : ℕ → Bool) (n : ℕ) (L : ℕ → Bool) (before : List ℕ) (left next : LocationSet) (h : List ℕ) : Type 0 where
   pub stay : (y : ℕ) → has left y ≡ (L y && not (has next y))
   pub new : (y : ℕ) → has next y ≡ true → L y ≡ true
   pub all : (x y : ℕ) → x < n → S x ≡ true → has (row_of rows x) y ≡ true → L y ≡ true → has next y ≡ true

@@ -2,21 +2,19 @@
 ghost use Rattle.std.specs.Prelude.{Bool, ℕ, ◌+◌, ◌*◌, ◌<◌};
 ghost use Rattle.route.specs.Sweeps.{Word, Joined};
 
-use super::words::{low, rest};
-use sets::{LocationSet, rows};
+use sets::LocationSet;
+use sets::rows::Rows;
+use sets::words::Bits;
 
 // With what the members in word i of a set are joined to.
-pub fn join_word(rows: &[u64; 1024], i: usize, word: u64, to: LocationSet) -> LocationSet
+pub fn join_word(rows: &Rows, i: u8, word: u64, to: LocationSet) -> LocationSet
     requires { i < 4 }
     ensures { (S : ℕ → Bool) → Word S i word → Joined rows.now S (i * 64) to
         → Joined rows.now S (i * 64 + 64) result }
 {
     let mut out = to;
-    let mut w = word;
-    while w != 0 {
-        let x = i * 64 + low(w);
-        out = out.union(rows::row(rows, x));
-        w = rest(w);
+    for j in Bits(word) {
+        out = out.union(rows.row(i * 64 + j));
     }
     out
 }

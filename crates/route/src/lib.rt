@@ -1,15 +1,16 @@
 // The route search over a region's rows of bits: how many edges the route between two ends has, and the route itself.
 #![tactic(auto)]
 
-ghost use Rattle.std.specs.Prelude.{◌≡◌, ◌<◌};
+ghost use Rattle.std.specs.Prelude.{◌≡◌};
 ghost use Rattle.rules.specs.Region.{Region};
 ghost use Rattle.rules.specs.Path.{route};
 ghost use Rattle.sets.specs.Sets.{has};
-ghost use Rattle.device.specs.Reader.{Rows};
+ghost use Rattle.device.specs.Reader.{RowsOf};
 ghost use Rattle.route.specs.Found.{edges_of, Answers};
 
 use search::search;
-use sets::{LocationSet, rows};
+use sets::LocationSet;
+use sets::rows::Rows;
 use trace::trace;
 use turn::advance;
 
@@ -18,67 +19,61 @@ mod joined;
 mod search;
 mod trace;
 mod turn;
-mod words;
 
-// What a search for a route answers: how many locations it wrote, that there is no path, or that the buffer is too short.
-#[derive(Clone, Copy)]
-pub enum Found {
-    Written(usize),
+// Why no route is written: there is no path, or the buffer is too short.
+#[derive(Clone, Copy, Debug, PartialEq, Eq)]
+pub enum NoRoute {
     NoPath,
     Short,
 }
 
-// How many edges the route from a to b through free locations has; 0 where there is none. The levels of both ends grow in turn, until a new one of one
-// end meets what is joined to the newest of the other.
-pub fn distance(rows: &[u64; 1024], free: LocationSet, a: usize, b: usize) -> usize
-    requires { (a < 256) × (b < 256) }
-    ensures value { (R : Region) → Rows R rows.now → result ≡ edges_of (route R (has free) a b) }
-    ensures upper_bound { result < 256 }
+// How many edges the route from a to b through free locations has, if there is one. The levels of both ends grow in turn, until a new one of one end
+// meets what is joined to the newest of the other; a path has each location once, so no route has more than 255 edges.
+pub fn distance(rows: &Rows, free: LocationSet, a: u8, b: u8) -> Option<u8>
+    ensures { (R : Region) → RowsOf R rows.now → result ≡ edges_of (route R (has free) a b) }
 {
     if a == b {
-        return 0;
+        return None;
     }
-    let mut other = rows::row(rows, a);
+    let mut other = rows.row(a);
     if other.contains(b) {
-        return 1;
+        return Some(1);
     }
-    let mut joined = rows::row(rows, b);
+    let mut joined = rows.row(b);
     let mut left = free.remove(a).remove(b);
-    let mut k: usize = 1;
-    loop {
-        let turn = advance(rows, joined, other, left);
-        k += 1;
-        if turn.met {
-            return k;
-        }
-        if turn.any == 0 {
-            return 0;
+    for k in 2..=255 {
+        let Some(turn) = advance(rows, joined, other, left) else {
+            return Some(k);
+        };
+        if !turn.any {
+            return None;
         }
         left = turn.left;
         joined = other;
         other = turn.joined;
     }
+    None
 }
 
-// The route from a to b through free locations, into the buffer; where there is none, or the buffer is too short, the buffer stays as it is.
+// The route from a to b through free locations, into the buffer: how many locations it has. Where there is none, or the buffer is too short, the buffer
+// stays as it is.
 pub fn find_route(
-    rows: &[u64; 1024],
+    rows: &Rows,
     free: LocationSet,
-    a: usize,
-    b: usize,
+    a: u8,
+    b: u8,
     out: &mut [u8],
-) -> Found
-    requires { (a < 256) × (b < 256) }
-    ensures { (R : Region) → Rows R rows.now → Answers (route R (has free) a b) out.old result out.new }
+) -> Result<usize, NoRoute>
+    ensures { (R : Region) → RowsOf R rows.now → Answers (route R (has free) a b) out.old result out.new }
 {
-    let mut hop = [0u8; 256];
-    let k = search(rows, free, a, b, &mut hop);
-    if k == 0 {
-        return Found::NoPath;
+    let mut hop = [0; 256];
+    let Some(k) = search(rows, free, a, b, &mut hop) else {
+        return Err(NoRoute::NoPath);
+    };
+    let n = k as usize + 1;
+    if out.len() < n {
+        return Err(NoRoute::Short);
     }
-    if out.len() <= k {
-        return Found::Short;
-    }
-    trace(&hop, a, k, out);
-    Found::Written(k + 1)
+    trace(&hop, a, &mut out[..n]);
+    Ok(n)
 }

@@ -1,55 +1,41 @@
 // The search for a route: levels from the second end, with the hops that lead down them.
-ghost use Rattle.std.specs.Prelude.{◌≡◌, ◌<◌, length};
+ghost use Rattle.std.specs.Prelude.{◌≡◌};
 ghost use Rattle.rules.specs.Region.{Region};
 ghost use Rattle.rules.specs.Path.{route};
 ghost use Rattle.sets.specs.Sets.{has};
-ghost use Rattle.device.specs.Reader.{Rows};
+ghost use Rattle.device.specs.Reader.{RowsOf};
 ghost use Rattle.route.specs.Hops.{followed};
 
 use super::front::{Front, further, reach};
-use sets::{LocationSet, rows};
+use sets::LocationSet;
+use sets::rows::Rows;
 
-// How many edges the route has, 0 where there is none. From the first end on the hops are the route.
-pub fn search(
-    rows: &[u64; 1024],
-    free: LocationSet,
-    a: usize,
-    b: usize,
-    hop: &mut [u8; 256],
-) -> usize
-    requires a_bound { (a < 256) × (b < 256) }
-    requires hop_len { length hop.old ≡ 256 }
-    ensures b_value { (R : Region) → Rows R rows.now → route R (has free) a b ≡ followed hop.new a result }
-    ensures upper_bound { result < 256 }
+// How many edges the route has, if there is one. From the first end on the hops are the route.
+pub fn search(rows: &Rows, free: LocationSet, a: u8, b: u8, hop: &mut [u8; 256]) -> Option<u8>
+    ensures { (R : Region) → RowsOf R rows.now → route R (has free) a b ≡ followed hop.new a result }
 {
     if a == b {
-        return 0;
+        return None;
     }
-    let first = rows::row(rows, a);
+    let first = rows.row(a);
     if first.contains(b) {
-        hop[a] = b as u8;
-        return 1;
+        hop[a as usize] = b;
+        return Some(1);
     }
-    let open = free.remove(a).remove(b);
-    let none = LocationSet::empty();
-    let start = Front {
-        left: open,
-        next: none,
+    let open = Front {
+        left: free.remove(a).remove(b),
+        next: LocationSet::empty(),
     };
-    let mut f = reach(rows, b, start, hop);
-    let mut k: usize = 1;
-    loop {
-        let next = f.next;
-        if next.is_empty() {
-            return 0;
+    let mut front = reach(rows, b, open, hop);
+    for k in 2..=255 {
+        if front.next.is_empty() {
+            return None;
         }
-        k += 1;
-        let meet = first.common(next);
-        if !meet.is_empty() {
-            hop[a] = meet.first_from(0) as u8;
-            return k;
+        if let Some(x) = first.common(front.next).first() {
+            hop[a as usize] = x;
+            return Some(k);
         }
-        let left = f.left;
-        f = further(rows, next, left, hop);
+        front = further(rows, front, hop);
     }
+    None
 }

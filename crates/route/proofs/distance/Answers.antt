@@ -1,114 +1,96 @@
-use mathlib.Core.Bool.{Bool, false, ◌&&◌}
+use mathlib.Core.Bool.{Bool, true, false, not, ◌&&◌}
 use mathlib.Core.Logic.{inl}
 use mathlib.Core.Path.{◌≡◌, refl, sym, ap, ◌∙◌}
 use native.Mathlib.Omega.{arith}
-use mathlib.Core.List.{List}
-use Prim.Native.Nat.{ℕ, ◌<◌}
+use Prim.Native.Nat.{ℕ, ◌+◌, ◌<◌}
+use Rattle.std.specs.Prelude.{Some}
+use Rattle.rules.specs.Region.{Region, joined}
 use Rattle.sets.specs.declared.LocationSet.{LocationSet}
-use Rattle.route.specs.declared.turn.Turn.{Turn}
+use Rattle.sets.specs.declared.rows.Rows.{Rows}
 use Rattle.sets.specs.Sets.{has}
+use Rattle.sets.proofs.Bools.{not_of}
 use Rattle.sets.proofs.SetLaws.{has_lt}
-use Rattle.route.specs.Found.{edges_of}
-use Rattle.route.specs.Sweeps.{Turned}
+use Rattle.device.specs.Reader.{RowsOf}
+use Rattle.route.specs.declared.turn.Turn.{Turn}
+use Rattle.route.specs.Sweeps.{Advanced}
 use Rattle.route.proofs.Sizes.{count, count_but_two, count_some, set_less}
 use Rattle.route.proofs.Levels.{level_left, level_lt, level_none, level_apart, all_taken}
-use Rattle.route.proofs.Turns.{Inner, inner_of, inner_first, inner_second, turn_start, turns_next, turns_found, turns_none}
-use Rattle.route.proofs.Turns.{ends_joined, ends_same}
+use Rattle.route.proofs.Turns.{Turns, Inner, inner_of, inner_first, inner_second, turn_start, turns_next, turns_found, turns_none}
+use Rattle.route.proofs.Turns.{ends_joined}
 use Rattle.route.proofs.distance.Goals as goal
-
-pub returns-then-a-b : goal.returns-then-a-b
-returns-then-a-b c =
-    let a = c.args in record {
-      value = (λ R w. ap edges_of (sym (ends_same R (has a.free) a.a a.b c.if-a-b.true)));
-      upper_bound = omega arith;
-    }
 
 pub returns-then-contains : goal.returns-then-contains
 returns-then-contains c =
-    let a = c.args in record {
-      value = (λ R w. ends_joined R (has a.free) a.a a.b c.if-a-b.false
-          (sym (w.row a.a a.b) ∙ ap (λ r. has r a.b) (sym c.row-other.ensures)
-          ∙ sym c.contains.ensures ∙ c.if-contains.true));
-      upper_bound = omega arith;
-    }
+    let a = c.args in
+    λ R w. ends_joined R (has a.free) a.a a.b c.if-a-b.false
+    (sym (w.row a.a a.b) ∙ ap (λ r. has r a.b) (sym c.row-other.ensures) ∙ sym c.contains.ensures ∙ c.if-contains.true)
 
-pub loop-other-init : goal.loop-other-init
-loop-other-init c =
-    let ends : c.args.a ≡ c.args.b → ⊥ =
-    c.if-a-b.false in
-    let inner : Inner (has c.args.free) c.args.a c.args.b (has c.remove-left.result) =
-    inner_of c.remove.result c.remove-left.result c.remove.ensures c.remove-left.ensures in
-    let i = inner in
-    let t = c.row-other in
-    let s = c.row-joined in
+pub loop-k-init : goal.loop-k-init
+loop-k-init c =
+    let s = c.remove-left in
+    let i : Inner (has c.args.free) c.args.a c.args.b (has s.result) = inner_of c.remove.result s.result c.remove.ensures s.ensures in
     let e = sym c.contains.ensures ∙ c.if-contains.false in
-    let n = count_but_two (has c.remove-left.result) 256 c.args.a c.args.b c.requires.0 c.requires.1 ends (inner_first i) (inner_second i) in
-    (omega arith, λ R w. inl (turn_start w s.result t.result i s.ensures t.ensures e))
+    let n = count_but_two (has s.result) 256 c.args.a c.args.b c.ranges.a.fits c.ranges.b.fits c.if-a-b.false (inner_first i) (inner_second i) in
+    (1, refl, omega arith, λ R w. inl (turn_start w c.row-joined.result c.row-other.result i c.row-joined.ensures c.row-other.ensures e))
 
 -- the new level
 abbrev level : LocationSet → LocationSet → ℕ → Bool
-level joined left y = has joined y && has left y
+level to left y = has to y && has left y
 
-pub overflow_add-k : goal.overflow_add-k
-overflow_add-k c = omega (arith, c.loop-other.invariant.0)
+not_off : (t : Bool) → not t ≡ false → t ≡ true
+not_off true e = refl
+not_off false e = sym e
 
-pub returns-then-turn : goal.returns-then-turn
-returns-then-turn c =
-    let ends : c.args.a ≡ c.args.b → ⊥ =
-    c.if-a-b.false in
-    let inner : Inner (has c.args.free) c.args.a c.args.b (has c.remove-left.result) =
+-- a turn that meets nothing
+module _ {rows : Rows} (to other left : LocationSet) {t : Turn} (u : Advanced rows (level to left) (has other) (has left) 256 t) where
+  -- a level takes one at least
+  shrinks : t.any ≡ true → count (has t.left) 256 < count (has left) 256
+  shrinks a =
+      let s = u.some a in
+      let n = level_left (has to) (has left) (λ y. refl) s.0 s.1 in
+      set_less (level to left) left t.left (all_taken (has to) left (λ y. refl) u) s.0 s.1 n.1
+
+  onward : {R : Region} {B : ℕ → Bool} {a b m : ℕ} → RowsOf R rows → Turns (joined R) B a b (has to) (has other) (has left) m
+      → Turns (joined R) B a b (has other) (has t.joined) (has t.left) (m + 1)
+  onward w v =
+      turns_next w t.joined v (λ y. refl) (level_lt (has to) left (λ y. refl) u) (level_apart (has to) left (λ y. refl) u)
+      (all_taken (has to) left (λ y. refl) u) u.next
+
+-- the next level meets what the other end's newest is joined to
+pub returns-in_default : goal.returns-in_default
+returns-in_default c =
+    let l = c.loop-k in
+    let i : Inner (has c.args.free) c.args.a c.args.b (has c.remove-left.result) =
     inner_of c.remove.result c.remove-left.result c.remove.ensures c.remove-left.ensures in
-    let turned : Turned c.args.rows.now (level c.loop-other.joined c.loop-other.left) (has c.loop-other.other) (has c.loop-other.left) 256
-    c.advance-turn.result.left c.advance-turn.result.joined c.advance-turn.result.any c.advance-turn.result.met =
-    c.advance-turn.ensures (level c.loop-other.joined c.loop-other.left) (λ y. refl) in
-    let l = c.loop-other in
-    let t = turned.meets c.if-turn.true in
+    let t = c.in_default.ensures (level l.joined l.left) (λ y. refl) in
     let n = level_left (has l.joined) (has l.left) (λ y. refl) t.0 t.1 in
-    let z = count_some (has l.left) 256 t.0 (has_lt l.left t.0 n.1) n.1 in record {
-      value = (λ R w. turns_found R inner ends (l.invariant.1 R w) t.0 n.1 n.0 t.2);
-      upper_bound = omega (arith, l.invariant.0);
-    }
+    λ R w. ap Some l.invariant.1 ∙ turns_found R i c.if-a-b.false (l.invariant.3 R w) t.0 n.1 n.0 t.2
 
-pub returns-then-turn-eq0 : goal.returns-then-turn-eq0
-returns-then-turn-eq0 c =
-    let ends : c.args.a ≡ c.args.b → ⊥ =
-    c.if-a-b.false in
-    let inner : Inner (has c.args.free) c.args.a c.args.b (has c.remove-left.result) =
+-- there is no next level
+pub returns-then-not-turn : goal.returns-then-not-turn
+returns-then-not-turn c =
+    let l = c.loop-k in
+    let i : Inner (has c.args.free) c.args.a c.args.b (has c.remove-left.result) =
     inner_of c.remove.result c.remove-left.result c.remove.ensures c.remove-left.ensures in
-    let turned : Turned c.args.rows.now (level c.loop-other.joined c.loop-other.left) (has c.loop-other.other) (has c.loop-other.left) 256
-    c.advance-turn.result.left c.advance-turn.result.joined c.advance-turn.result.any c.advance-turn.result.met =
-    c.advance-turn.ensures (level c.loop-other.joined c.loop-other.left) (λ y. refl) in
-    let l = c.loop-other in
-    let u = turned.on c.if-turn.false in
-    let e = level_none (has l.joined) l.left (λ y. refl) u c.if-turn-eq0.true in record {
-      value = (λ R w. turns_none R inner ends (l.invariant.1 R w) e);
-      upper_bound = omega arith;
-    }
+    let u = c.in-Some.ensures (level l.joined l.left) (λ y. refl) in
+    let e = level_none (has l.joined) l.left (λ y. refl) u (not_of _ c.if-not-turn.true) in
+    λ R w. turns_none R i c.if-a-b.false (l.invariant.3 R w) e
 
--- a level takes one at least
-shrinks : (rows : List ℕ) (joined other left : LocationSet) (turn : Turn) → Turned rows (level joined left) (has other) (has left) 256 turn.left turn.joined turn.any turn.met
-    → turn.met ≡ false → (turn.any ≡ 0 → ⊥) → count (has turn.left) 256 < count (has left) 256
-shrinks rows joined other left turn turned m a =
-    let u = turned.on m in
-    let t = u.some a in
-    let n = level_left (has joined) (has left) (λ y. refl) t.0 t.1 in
-    set_less (level joined left) left turn.left (all_taken (has joined) left (λ y. refl) u) t.0 t.1 n.1
+pub loop-k-preserved : goal.loop-k-preserved
+loop-k-preserved c =
+    let l = c.loop-k in
+    let u = c.in-Some.ensures (level l.joined l.left) (λ y. refl) in
+    let s = shrinks l.joined l.other l.left u (not_off _ c.if-not-turn.false) in
+    (l.invariant.0 + 1, omega (arith, l.invariant.1), omega (arith, l.invariant.2), λ R w. onward l.joined l.other l.left u w (l.invariant.3 R w))
 
-pub loop-other-smaller : goal.loop-other-smaller
-loop-other-smaller c =
-    let l = c.loop-other in
-    shrinks c.args.rows.now l.joined l.other l.left c.advance-turn.result (c.advance-turn.ensures (level l.joined l.left) (λ y. refl)) c.if-turn.false
-    c.if-turn-eq0.false
-
-pub loop-other-preserved : goal.loop-other-preserved
-loop-other-preserved c =
-    let turned : Turned c.args.rows.now (level c.loop-other.joined c.loop-other.left) (has c.loop-other.other) (has c.loop-other.left) 256
-    c.advance-turn.result.left c.advance-turn.result.joined c.advance-turn.result.any c.advance-turn.result.met =
-    c.advance-turn.ensures (level c.loop-other.joined c.loop-other.left) (λ y. refl) in
-    let l = c.loop-other in
-    let z = shrinks c.args.rows.now l.joined l.other l.left c.advance-turn.result turned c.if-turn.false c.if-turn-eq0.false in
-    let u = turned.on c.if-turn.false in (
-      omega (arith, l.invariant.0),
-      λ R w. turns_next w c.advance-turn.result.joined (l.invariant.1 R w) (λ y. refl) (level_lt (has l.joined) l.left (λ y. refl) u)
-          (level_apart (has l.joined) l.left (λ y. refl) u) (all_taken (has l.joined) l.left (λ y. refl) u) u.next,
-    )
+-- the levels have taken all locations
+pub returns-else-not-turn : goal.returns-else-not-turn
+returns-else-not-turn c =
+    let l = c.loop-k in
+    let i : Inner (has c.args.free) c.args.a c.args.b (has c.remove-left.result) =
+    inner_of c.remove.result c.remove-left.result c.remove.ensures c.remove-left.ensures in
+    let u = c.in-Some.ensures (level l.joined l.left) (λ y. refl) in
+    let s = shrinks l.joined l.other l.left u (not_off _ c.if-not-turn.false) in
+    let left = c.in-Some.turn.left in
+    λ R w. turns_none R i c.if-a-b.false (onward l.joined l.other l.left u w (l.invariant.3 R w))
+    (λ y h _. let n = count_some (has left) 256 y (has_lt left y h) h in absurd (omega (arith, l.invariant.1, l.invariant.2)))

@@ -1,13 +1,13 @@
--- Word by word.
 use mathlib.Core.Path.{refl}
-use Rattle.sets.specs.Sets.{has}
-use Rattle.route.proofs.Swept.{spread_start}
+use native.Mathlib.Omega.{arith}
+use Rattle.route.proofs.Swept.{spread_start, spread_skip}
 use Rattle.route.proofs.front.further.Goals as goal
 
+pub loop-i-init : goal.loop-i-init
+loop-i-init c = spread_start (λ y. refl) c.empty.ensures
+
+pub loop-i-preserved : goal.loop-i-preserved
+loop-i-preserved c = spread_skip (c.reach_word-front.ensures _ _ c.loop-i.invariant) _ (omega arith) (λ z h l. absurd (omega arith))
+
 pub returns : goal.returns
-returns c =
-    let a = c.args in record {
-      long = c.reach_word.ensures.long;
-      on = c.reach_word.ensures.on _ _ (c.reach_word-third.ensures.on _ _ (c.reach_word-second.ensures.on _ _
-          (c.reach_word-first.ensures.on (has a.left) a.hop.now (spread_start (λ y. refl) c.empty-none.ensures))));
-    }
+returns c = spread_skip c.loop-i.invariant _ (omega arith) (λ z h l. absurd (omega arith))

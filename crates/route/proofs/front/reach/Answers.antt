@@ -9,9 +9,5 @@ pub returns : goal.returns
 returns c =
     let a = c.args in
     let o = c.common-new in
-    let r = c.row.ensures in
-    let k = c.note.ensures in record {
-      long = k.long ∙ c.requires.hop_len;
-      on = λ S L h n p l f u. spread_more (spread_skip u a.x l f) c.without.result c.union.result o.result p
-          (λ y. o.ensures y ∙ ap (λ z. has z y && has a.f.left y) r) k c.without.ensures c.union.ensures;
-    }
+    λ S L h n p l f u. spread_more (spread_skip u a.x l f) c.without.result c.union.result o.result p
+    (λ y. o.ensures y ∙ ap (λ z. has z y && has a.front.left y) c.row.ensures) c.note.ensures c.without.ensures c.union.ensures

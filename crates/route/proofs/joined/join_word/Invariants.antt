@@ -5,8 +5,6 @@ use Rattle.route.specs.Sweeps.{Word, Joined}
 use Rattle.route.proofs.Members.{Rest}
 use Rattle.route.proofs.joined.join_word.Given as goal
 
-abbrev pub invariant-loop-w : goal.invariant-loop-w
-invariant-loop-w l = (m : ℕ) × Rest l.word l.w m × ((S : ℕ → Bool) → Word S l.i l.word → Joined l.rows S (l.i * 64) l.initial.out → Joined l.rows S (l.i * 64 + m) l.out)
-
-abbrev pub decreases-loop-w : goal.decreases-loop-w
-decreases-loop-w l = l.w
+abbrev pub invariant-loop-j : goal.invariant-loop-j
+invariant-loop-j l = (m : ℕ) × Rest l.word l.j-iterator.0 m
+    × ((S : ℕ → Bool) → Word S l.i l.word → Joined l.rows S (l.i * 64) l.initial.out → Joined l.rows S (l.i * 64 + m) l.out)

@@ -14,7 +14,7 @@ pub struct Head {
 #[derive(Clone, Copy, Debug, PartialEq, Eq)]
 pub struct Open {
     pub due: bool,
-    pub word: usize,
+    pub word: u16,
 }
 
 const NO_HEAD: Head = Head {
@@ -93,7 +93,7 @@ impl Standing {
     {
         self.blocks[self.depth] = Open {
             due,
-            word: self.used as usize + n,
+            word: self.used + n as u16,
         };
         self.depth += 1;
         self.used += n as u16 + 2;
@@ -121,7 +121,7 @@ impl Standing {
     {
         self.blocks[self.depth - 1] = Open {
             due: false,
-            word: self.used as usize,
+            word: self.used,
         };
         self.used += 2;
         self.owed -= 2;
@@ -142,7 +142,7 @@ impl Standing {
         self.depth = 1;
         self.blocks[0] = Open {
             due: false,
-            word: self.used as usize + 2,
+            word: self.used + 2,
         };
         self.used += 4;
         self
@@ -158,7 +158,7 @@ impl Standing {
         self.depth = 1;
         self.blocks[0] = Open {
             due: false,
-            word: self.used as usize,
+            word: self.used,
         };
         self.used += 2;
         self.owed = 0;

@@ -4,6 +4,7 @@ ghost use Rattle.std.specs.Prelude.{◌≤◌};
 ghost use Rattle.reading.specs.Cursor.{spelling};
 ghost use Rattle.reading.specs.Hearing.{in_line, NextWord, Expects, Indents, Numbers, Onto, NumberOnto, Blank};
 
+use crate::cursor::Unread::{Begun, Not};
 use crate::line::Line;
 use crate::words;
 use crate::words::Token;
@@ -47,10 +48,10 @@ impl Line<'_> {
     {
         match self.next_word(at) {
             Next::Unfinished if lives && words::begins(&self.text[at..self.end], token) => Err(
-                Unread::Begun,
+                Begun,
             ),
             Next::To(to) if words::is_word(&self.text[at..to], token) => Ok(to + 1),
-            _ => Err(Unread::Not),
+            _ => Err(Not),
         }
     }
 
@@ -65,8 +66,8 @@ impl Line<'_> {
         for n in 0..2 * depth {
             match self.next_word(p) {
                 Next::To(to) if to == p => p = to + 1,
-                Next::Unfinished if p == self.end && lives => return Err(Unread::Begun),
-                _ => return Err(Unread::Not),
+                Next::Unfinished if p == self.end && lives => return Err(Begun),
+                _ => return Err(Not),
             }
         }
         Ok(p)
@@ -79,18 +80,18 @@ impl Line<'_> {
         ensures onto { NumberOnto at self.now.stop limit result }
     {
         match self.next_word(at) {
-            Next::Nothing => Err(Unread::Not),
+            Next::Nothing => Err(Not),
             Next::Unfinished => {
                 for v in 0..limit {
                     if words::begins(&self.text[at..self.end], Token::Decimal(v as u8)) {
-                        return Err(Unread::Begun);
+                        return Err(Begun);
                     }
                 }
-                Err(Unread::Not)
+                Err(Not)
             }
             Next::To(to) => match words::number(&self.text[at..to]) {
                 Some(v) if v < limit => Ok((v as u8, to + 1)),
-                _ => Err(Unread::Not),
+                _ => Err(Not),
             },
         }
     }

@@ -7,24 +7,24 @@ use native.Mathlib.Omega.{arith}
 use Prim.Native.Nat.{ℕ, zero, suc, ◌+◌}
 use lib.Dec.{ltb}
 use lib.ListN.{replicate}
+use Rattle.std.specs.Prelude.{Result, Ok, Err}
 use Rattle.rules.specs.declared.statements.Operand.TheVariants.{Slot, Location, CalleeK, CalleeM}
 use Rattle.rules.specs.Names as names
 use Rattle.rules.specs.Words.{Text}
 use Rattle.rules.specs.Table.{calls}
 use Rattle.rules.specs.Grammar.{Grammar, dead, stop, live}
 use Rattle.rules.specs.Unlisting.{Sofar, added, others, list, made}
-use Rattle.reading.specs.Cursor.{words_from, spelling}
+use Rattle.reading.specs.Cursor.{words_from}
 use Rattle.reading.specs.Hearing.{not, took, hears}
-use Rattle.standing.specs.Numbers.{room_of, unwritten_of}
+use Rattle.standing.specs.Numbers.{room_of, places_of, unwritten_of}
 use Rattle.standing.specs.Means.{Means}
 use Rattle.stating.specs.Statements.{Took-bytes, ReadsList, ReadsLists}
 use Rattle.standing.specs.declared.state.Standing.{Standing}
-use Rattle.reading.specs.declared.cursor.Reading.{Reading}
-use Rattle.reading.specs.declared.cursor.Reading.TheVariants.{Not, Begun, At}
+use Rattle.reading.specs.declared.cursor.Unread.{Unread}
+use Rattle.reading.specs.declared.cursor.Unread.TheVariants.{Not}
 use Rattle.reading.proofs.Hearings.{live_word}
 use Rattle.stating.proofs.Listed.{live_numbers, took_same, took_then}
 use Rattle.standing.proofs.Lives.{room_is}
-use Rattle.reading.proofs.Spellings.{spelling_word}
 
 -- nothing goes on from here
 pub hears_dead : (whole : Bool) (ws : List Text) → hears {A = Sofar} whole dead ws ≡ not
@@ -73,12 +73,12 @@ call_room c p f k m whole ws q mean e = go (room_of c (4 + k + m)) refl
 
 module _ (t : Text) (at end stop' first : ℕ) (c : Standing) (before : List ℕ) where
   -- what a call's lists are, its bytes being bs
-  abbrev ListsTook : Sofar → ℕ → ℕ → List ℕ → Reading → List ℕ → Type 0
+  abbrev ListsTook : Sofar → ℕ → ℕ → List ℕ → Result ℕ Unread → List ℕ → Type 0
   ListsTook p k m bs r after = Took-bytes (hears (ltb end stop') (made p calls bs) (words_from t at end)) before (c.used + 4)
       (λ xs q. hears (ltb end stop') (stop (some (added p (bs ++ xs)))) (words_from t q end)) (k + m) r after
 
-  module _ (k m : ℕ) (ek : k ≡ unwritten_of c CalleeK first) (em : m ≡ unwritten_of c CalleeM first) where
-    lists_are : (r : Reading) (after : List ℕ) → ((p : Sofar) → Means c p → ListsTook p k m (call_bytes first k m) r after)
+  module _ (k m places : ℕ) (ek : k ≡ unwritten_of c CalleeK first) (em : m ≡ unwritten_of c CalleeM first) (ep : places ≡ places_of c) where
+    lists_are : (r : Result ℕ Unread) (after : List ℕ) → ((p : Sofar) → Means c p → ListsTook p k m (call_bytes first k m) r after)
         → ReadsLists t at end stop' first c before r after
     unfolding ReadsLists
     lists_are r after h p mean bs e =
@@ -86,47 +86,34 @@ module _ (t : Text) (at end stop' first : ℕ) (c : Standing) (before : List ℕ
         (subst (λ (x : ℕ). ListsTook p (unwritten_of c CalleeK first) x (call_bytes first (unwritten_of c CalleeK first) x) r after) em
         (subst (λ (x : ℕ). ListsTook p x m (call_bytes first x m) r after) ek (h p mean)))
 
-    pub lists_full : (after : List ℕ) → room_of c (4 + k + m) ≡ false → ReadsLists t at end stop' first c before Not after
+    pub lists_full : (after : List ℕ) → room_of c (4 + k + m) ≡ false → ReadsLists t at end stop' first c before (Err Not) after
     unfolding Took-bytes
-    lists_full after e = lists_are Not after λ p mean. ap (λ (g : Grammar Sofar). hears (ltb end stop') g (words_from t at end))
+    lists_full after e = lists_are (Err Not) after λ p mean. ap (λ (g : Grammar Sofar). hears (ltb end stop') g (words_from t at end))
         (room_made c p first k m false mean e)
         ∙ hears_dead (ltb end stop') (words_from t at end)
 
     -- the locations
-    locations_read : (p : Sofar) → Means c p → room_of c (4 + k + m) ≡ true → (r : Reading) (mid : List ℕ)
-        → ReadsList t at end stop' (spelling 7) k c.places (c.used + 4) before r mid
+    locations_read : (p : Sofar) → Means c p → room_of c (4 + k + m) ≡ true → (r : Result ℕ Unread) (mid : List ℕ)
+        → ReadsList t at end stop' names.at k places (c.used + 4) before r mid
         → Took-bytes (hears (ltb end stop') (made p calls (call_bytes first k m)) (words_from t at end)) before (c.used + 4)
         (λ ls q. hears (ltb end stop') (slots p (call_bytes first k m) m ls) (words_from t q end)) k r mid
     unfolding ReadsList
     locations_read p mean e r mid reads =
         took_same _ (hears (ltb end stop') (call_line p (call_bytes first k m) k m) (words_from t at end)) before (c.used + 4) _ k r mid
         (ap (λ (g : Grammar Sofar). hears (ltb end stop') g (words_from t at end)) (room_made c p first k m true mean e))
-        (subst (λ (w : Text). ReadsList t at end stop' w k c.places (c.used + 4) before r mid) (spelling_word 7 (omega arith)) reads p.scope Location
-        (slots p (call_bytes first k m) m) refl (λ x. refl) (sym mean.places) (slots_live p (call_bytes first k m) m))
+        (reads p.scope Location (slots p (call_bytes first k m) m) refl (λ x. refl) (sym (ep ∙ mean.places)) (slots_live p (call_bytes first k m) m))
 
-    -- what the list of locations said
-    abbrev Locations : List ℕ → Reading → Type 0
-    Locations mid r = ReadsList t at end stop' (spelling 7) k c.places (c.used + 4) before r mid
-
-    pub lists_not : (mid : List ℕ) (said : Reading) → said ≡ Not → room_of c (4 + k + m) ≡ true
-        → ReadsList t at end stop' (spelling 7) k c.places (c.used + 4) before said mid → ReadsLists t at end stop' first c before Not mid
+    pub lists_err : (e : Unread) (mid : List ℕ) → room_of c (4 + k + m) ≡ true
+        → ReadsList t at end stop' names.at k places (c.used + 4) before (Err e) mid → ReadsLists t at end stop' first c before (Err e) mid
     unfolding Took-bytes
-    lists_not mid said s e reads = lists_are Not mid λ p mean. locations_read p mean e Not mid (subst (Locations mid) s reads)
-
-    pub lists_begun : (mid : List ℕ) (said : Reading) → said ≡ Begun → room_of c (4 + k + m) ≡ true
-        → ReadsList t at end stop' (spelling 7) k c.places (c.used + 4) before said mid → ReadsLists t at end stop' first c before Begun mid
-    unfolding Took-bytes
-    lists_begun mid said s e reads = lists_are Begun mid λ p mean. locations_read p mean e Begun mid (subst (Locations mid) s reads)
+    lists_err e mid h reads = lists_are (Err e) mid λ p mean. locations_read p mean h (Err e) mid reads
 
     -- and the slots behind them
-    pub lists_read : (q : ℕ) (mid : List ℕ) (said r : Reading) (after : List ℕ) → said ≡ At q → room_of c (4 + k + m) ≡ true
-        → ReadsList t at end stop' (spelling 7) k c.places (c.used + 4) before said mid
-        → ReadsList t q end stop' (spelling 8) m 32 (c.used + 4 + k) mid r after → ReadsLists t at end stop' first c before r after
+    pub lists_read : (q : ℕ) (mid : List ℕ) (r : Result ℕ Unread) (after : List ℕ) → room_of c (4 + k + m) ≡ true
+        → ReadsList t at end stop' names.at k places (c.used + 4) before (Ok q) mid
+        → ReadsList t q end stop' names.with m 32 (c.used + 4 + k) mid r after → ReadsLists t at end stop' first c before r after
     unfolding Took-bytes ReadsList
-    lists_read q mid said r after s e one two =
-        let more : ReadsList t q end stop' names.with m 32 (c.used + 4 + k) mid r after =
-        subst (λ (w : Text). ReadsList t q end stop' w m 32 (c.used + 4 + k) mid r after) (spelling_word 8 (omega arith)) two in
-        lists_are r after λ p mean.
+    lists_read q mid r after e one two = lists_are r after λ p mean.
         took_then _ before (c.used + 4) (λ ls. hears (ltb end stop') (slots p (call_bytes first k m) m ls) (words_from t q end)) _ k m mid r after
-        (locations_read p mean e (At q) mid (subst (Locations mid) s one))
-        λ ls. more p.scope Slot (λ xs. stop (some (added p (call_bytes first k m ++ (ls ++ xs))))) refl (λ x. refl) refl (λ xs. refl)
+        (locations_read p mean e (Ok q) mid one)
+        λ ls. two p.scope Slot (λ xs. stop (some (added p (call_bytes first k m ++ (ls ++ xs))))) refl (λ x. refl) refl (λ xs. refl)

@@ -1,5 +1,6 @@
+pub mod Passed
 pub mod Listed
 pub mod Called
-pub mod Behind
 pub mod Operating
+pub mod Behind
 pub mod Stating

@@ -9,7 +9,7 @@ use lib.Dec.{ltb}
 use lib.ListN.{length, length-append, replicate, set}
 use lib.Seq.{sets, length-sets}
 use borrow.Author.Tests.{lt-ltb}
-use Rattle.listing.proofs.Putting.{sets_append}
+use Rattle.std.specs.Prelude.{Result, Ok, Err}
 use Rattle.rules.specs.declared.statements.Operand.{Operand}
 use Rattle.rules.specs.declared.statements.Operand.TheVariants.{Slot, Location, Gate, Basis, Value, Callee, CalleeK, CalleeM, Nothing}
 use Rattle.rules.specs.Basics.{up_to}
@@ -20,13 +20,11 @@ use Rattle.rules.specs.Grammar.{Grammar, ask, live, some_below}
 use Rattle.rules.specs.Unlisting.{count, words_for, Sofar, operand, others, list}
 use Rattle.rules.proofs.Basics.{length_up_to}
 use Rattle.reading.specs.Cursor.{words_from}
-use Rattle.reading.specs.Hearing.{Hearing, hears, onward, numbered, Expects, Numbers, Onto}
+use Rattle.reading.specs.Hearing.{Hearing, hears, onward, Expects, Numbers}
 use Rattle.stating.specs.Statements.{Put, Took-bytes, ReadsNumbers, ReadsList}
-use Rattle.reading.specs.declared.cursor.Reading.{Reading}
-use Rattle.reading.specs.declared.cursor.Reading.TheVariants.{Not, Begun, At}
-use Rattle.reading.specs.declared.cursor.Number.{Number}
-use Rattle.reading.specs.declared.cursor.Number.TheVariants.{Not as NoNumber, Begun as NumberBegun, Is}
-use Rattle.standing.proofs.Counted.{one_found}
+use Rattle.reading.specs.declared.cursor.Unread.{Unread}
+use Rattle.standing.proofs.Searching.{one_found}
+use Rattle.standing.proofs.Meaning.{sets_behind}
 
 -- an operand that is written is asked for
 pub operand_asks : (S : Scope) (f : ℕ) (o : Operand) (k : ℕ → Grammar Sofar) → silent o ≡ false → operand S f o k ≡ ask none (words_for S o) k
@@ -90,12 +88,13 @@ module _ (t : Text) (from end stop n limit i : ℕ) (before : List ℕ) where
     numbers_length = ap length read.stand ∙ length-sets before i read.bytes
 
     -- what the line is, by the next number
-    numbers_ask : (r : Number) → j < n → Numbers t at end stop limit r
+    numbers_ask : (r : Result (ℕ × ℕ) Unread) → j < n → Numbers t at end stop limit r
         → (S : Scope) (o : Operand) (k : List ℕ → Grammar Sofar) → silent o ≡ false → ((x : ℕ) → spoken o x ≡ decimal x)
         → count S o ≡ limit
         → ((xs : List ℕ) → live (k xs) ≡ true)
         → hears (ltb end stop) (others S 0 (replicate n o) k) (words_from t from end)
-        ≡ numbered r λ v q. hears (ltb end stop) (others S 0 (replicate (n - (j + 1)) o) λ xs. k ((read.bytes ++ (v ∷ [])) ++ xs)) (words_from t q end)
+        ≡ onward r λ x. hears (ltb end stop) (others S 0 (replicate (n - (j + 1)) o) λ xs. k ((read.bytes ++ (x.0 ∷ [])) ++ xs))
+        (words_from t x.1 end)
     unfolding Numbers
     numbers_ask r l num S o k s d e h =
         let u : n - j ≡ suc (n - (j + 1)) = omega arith in
@@ -113,25 +112,21 @@ module _ (t : Text) (from end stop n limit i : ℕ) (before : List ℕ) where
         ∙ num G (λ v b. live_numbers S o s (n - (j + 1)) (λ xs. k ((read.bytes ++ (v ∷ [])) ++ xs)) (omega arith)
         (λ xs. h ((read.bytes ++ (v ∷ [])) ++ xs)))
 
-    pub numbers_next : (v q : ℕ) (then : List ℕ) → j < n → Numbers t at end stop limit (Is v q) → then ≡ set after (i + j) v
+    pub numbers_next : (v q : ℕ) (then : List ℕ) → j < n → Numbers t at end stop limit (Ok (v, q)) → then ≡ set after (i + j) v
         → NumbersRead t from end stop n limit i before (j + 1) q then
     numbers_next v q then l num e = record {
       bytes = read.bytes ++ (v ∷ []);
       many = omega (arith, length-append read.bytes (v ∷ []), read.many);
       stand = e ∙ ap (λ (x : List ℕ). set x (i + j) v) read.stand ∙ ap (λ (m : ℕ). set (sets before i read.bytes) (i + m) v) (sym read.many)
-          ∙ sets_append before i read.bytes (v ∷ []);
-      is = numbers_ask (Is v q) l num;
+          ∙ sets_behind before i read.bytes (v ∷ []);
+      is = numbers_ask (Ok (v, q)) l num;
     }
 
-    pub numbers_not : (x : List ℕ) → j < n → Numbers t at end stop limit NoNumber → ReadsNumbers t from end stop n limit i before Not x
+    pub numbers_err : (e : Unread) (x : List ℕ) → j < n → Numbers t at end stop limit (Err e) → ReadsNumbers t from end stop n limit i before (Err e) x
     unfolding ReadsNumbers Took-bytes
-    numbers_not x l num = numbers_ask NoNumber l num
+    numbers_err e x l num = numbers_ask (Err e) l num
 
-    pub numbers_begun : (x : List ℕ) → j < n → Numbers t at end stop limit NumberBegun → ReadsNumbers t from end stop n limit i before Begun x
-    unfolding ReadsNumbers Took-bytes
-    numbers_begun x l num = numbers_ask NumberBegun l num
-
-    pub numbers_all : j ≤ n → n ≤ j → ReadsNumbers t from end stop n limit i before (At at) after
+    pub numbers_all : j ≤ n → n ≤ j → ReadsNumbers t from end stop n limit i before (Ok at) after
     unfolding ReadsNumbers Took-bytes
     numbers_all l m S o k s d e h =
         let z : n - j ≡ 0 = omega arith in
@@ -145,16 +140,15 @@ module _ (t : Text) (from end stop n limit i : ℕ) (before : List ℕ) where
         }
 
 -- the same bytes, read of a line that is the same
-pub took_same : (h g : Hearing Sofar) (before : List ℕ) (i : ℕ) (k : List ℕ → ℕ → Hearing Sofar) (n : ℕ) (r : Reading) (after : List ℕ)
+pub took_same : (h g : Hearing Sofar) (before : List ℕ) (i : ℕ) (k : List ℕ → ℕ → Hearing Sofar) (n : ℕ) (r : Result ℕ Unread) (after : List ℕ)
     → h ≡ g → Took-bytes g before i k n r after → Took-bytes h before i k n r after
 unfolding Took-bytes
-took_same h g before i k n Not after e w = e ∙ w
-took_same h g before i k n Begun after e w = e ∙ w
-took_same h g before i k n (At p) after e w = record { bytes = w.bytes; many = w.many; is = e ∙ w.is; stand = w.stand }
+took_same h g before i k n (Err x) after e w = e ∙ w
+took_same h g before i k n (Ok p) after e w = record { bytes = w.bytes; many = w.many; is = e ∙ w.is; stand = w.stand }
 
 module _ (t : Text) (from end stop : ℕ) (w : Text) (n limit i : ℕ) (before : List ℕ) where
   -- an empty list has no word
-  pub list_none : n ≡ 0 → ReadsList t from end stop w n limit i before (At from) before
+  pub list_none : n ≡ 0 → ReadsList t from end stop w n limit i before (Ok from) before
   unfolding ReadsList Took-bytes
   list_none z S o k s d e h = record {
     bytes = [];
@@ -164,7 +158,7 @@ module _ (t : Text) (from end stop : ℕ) (w : Text) (n limit i : ℕ) (before :
   }
 
   -- what the line is, by its next word
-  list_ask : (r : Reading) → (n ≡ 0 → ⊥) → Expects t from end stop w (ltb 0 limit) r
+  list_ask : (r : Result ℕ Unread) → (n ≡ 0 → ⊥) → Expects t from end stop w (ltb 0 limit) r
       → (S : Scope) (o : Operand) (k : List ℕ → Grammar Sofar) → silent o ≡ false → count S o ≡ limit
       → ((xs : List ℕ) → live (k xs) ≡ true)
       → hears (ltb end stop) (list S w o n k) (words_from t from end)
@@ -177,41 +171,29 @@ module _ (t : Text) (from end stop : ℕ) (w : Text) (n limit i : ℕ) (before :
       go zero y = absurd (y refl)
       go (suc m) y = x (others S 0 (replicate (suc m) o) k) (live_list S o s m k h ∙ ap (ltb 0) e)
 
-  pub list_not : (after : List ℕ) → (n ≡ 0 → ⊥) → Expects t from end stop w (ltb 0 limit) Not
-      → ReadsList t from end stop w n limit i before Not after
+  pub list_err : (e : Unread) (after : List ℕ) → (n ≡ 0 → ⊥) → Expects t from end stop w (ltb 0 limit) (Err e)
+      → ReadsList t from end stop w n limit i before (Err e) after
   unfolding ReadsList Took-bytes
-  list_not after z x S o k s d e h = list_ask Not z x S o k s e h
+  list_err e after z x S o k s d h y = list_ask (Err e) z x S o k s h y
 
-  pub list_begun : (after : List ℕ) → (n ≡ 0 → ⊥) → Expects t from end stop w (ltb 0 limit) Begun
-      → ReadsList t from end stop w n limit i before Begun after
-  unfolding ReadsList Took-bytes
-  list_begun after z x S o k s d e h = list_ask Begun z x S o k s e h
-
-  pub list_read : (q : ℕ) (r : Reading) (after : List ℕ) → (n ≡ 0 → ⊥) → Expects t from end stop w (ltb 0 limit) (At q)
+  pub list_read : (q : ℕ) (r : Result ℕ Unread) (after : List ℕ) → (n ≡ 0 → ⊥) → Expects t from end stop w (ltb 0 limit) (Ok q)
       → ReadsNumbers t q end stop n limit i before r after → ReadsList t from end stop w n limit i before r after
   unfolding ReadsList ReadsNumbers
-  list_read q r after z x reads S o k s d e h = took_same _ _ before i _ n r after (list_ask (At q) z x S o k s e h) (reads S o k s d e h)
-
-pub onto_then : (from stop p : ℕ) (r : Reading) → Onto from stop (At p) → Onto p stop r → Onto from stop r
-unfolding Onto
-onto_then from stop p Not l h = tt
-onto_then from stop p Begun l h = tt
-onto_then from stop p (At q) l h = (omega (arith, l.0, h.0), h.1)
+  list_read q r after z x reads S o k s d e h = took_same _ _ before i _ n r after (list_ask (Ok q) z x S o k s e h) (reads S o k s d e h)
 
 -- bytes that are read behind others
 pub took_then : (h : Hearing Sofar) (before : List ℕ) (i : ℕ) (g : List ℕ → Hearing Sofar) (k : List ℕ → ℕ → Hearing Sofar) (n m : ℕ)
     (mid : List ℕ)
-    (r : Reading) (after : List ℕ) → Put h before i g n mid → ((xs : List ℕ) → Took-bytes (g xs) mid (i + n) (λ ys. k (xs ++ ys)) m r after)
+    (r : Result ℕ Unread) (after : List ℕ) → Put h before i g n mid → ((xs : List ℕ) → Took-bytes (g xs) mid (i + n) (λ ys. k (xs ++ ys)) m r after)
     → Took-bytes h before i k (n + m) r after
 unfolding Took-bytes
-took_then h before i g k n m mid Not after one two = one.is ∙ two one.bytes
-took_then h before i g k n m mid Begun after one two = one.is ∙ two one.bytes
-took_then h before i g k n m mid (At p) after one two =
+took_then h before i g k n m mid (Err e) after one two = one.is ∙ two one.bytes
+took_then h before i g k n m mid (Ok p) after one two =
     let more : Put (g one.bytes) mid (i + n) (λ ys. k (one.bytes ++ ys) p) m after = two one.bytes in
     record {
       bytes = one.bytes ++ more.bytes;
       many = omega (arith, length-append one.bytes more.bytes, one.many, more.many);
       is = one.is ∙ more.is;
       stand = more.stand ∙ ap (λ (x : List ℕ). sets x (i + n) more.bytes) one.stand
-          ∙ ap (λ (x : ℕ). sets (sets before i one.bytes) (i + x) more.bytes) (sym one.many) ∙ sets_append before i one.bytes more.bytes;
+          ∙ ap (λ (x : ℕ). sets (sets before i one.bytes) (i + x) more.bytes) (sym one.many) ∙ sets_behind before i one.bytes more.bytes;
     }

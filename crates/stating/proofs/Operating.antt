@@ -7,9 +7,11 @@ use mathlib.Core.Path.{◌≡◌, refl, sym, ap, subst, fun_ext, ◌∙◌}
 use native.Mathlib.Omega.{arith}
 use Prim.Native.Nat.{ℕ, zero, suc, ◌+◌, ◌-◌, ◌<◌, ◌≤◌}
 use lib.Dec.{T, eqb, ltb, leb}
-use lib.ListN.{get_or, set, take, drop, length, length-append, length-set}
-use lib.Seq.{sets, length-sets, drop-cons, drop-length, take-suc}
-use borrow.Author.Tests.{eqb-true, ltb-true, ltb-false, ne_eqb, eq-eqb, lt-ltb, le-ltb, lt-leb}
+use lib.ListN.{get_or, set, take, drop, length, length-append}
+use lib.Seq.{sets, drop-cons, drop-length, take-suc}
+use borrow.Author.Tests.{eqb-true, ltb-true, ne_eqb, eq-eqb, lt-ltb, le-ltb, lt-leb}
+use Rattle.std.specs.Prelude as std
+use Rattle.std.specs.Prelude.{Result, Ok, Err, None, Some}
 use Rattle.rules.specs.declared.statements.Operand.{Operand}
 use Rattle.rules.specs.declared.statements.Operand.TheVariants.{Slot, Location, Gate, Basis, Value, Callee, CalleeK, CalleeM, Nothing}
 use Rattle.rules.specs.Basics.{chosen, all, up_to}
@@ -20,19 +22,19 @@ use Rattle.rules.specs.Grammar.{Grammar, ask}
 use Rattle.rules.specs.Unlisting.{words_for, Sofar, operand, operands, others, made}
 use Rattle.rules.proofs.Basics.{all_up_to}
 use Rattle.rules.proofs.Tests.{T→eq, and_left, and_right}
-use Rattle.listing.proofs.Putting.{sets_append}
 use Rattle.reading.specs.Cursor.{part, words_from, below, Valued}
 use Rattle.reading.specs.Hearing.{Hearing, not, begun, hears, NextWord}
 use Rattle.standing.specs.Numbers.{count_of, unwritten_of, operand_begins}
 use Rattle.standing.specs.Means.{Means}
-use Rattle.stating.specs.Statements.{OperandsAs, ReadsOperands}
+use Rattle.stating.specs.Statements.{OperandsAs, ReadsOperands, ReadsOperand}
 use Rattle.standing.specs.From.{from_operand}
 use Rattle.standing.specs.declared.state.Standing.{Standing}
-use Rattle.reading.specs.declared.cursor.Reading.TheVariants.{Not, Begun, At}
-use Rattle.reading.specs.declared.cursor.Word.{Word}
-use Rattle.reading.specs.declared.cursor.Word.TheVariants.{Nothing as NoWord, Unfinished, To}
+use Rattle.reading.specs.declared.cursor.Unread.{Unread}
+use Rattle.reading.specs.declared.cursor.Unread.TheVariants.{Not, Begun}
+use Rattle.reading.specs.declared.cursor.Next.TheVariants.{Nothing as NoWord, Unfinished, To}
 use Rattle.reading.proofs.Hearings.{hears_ask, hears_nothing}
 use Rattle.standing.proofs.Thirteen.{row_size, row_operand}
+use Rattle.standing.proofs.Meaning.{sets_behind}
 use Rattle.standing.proofs.Lives.{count_is, count_most, unwritten_k, unwritten_m, operand_begins_lem}
 use Rattle.stating.proofs.Listed.{operand_asks}
 
@@ -64,27 +66,18 @@ written_first b n l h s e =
     go (suc (suc (suc zero))) x y z = absurd (false≢true (sym z))
     go (suc (suc (suc (suc i)))) x y z = absurd (omega arith)
 
--- operand number n is there, of a kind that is written or not
-pub record Facing (b n : ℕ) (kind : Operand) (quiet : Bool) : Type 0 where
-  pub inside : n < size_of b
-  pub is_kind : kind ≡ operand_at b n
-  pub spoken : silent (operand_at b n) ≡ quiet
-
-pub facing : (b n size : ℕ) (kind : Operand) (r x : Bool) → size ≡ size_of b → n < size → kind ≡ operand_at b n → r ≡ silent kind → r ≡ x
-    → Facing b n kind x
-facing b n size kind r x e l k s h = record { inside = omega arith; is_kind = k; spoken = ap silent (sym k) ∙ sym s ∙ h }
-
 -- the operand that is next
-row_next : (b : ℕ) (row : Row) (i : ℕ) → row_of b ≡ some row → suc i < size_of b
-    → drop i row.operands ≡ operand_at b (suc i) ∷ drop (suc i) row.operands
-row_next b row i is l =
-    drop-cons row.operands i Nothing (omega (arith, row_size b row is))
-    ∙ ap (λ (o : Operand). o ∷ drop (suc i) row.operands) (sym (row_operand b row is i))
+row_next : (b : ℕ) (row : Row) (n : ℕ) → row_of b ≡ some row → 0 < n → n < size_of b
+    → drop (n - 1) row.operands ≡ operand_at b n ∷ drop n row.operands
+row_next b row n is p l =
+    let i : suc (n - 1) ≡ n = omega arith in
+    drop-cons row.operands (n - 1) Nothing (omega (arith, row_size b row is))
+    ∙ ap (λ (o : Operand). o ∷ drop (suc (n - 1)) row.operands) (sym (row_operand b row is (n - 1)))
+    ∙ ap (λ (k : ℕ). operand_at b k ∷ drop k row.operands) i
 
 -- an operand that is not written
 unwritten_is : (c : Standing) (p : Sofar) (f : ℕ) (o : Operand) (v : ℕ) (k : ℕ → Grammar Sofar) → Means c p → f < c.callees → silent o ≡ true
     → v ≡ unwritten_of c o f → operand p.scope f o k ≡ k v
-unfolding unwritten_of
 unwritten_is c p f Slot v k mean l s e = absurd (false≢true s)
 unwritten_is c p f Location v k mean l s e = absurd (false≢true s)
 unwritten_is c p f Gate v k mean l s e = absurd (false≢true s)
@@ -149,17 +142,97 @@ known_at c f (suc zero) l h = refl
 known_at c f (suc (suc zero)) l h = refl
 known_at c f (suc (suc (suc i))) l h = absurd (omega arith)
 
+-- operand number n of statement b, which is written
+module _ (t : Text) (at end stop b n first : ℕ) (c : Standing) (low : 0 < n) (inside : n < size_of b) (spoken : silent (operand_at b n) ≡ false) where
+  abbrev after : Sofar → Row → List ℕ → ℕ → Grammar Sofar
+  after p row xs v = from_operand p row b (n + 1) (chosen (eqb n 1) v first) (drop n row.operands) (xs ++ (v ∷ []))
+
+  abbrev operand_line : Sofar → Row → List ℕ → Hearing Sofar
+  operand_line p row xs = hears (ltb end stop) (from_operand p row b n first (drop (n - 1) row.operands) xs) (words_from t at end)
+
+  -- it is asked for
+  asks : (p : Sofar) (row : Row) (xs : List ℕ) → row_of b ≡ some row → length xs + 1 ≡ n
+      → operand_line p row xs ≡ hears (ltb end stop) (ask none (words_for p.scope (operand_at b n)) (after p row xs)) (words_from t at end)
+  asks p row xs is many =
+      let i : suc (length xs) ≡ n = omega arith in
+      let os : List Operand = drop n row.operands in
+      ap (λ (g : Grammar Sofar). hears (ltb end stop) g (words_from t at end))
+      (ap (λ (os : List Operand). from_operand p row b n first os xs) (row_next b row n is low inside)
+      ∙ ap (λ (k : ℕ). from_operand p row b k first (operand_at b n ∷ os) xs) (sym i)
+      ∙ from_asks p row b first (operand_at b n) os xs spoken
+      ∙ ap (λ (k : ℕ). ask none (words_for p.scope (operand_at b n))
+      (λ v. from_operand p row b (k + 1) (chosen (eqb k 1) v first) os (xs ++ (v ∷ [])))) i)
+
+  -- no word is left for it
+  pub operand_nothing : NextWord t at end stop NoWord → ReadsOperand t at end stop b n first c (Err Not)
+  unfolding ReadsOperand
+  operand_nothing next p row xs mean is many =
+      asks p row xs is many ∙ ap (hears (ltb end stop) (ask none (words_for p.scope (operand_at b n)) (after p row xs))) next
+      ∙ hears_nothing (ltb end stop) _ _
+
+  -- it is unfinished
+  unfinished : NextWord t at end stop Unfinished → (p : Sofar) (row : Row) (xs : List ℕ) → Means c p → row_of b ≡ some row → length xs + 1 ≡ n
+      → operand_line p row xs ≡ chosen (operand_begins c (part t at end) b n first) begun not
+  unfinished next p row xs mean is many =
+      let os : List Operand = drop n row.operands in
+      let there = row_next b row n is low inside in
+      ap (λ (os : List Operand). hears (ltb end stop) (from_operand p row b n first os xs) (words_from t at end)) there
+      ∙ ap (λ (whole : Bool). hears whole (from_operand p row b n first (operand_at b n ∷ os) xs) (words_from t at end)) next.1
+      ∙ ap (hears false (from_operand p row b n first (operand_at b n ∷ os) xs)) next.0
+      ∙ operand_begins_lem c p mean row b is n first (operand_at b n) os xs (omega arith) there (omega arith) spoken
+      (written_first b n low inside spoken) (part t at end)
+
+  pub operand_begun : NextWord t at end stop Unfinished → operand_begins c (part t at end) b n first ≡ true
+      → ReadsOperand t at end stop b n first c (Err Begun)
+  unfolding ReadsOperand
+  operand_begun next e p row xs mean is many = unfinished next p row xs mean is many ∙ ap (λ (z : Bool). chosen z begun not) e
+
+  pub operand_unbegun : NextWord t at end stop Unfinished → operand_begins c (part t at end) b n first ≡ false
+      → ReadsOperand t at end stop b n first c (Err Not)
+  unfolding ReadsOperand
+  operand_unbegun next e p row xs mean is many = unfinished next p row xs mean is many ∙ ap (λ (z : Bool). chosen z begun not) e
+
+  -- it is a word, which is its place among those for it
+  module _ (to : ℕ) (next : NextWord t at end stop (To to)) where
+    abbrev placed : Sofar → Row → List ℕ → Option ℕ → Hearing Sofar
+    placed p row xs o = elim o [ none ↦ not | some v ↦ hears (ltb end stop) (after p row xs v) (words_from t (to + 1) end) ]
+
+    word_is : (r : std.Option ℕ) → Valued (operand_at b n) (part t at to) r → (p : Sofar) (row : Row) (xs : List ℕ) → Means c p
+        → row_of b ≡ some row → length xs + 1 ≡ n → operand_line p row xs ≡ placed p row xs (below r (count_of c (operand_at b n)))
+    word_is r valued p row xs mean is many =
+        let words : List Text = words_for p.scope (operand_at b n) in
+        asks p row xs is many ∙ ap (hears (ltb end stop) (ask none words (after p row xs))) next.0
+        ∙ hears_ask (ltb end stop) none words (after p row xs) (part t at to) (words_from t (to + 1) end) next.1
+        ∙ ap (placed p row xs)
+        (valued.placed p.scope (count_most c p mean (operand_at b n)) ∙ ap (below r) (sym (count_is c p mean (operand_at b n))))
+
+    pub operand_none : Valued (operand_at b n) (part t at to) None → ReadsOperand t at end stop b n first c (Err Not)
+    unfolding ReadsOperand
+    operand_none valued = word_is None valued
+
+    module _ (v : ℕ) (valued : Valued (operand_at b n) (part t at to) (Some v)) where
+      pub operand_above : count_of c (operand_at b n) ≤ v → ReadsOperand t at end stop b n first c (Err Not)
+      unfolding ReadsOperand
+      operand_above h p row xs mean is many =
+          word_is (Some v) valued p row xs mean is many
+          ∙ ap (λ (z : Bool). placed p row xs (chosen z (some v) none)) (le-ltb v (count_of c (operand_at b n)) h)
+
+      pub operand_word : v < count_of c (operand_at b n) → ReadsOperand t at end stop b n first c (Ok (v, to + 1))
+      unfolding ReadsOperand
+      operand_word h p row xs mean is many =
+          word_is (Some v) valued p row xs mean is many
+          ∙ ap (λ (z : Bool). placed p row xs (chosen z (some v) none)) (lt-ltb v (count_of c (operand_at b n)) h)
+
 -- the operands before number n have been read, up to a position
 pub record OperandsRead (t : Text) (from end stop b : ℕ) (c : Standing) (before : List ℕ) (at first n : ℕ) (after : List ℕ) : Type 0 where
   pub bytes : List ℕ
-  pub many : suc (length bytes) ≡ n
+  pub many : length bytes + 1 ≡ n
   pub stand : after ≡ sets before (suc c.used) bytes
   pub is : (p : Sofar) (row : Row) → Means c p → row_of b ≡ some row
       → hears (ltb end stop) (operands p.scope row.operands λ xs. made p row.meaning (b ∷ xs)) (words_from t from end)
-      ≡ hears (ltb end stop) (from_operand p row b n first (drop (length bytes) row.operands) bytes) (words_from t at end)
+      ≡ hears (ltb end stop) (from_operand p row b n first (drop (n - 1) row.operands) bytes) (words_from t at end)
   pub call : b ≡ 12 → bytes ≡ take (length bytes) (call_operands c first)
   pub callee : b ≡ 12 → 1 < n → first < c.callees
-  pub none_yet : n ≡ 1 → first ≡ 0
 
 module _ (t : Text) (from end stop b : ℕ) (c : Standing) (before : List ℕ) where
   pub operands_none : OperandsRead t from end stop b c before from 0 1 before
@@ -171,210 +244,99 @@ module _ (t : Text) (from end stop b : ℕ) (c : Standing) (before : List ℕ) w
     is = λ p row mean is. refl;
     call = λ e. refl;
     callee = λ e l. absurd (omega arith);
-    none_yet = λ e. refl;
   }
 
   module _ (at first n : ℕ) (after : List ℕ) (read : OperandsRead t from end stop b c before at first n after) where
-    pub operands_length : (start : List ℕ) (i x : ℕ) → before ≡ set start i x → length after ≡ length start
-    operands_length start i x e =
-        ap length read.stand ∙ length-sets before (suc c.used) read.bytes ∙ ap length e ∙ length-set start i x
-
-    -- by other names
-    pub operands_as : (at' first' : ℕ) → at' ≡ at → first' ≡ first → OperandsRead t from end stop b c before at' first' n after
-    operands_as at' first' e f =
-        subst (λ (x : ℕ). OperandsRead t from end stop b c before x first' n after) (sym e)
-        (subst (λ (x : ℕ). OperandsRead t from end stop b c before at x n after) (sym f) read)
-
-    pub first_small : c.callees ≤ 15 → b ≡ 12 → first < 16
-    first_small l e = go first read.none_yet (read.callee e) (ltb n 2) refl
-      where
-        go : (f : ℕ) → (n ≡ 1 → f ≡ 0) → (1 < n → f < c.callees) → (x : Bool) → ltb n 2 ≡ x → f < 16
-        go f one more true y = let z : f ≡ 0 = one (omega (arith, ltb-true n 2 y, read.many)) in omega arith
-        go f one more false y = let z : f < c.callees = more (ltb-false n 2 y) in omega arith
-
-    -- what the line is, from the next operand on
-    heard_next : (p : Sofar) (row : Row) → Means c p → row_of b ≡ some row → n < size_of b
-        → hears (ltb end stop) (operands p.scope row.operands λ xs. made p row.meaning (b ∷ xs)) (words_from t from end)
-        ≡ hears (ltb end stop) (from_operand p row b n first (operand_at b n ∷ drop (suc (length read.bytes)) row.operands) read.bytes)
-        (words_from t at end)
-    heard_next p row mean is l =
-        read.is p row mean is
-        ∙ ap (λ (os : List Operand). hears (ltb end stop) (from_operand p row b n first os read.bytes) (words_from t at end))
-        (row_next b row (length read.bytes) is (omega (arith, read.many))
-        ∙ ap (λ (x : ℕ). operand_at b x ∷ drop (suc (length read.bytes)) row.operands) read.many)
-
-    -- where it is written
-    heard_ask : (p : Sofar) (row : Row) → Means c p → row_of b ≡ some row → n < size_of b → silent (operand_at b n) ≡ false
-        → hears (ltb end stop) (operands p.scope row.operands λ xs. made p row.meaning (b ∷ xs)) (words_from t from end)
-        ≡ hears (ltb end stop) (ask none (words_for p.scope (operand_at b n))
-        (λ v. from_operand p row b (n + 1) (chosen (eqb n 1) v first) (drop (suc (length read.bytes)) row.operands) (read.bytes ++ (v ∷ []))))
-        (words_from t at end)
-    heard_ask p row mean is l s =
-        let os : List Operand = drop (suc (length read.bytes)) row.operands in
-        heard_next p row mean is l
-        ∙ ap (λ (g : Grammar Sofar). hears (ltb end stop) g (words_from t at end))
-        (ap (λ (x : ℕ). from_operand p row b x first (operand_at b n ∷ os) read.bytes) (sym read.many)
-        ∙ from_asks p row b first (operand_at b n) os read.bytes s
-        ∙ ap (λ (x : ℕ). ask none (words_for p.scope (operand_at b n))
-        (λ v. from_operand p row b (x + 1) (chosen (eqb x 1) v first) os (read.bytes ++ (v ∷ []))))
-        read.many)
-
-    -- no word is left for it
-    pub operands_not : (x y : List ℕ) (kind : Operand) (w : Word) → Facing b n kind false → w ≡ NoWord → NextWord t at end stop w
-        → ReadsOperands t from end stop b c x (record { said = Not; first = first }) y
-    unfolding ReadsOperands OperandsAs NextWord
-    operands_not x y kind w face e next p row mean is =
-        heard_ask p row mean is face.inside face.spoken
-        ∙ ap (hears (ltb end stop) (ask none (words_for p.scope (operand_at b n)) _)) (subst (NextWord t at end stop) e next)
-        ∙ hears_nothing (ltb end stop) _ _
-
-    -- it is unfinished
-    heard_begun : (p : Sofar) (row : Row) → Means c p → row_of b ≡ some row → n < size_of b → silent (operand_at b n) ≡ false
-        → NextWord t at end stop Unfinished
-        → hears (ltb end stop) (operands p.scope row.operands λ xs. made p row.meaning (b ∷ xs)) (words_from t from end)
-        ≡ chosen (operand_begins c (part t at end) b n first) begun not
-    unfolding NextWord
-    heard_begun p row mean is l s next =
-        let os : List Operand = drop (suc (length read.bytes)) row.operands in
-        let i : length read.bytes ≡ n - 1 = omega (arith, read.many) in
-        let one : drop (n - 1) row.operands ≡ operand_at b n ∷ os =
-        ap (λ (x : ℕ). drop x row.operands) (sym i) ∙ row_next b row (length read.bytes) is (omega (arith, read.many))
-        ∙ ap (λ (x : ℕ). operand_at b x ∷ os) read.many in
-        heard_next p row mean is l
-        ∙ ap (λ (whole : Bool). hears whole (from_operand p row b n first (operand_at b n ∷ os) read.bytes) (words_from t at end)) next.1
-        ∙ ap (hears false (from_operand p row b n first (operand_at b n ∷ os) read.bytes)) next.0
-        ∙ operand_begins_lem c p mean row b is n first (operand_at b n) os read.bytes (omega (arith, read.many)) one i s
-        (written_first b n (omega (arith, read.many)) l s) (part t at end)
-
-    pub operands_begun : (x y : List ℕ) (kind : Operand) (w : Word) (r : Bool) → Facing b n kind false → w ≡ Unfinished → NextWord t at end stop w
-        → r ≡ operand_begins c (part t at end) b n first → r ≡ true → ReadsOperands t from end stop b c x (record { said = Begun; first = first }) y
-    unfolding ReadsOperands OperandsAs
-    operands_begun x y kind w r face u next e f p row mean is =
-        heard_begun p row mean is face.inside face.spoken (subst (NextWord t at end stop) u next) ∙ ap (λ (z : Bool). chosen z begun not) (sym e ∙ f)
-
-    pub operands_unbegun : (x y : List ℕ) (kind : Operand) (w : Word) (r : Bool) → Facing b n kind false → w ≡ Unfinished → NextWord t at end stop w
-        → r ≡ operand_begins c (part t at end) b n first → r ≡ false → ReadsOperands t from end stop b c x (record { said = Not; first = first }) y
-    unfolding ReadsOperands OperandsAs
-    operands_unbegun x y kind w r face u next e f p row mean is =
-        heard_begun p row mean is face.inside face.spoken (subst (NextWord t at end stop) u next) ∙ ap (λ (z : Bool). chosen z begun not) (sym e ∙ f)
-
-    -- it is a word, which is its place among those for it
-    abbrev placed : Sofar → Row → ℕ → ℕ → Hearing Sofar
-    placed p row to v = hears (ltb end stop)
-        (from_operand p row b (n + 1) (chosen (eqb n 1) v first) (drop (suc (length read.bytes)) row.operands) (read.bytes ++ (v ∷ [])))
-        (words_from t (to + 1) end)
-
-    abbrev placed_of : Sofar → Row → ℕ → Option ℕ → Hearing Sofar
-    placed_of p row to o = elim o [ none ↦ not | some v ↦ placed p row to v ]
-
-    heard_word : (p : Sofar) (row : Row) → Means c p → row_of b ≡ some row → (kind : Operand) → Facing b n kind false
-        → (w : Word) (to v : ℕ) → w ≡ To to → NextWord t at end stop w → Valued kind (part t at to) v
-        → hears (ltb end stop) (operands p.scope row.operands λ xs. made p row.meaning (b ∷ xs)) (words_from t from end)
-        ≡ placed_of p row to (below v (count_of c (operand_at b n)))
-    unfolding NextWord
-    heard_word p row mean is kind face w to v e read-to value =
-        let next : NextWord t at end stop (To to) = subst (NextWord t at end stop) e read-to in
-        let valued : Valued (operand_at b n) (part t at to) v = subst (λ (o : Operand). Valued o (part t at to) v) face.is_kind value in
-        let words : List Text = words_for p.scope (operand_at b n) in
-        let k : ℕ → Grammar Sofar = λ v. from_operand p row b (n + 1) (chosen (eqb n 1) v first) (drop (suc (length read.bytes)) row.operands)
-        (read.bytes ++ (v ∷ [])) in
-        heard_ask p row mean is face.inside face.spoken ∙ ap (hears (ltb end stop) (ask none words k)) next.0
-        ∙ hears_ask (ltb end stop) none words k (part t at to) (words_from t (to + 1) end) next.1
-        ∙ ap (placed_of p row to)
-        (valued.placed p.scope (count_most c p mean (operand_at b n)) ∙ ap (below v) (sym (count_is c p mean (operand_at b n))))
-
-    pub operands_above : (x y : List ℕ) (kind : Operand) (w : Word) (to v m : ℕ) → Facing b n kind false → w ≡ To to → NextWord t at end stop w
-        → Valued kind (part t at to) v → m ≡ count_of c kind → m ≤ v
-        → ReadsOperands t from end stop b c x (record { said = Not; first = first }) y
-    unfolding ReadsOperands OperandsAs
-    operands_above x y kind w to v m face u next valued e f p row mean is =
-        let many : m ≡ count_of c (operand_at b n) = e ∙ ap (count_of c) face.is_kind in
-        heard_word p row mean is kind face w to v u next valued
-        ∙ ap (λ (z : Bool). placed_of p row to (chosen z (some v) none)) (le-ltb v (count_of c (operand_at b n)) (omega arith))
+    -- the next one was not read
+    pub operands_err : (start end' : List ℕ) (e : Unread) → ReadsOperand t at end stop b n first c (Err e)
+        → ReadsOperands t from end stop b c start (Err e) end'
+    unfolding ReadsOperands OperandsAs ReadsOperand
+    operands_err start end' e next p row mean is = read.is p row mean is ∙ next p row read.bytes mean is read.many
 
     -- a byte more in the buffer
     byte_stands : (v : ℕ) → set after (c.used + n) v ≡ sets before (suc c.used) (read.bytes ++ (v ∷ []))
     byte_stands v =
         let i : c.used + n ≡ suc c.used + length read.bytes = omega (arith, read.many) in
         ap (λ (x : ℕ). set after x v) i ∙ ap (λ (x : List ℕ). set x (suc c.used + length read.bytes) v) read.stand
-        ∙ sets_append before (suc c.used) read.bytes (v ∷ [])
+        ∙ sets_behind before (suc c.used) read.bytes (v ∷ [])
 
     -- one more that is written; the first of the operands is kept
-    pub operands_word : (kind : Operand) (w : Word) (to v m kept : ℕ) (then : List ℕ) → Facing b n kind false → w ≡ To to → NextWord t at end stop w
-        → Valued kind (part t at to) v → m ≡ count_of c kind → v < m → kept ≡ chosen (eqb n 1) v first
-        → then ≡ set after (c.used + n) v → OperandsRead t from end stop b c before (to + 1) kept (n + 1) then
-    unfolding count_of
-    operands_word kind w to v m kept then face u next valued e f k put =
-        let many : m ≡ count_of c (operand_at b n) = e ∙ ap (count_of c) face.is_kind in
-        let longer : length (read.bytes ++ (v ∷ [])) ≡ suc (length read.bytes) = omega (arith, length-append read.bytes (v ∷ [])) in
-        let one : b ≡ 12 → n ≡ 1 = written_first b n (omega (arith, read.many)) face.inside face.spoken in
+    pub operands_word : (v to kept : ℕ) (then : List ℕ) → 0 < n → n < size_of b → silent (operand_at b n) ≡ false
+        → ReadsOperand t at end stop b n first c (Ok (v, to)) → v < count_of c (operand_at b n) → kept ≡ chosen (eqb n 1) v first
+        → then ≡ set after (c.used + n) v → OperandsRead t from end stop b c before to kept (n + 1) then
+    unfolding ReadsOperand
+    operands_word v to kept then low inside spoken next f k put =
+        let longer : length (read.bytes ++ (v ∷ [])) ≡ length read.bytes + 1 = length-append read.bytes (v ∷ []) in
+        let one : b ≡ 12 → n ≡ 1 = written_first b n low inside spoken in
         let kept_one : b ≡ 12 → kept ≡ v = λ h. k ∙ ap (λ (x : Bool). chosen x v first) (eq-eqb n 1 (one h)) in
+        let behind : n ≡ n + 1 - 1 = omega arith in
         record {
           bytes = read.bytes ++ (v ∷ []);
           many = omega (arith, read.many);
           stand = put ∙ byte_stands v;
-          is = λ p row mean is. heard_word p row mean is kind face w to v u next valued
-              ∙ ap (λ (z : Bool). placed_of p row to (chosen z (some v) none)) (lt-ltb v (count_of c (operand_at b n)) (omega arith))
-              ∙ ap (λ (x : ℕ). hears (ltb end stop)
-              (from_operand p row b (n + 1) x (drop (suc (length read.bytes)) row.operands) (read.bytes ++ (v ∷ [])))
-              (words_from t (to + 1) end)) (sym k)
+          is = λ p row mean is. read.is p row mean is ∙ next p row read.bytes mean is read.many
+              ∙ ap (λ (x : ℕ). hears (ltb end stop) (from_operand p row b (n + 1) x (drop n row.operands) (read.bytes ++ (v ∷ [])))
+              (words_from t to end)) (sym k)
               ∙ ap (λ (x : ℕ). hears (ltb end stop) (from_operand p row b (n + 1) kept (drop x row.operands) (read.bytes ++ (v ∷ [])))
-              (words_from t (to + 1) end))
-              (sym longer);
-          call = λ h. ap (λ (x : List ℕ). x ++ (v ∷ [])) (no_bytes read.bytes (omega (arith, one h, read.many)))
-              ∙ ap (λ (x : ℕ). x ∷ []) (sym (kept_one h))
-              ∙ ap (λ (x : ℕ). take x (call_operands c kept)) (sym (longer ∙ read.many ∙ one h));
+              (words_from t to end)) behind;
+          call = λ h.
+              let none : length read.bytes ≡ 0 = omega (arith, one h, read.many) in
+              let single : length (read.bytes ++ (v ∷ [])) ≡ 1 = omega arith in
+              ap (λ (x : List ℕ). x ++ (v ∷ [])) (no_bytes read.bytes none)
+              ∙ ap (λ (x : ℕ). x ∷ []) (sym (kept_one h)) ∙ ap (λ (x : ℕ). take x (call_operands c kept)) (sym single);
           callee = λ h _.
               let least : count_of c (operand_at b n) ≡ c.callees = ap (λ (x : ℕ). count_of c (operand_at x n)) h
               ∙ ap (λ (x : ℕ). count_of c (operand_at 12 x)) (one h) in
               omega (arith, kept_one h);
-          none_yet = λ z. absurd (omega (arith, read.many));
         }
 
     -- one more that is not written
-    pub operands_silent : (kind : Operand) (v : ℕ) (then : List ℕ) → 0 < b → b < 14 → n < 6 → Facing b n kind true
-        → v ≡ unwritten_of c kind first → then ≡ set after (c.used + n) v → OperandsRead t from end stop b c before at first (n + 1) then
-    operands_silent kind v then low high small face known put =
-        let e : v ≡ unwritten_of c (operand_at b n) first = known ∙ ap (λ (o : Operand). unwritten_of c o first) face.is_kind in
-        let longer : length (read.bytes ++ (v ∷ [])) ≡ suc (length read.bytes) = omega (arith, length-append read.bytes (v ∷ [])) in
-        let called : (b ≡ 12) × (1 < n) = silent_call b n low high (omega (arith, read.many)) small face.inside face.spoken in
+    pub operands_silent : (v : ℕ) (then : List ℕ) → 0 < b → b < 14 → 0 < n → n < 6 → n < size_of b → silent (operand_at b n) ≡ true
+        → v ≡ unwritten_of c (operand_at b n) first → then ≡ set after (c.used + n) v
+        → OperandsRead t from end stop b c before at first (n + 1) then
+    operands_silent v then b_low b_high low small inside quiet e put =
+        let longer : length (read.bytes ++ (v ∷ [])) ≡ length read.bytes + 1 = length-append read.bytes (v ∷ []) in
+        let called : (b ≡ 12) × (1 < n) = silent_call b n b_low b_high low small inside quiet in
         let callee : first < c.callees = read.callee called.0 called.1 in
         let four : size_of b ≡ 4 = ap size_of called.0 in
+        let index : n ≡ suc (length read.bytes) = omega (arith, read.many) in
+        let more : suc (length read.bytes) ≡ length read.bytes + 1 = omega arith in
+        let behind : n ≡ n + 1 - 1 = omega arith in
         let is_next : v ≡ get_or (call_operands c first) (length read.bytes) 0 =
         e ∙ ap (λ (x : ℕ). unwritten_of c (operand_at x n) first) called.0
-        ∙ ap (λ (x : ℕ). unwritten_of c (operand_at 12 x) first) (sym read.many)
-        ∙ known_at c first (length read.bytes) (omega (arith, read.many, called.1)) (omega (arith, read.many, face.inside)) in
+        ∙ ap (λ (x : ℕ). unwritten_of c (operand_at 12 x) first) index
+        ∙ known_at c first (length read.bytes) (omega (arith, read.many, called.1)) (omega (arith, read.many)) in
         record {
           bytes = read.bytes ++ (v ∷ []);
           many = omega (arith, read.many);
           stand = put ∙ byte_stands v;
-          is = λ p row mean is. heard_next p row mean is face.inside
+          is = λ p row mean is. read.is p row mean is
+              ∙ ap (λ (os : List Operand). hears (ltb end stop) (from_operand p row b n first os read.bytes) (words_from t at end))
+              (row_next b row n is low inside)
               ∙ ap (λ (g : Grammar Sofar). hears (ltb end stop) g (words_from t at end))
-              (from_silent p row b c n first v (operand_at b n) (drop (suc (length read.bytes)) row.operands) read.bytes mean called.1 callee
-              face.spoken e)
+              (from_silent p row b c n first v (operand_at b n) (drop n row.operands) read.bytes mean called.1 callee quiet e)
               ∙ ap (λ (x : ℕ). hears (ltb end stop) (from_operand p row b (n + 1) first (drop x row.operands) (read.bytes ++ (v ∷ [])))
-              (words_from t at end))
-              (sym longer);
+              (words_from t at end)) behind;
           call = λ h. ap (λ (x : List ℕ). x ++ (v ∷ [])) (read.call h)
               ∙ ap (λ (x : ℕ). take (length read.bytes) (call_operands c first) ++ (x ∷ [])) is_next
-              ∙ sym (take-suc (call_operands c first) (length read.bytes) 0 (omega (arith, read.many, face.inside)))
-              ∙ ap (λ (x : ℕ). take x (call_operands c first)) (sym longer);
+              ∙ sym (take-suc (call_operands c first) (length read.bytes) 0 (omega (arith, read.many)))
+              ∙ ap (λ (x : ℕ). take x (call_operands c first)) (more ∙ sym longer);
           callee = λ h _. callee;
-          none_yet = λ z. absurd (omega (arith, read.many));
         }
 
     -- none is left
     pub operands_all : (start : List ℕ) → before ≡ set start c.used b → 2 ≤ size_of b → n ≤ size_of b → size_of b ≤ n
-        → ReadsOperands t from end stop b c start (record { said = At at; first = first }) after
+        → ReadsOperands t from end stop b c start (Ok (record { to = at; first = first })) after
     unfolding ReadsOperands OperandsAs
     operands_all start put two l h p row mean is =
         let same : length read.bytes ≡ length row.operands = omega (arith, read.many, row_size b row is) in
+        let index : n - 1 ≡ length row.operands = omega (arith, read.many) in
         record {
           bytes = read.bytes;
           many = same;
           is = read.is p row mean is
               ∙ ap (λ (os : List Operand). hears (ltb end stop) (from_operand p row b n first os read.bytes) (words_from t at end))
-              (ap (λ (x : ℕ). drop x row.operands) same ∙ drop-length row.operands)
+              (ap (λ (x : ℕ). drop x row.operands) index ∙ drop-length row.operands)
               ∙ ap (λ (g : Grammar Sofar). hears (ltb end stop) g (words_from t at end))
               (from_later p row b n first [] read.bytes (λ z. omega (arith, read.many))
               ∙ ap (λ (xs : List ℕ). made p row.meaning (b ∷ xs)) (append-nil read.bytes));
@@ -384,3 +346,10 @@ module _ (t : Text) (from end stop b : ℕ) (c : Standing) (before : List ℕ) w
               let three : length read.bytes ≡ 3 = omega (arith, read.many) in
               (read.callee e (omega (arith, read.many)), read.call e ∙ ap (λ (x : ℕ). take x (call_operands c first)) three);
         }
+
+-- the first operand is kept
+pub first_now : (n v f kept : ℕ) → n ≡ 1 → kept ≡ v → kept ≡ chosen (eqb n 1) v f
+first_now n v f kept e k = k ∙ sym (ap (λ (b : Bool). chosen b v f) (eq-eqb n 1 e))
+
+pub first_before : (n v f kept : ℕ) → (n ≡ 1 → ⊥) → kept ≡ f → kept ≡ chosen (eqb n 1) v f
+first_before n v f kept e k = k ∙ sym (ap (λ (b : Bool). chosen b v f) (ne_eqb n 1 e))

@@ -1,312 +1,248 @@
 // A statement's line behind its indent: its name, its operands by the table, a call's lists.
-ghost use Rattle.std.specs.Prelude.{◌≡◌, ◌+◌, ◌≤◌, ◌<◌, true, ltb};
+ghost use Rattle.std.specs.Prelude.{true, false, ◌≡◌, ◌≤◌, ◌<◌, ◌+◌, ltb, Ok, Err};
 ghost use Rattle.rules.specs.Basics.{chosen};
+ghost use Rattle.rules.specs.Kinds.{byte_of, text_of};
 ghost use Rattle.rules.specs.Unlisting.{Sofar, statement_line};
-ghost use Rattle.reading.specs.Cursor.{InLine, spelling};
-ghost use Rattle.reading.specs.Hearing.{Onto};
-ghost use Rattle.standing.specs.Numbers.{fits_of};
+ghost use Rattle.rules.specs.Table.{size_of, operand_at};
+ghost use Rattle.rules.specs.Listing.{silent};
+ghost use Rattle.reading.specs.Hearing.{in_line, Onto, NumberOnto};
+ghost use Rattle.standing.specs.Numbers.{fits_of, count_of};
 ghost use Rattle.standing.specs.Means.{Means};
-ghost use Rattle.stating.specs.Statements.{ReadsNumbers, ReadsList, ReadsLists, ReadsOperands, BehindOperands, ReadsLine, only};
+ghost use Rattle.stating.specs.Statements.{ReadsNumbers, ReadsList, ReadsLists, ReadsOperand, ReadsOperands};
+ghost use Rattle.stating.specs.Statements.{OperandsOnto, OpensBlock, BehindOperands, ReadsLine, only};
 
 use listing::put::put;
-use reading::cursor::{Number, Reading, Word, expect, next_word, number_below};
+use reading::cursor::Unread::{Begun, Not};
+use reading::cursor::{Next, Unread};
+use reading::line::Line;
 use reading::words;
+use reading::words::Token;
 use rules::program::ProgramHeader;
-use rules::statements;
-use rules::statements::Operand;
-use rules::words::{AT, WITH};
-use standing::rows;
-use standing::state::Standing;
+use rules::statements::Kind;
+use rules::words::Word;
+use standing::rows::is_silent;
+use standing::state::{Head, Standing};
 
-// What became of a line, and the program behind it where it was read.
-#[derive(Clone, Copy)]
-pub struct Line {
-    pub said: Heard,
-    pub state: Standing,
-}
-
-#[derive(Clone, Copy)]
-pub enum Heard {
-    Not,
-    Begun,
-    Took,
-}
-
-// What became of a statement's operands, and the first of them.
-#[derive(Clone, Copy)]
+// A statement's operands: the position behind them, and the first of them.
+#[derive(Clone, Copy, Debug, PartialEq, Eq)]
 pub struct Operands {
-    pub said: Reading,
+    pub to: usize,
     pub first: usize,
 }
 
-// The operands of statement `b`; its byte and theirs are put behind the file's bytes.
+// The operands of a statement; its byte and theirs are put behind the file's bytes.
 pub fn read_operands(
-    text: &[u8],
+    line: &Line,
     from: usize,
-    end: usize,
-    stop: usize,
-    b: u8,
-    c: Standing,
+    kind: Kind,
+    c: &Standing,
     out: &mut [u8],
-) -> Operands
-    requires { InLine text.now from end stop × ((p : Sofar) × Means c p) × (0 < b) × (b < 14) }
-    ensures reads_operands { ReadsOperands text.now from end stop b c out.old result out.new }
-    ensures onto { Onto from stop result.said × (b ≡ 12 → result.first < 16) }
+) -> Result<Operands, Unread>
+    requires { (from ≤ line.now.stop) × ((p : Sofar) × Means c.now p) }
+    ensures reads_operands { in_line ReadsOperands line.now from (byte_of kind) c.now out.old result out.new }
+    ensures onto { OperandsOnto from line.now.stop result }
 {
-    let size = statements::fixed_size(b);
-    let used = c.used;
-    put(out, used, b);
+    let used = c.used as usize;
+    put(out, used, kind.byte());
     let mut at = from;
-    let mut first: usize = 0;
-    let mut n: usize = 1;
-    while n < size {
-        let kind = statements::operand_kind(b, n);
-        if rows::is_silent(kind) {
-            put(out, used + n, rows::unwritten(c, kind, first));
-        } else {
-            match next_word(text, at, end, stop) {
-                Word::Nothing => {
-                    return Operands {
-                        said: Reading::Not,
-                        first: first,
-                    };
-                }
-                Word::Unfinished => {
-                    if rows::operand_begins(text, at, end, c, b, n, first) {
-                        return Operands {
-                            said: Reading::Begun,
-                            first: first,
-                        };
-                    }
-                    return Operands {
-                        said: Reading::Not,
-                        first: first,
-                    };
-                }
-                Word::To(to) => {
-                    let v = words::value(text, at, to, kind);
-                    if rows::count(c, kind) <= v {
-                        return Operands {
-                            said: Reading::Not,
-                            first: first,
-                        };
-                    }
-                    put(out, used + n, v as u8);
-                    if n == 1 {
-                        first = v;
-                    }
-                    at = to + 1;
-                }
-            }
+    let mut first = 0;
+    for n in 1..kind.size() {
+        let operand = kind.operand(n);
+        if is_silent(operand) {
+            put(out, used + n, c.unwritten(operand, first));
+            continue;
         }
-        n += 1;
+        let (v, to) = read_operand(line, at, kind, n, first, c)?;
+        put(out, used + n, v);
+        if n == 1 {
+            first = v as usize;
+        }
+        at = to;
     }
-    Operands {
-        said: Reading::At(at),
-        first: first,
+    Ok(Operands { to: at, first })
+}
+
+// Operand number `n` of a statement, which is written: the operand, and the position behind its word.
+fn read_operand(
+    line: &Line,
+    at: usize,
+    kind: Kind,
+    n: usize,
+    first: usize,
+    c: &Standing,
+) -> Result<(u8, usize), Unread>
+    requires { (at ≤ line.now.stop) × (0 < n) × (n < size_of (byte_of kind)) × (silent (operand_at (byte_of kind) n) ≡ false) }
+    ensures reads_operand { in_line ReadsOperand line.now at (byte_of kind) n first c.now result }
+    ensures onto { NumberOnto at line.now.stop (count_of c.now (operand_at (byte_of kind) n)) result }
+{
+    let operand = kind.operand(n);
+    match line.next_word(at) {
+        Next::Unfinished if c.operand_begins(&line.text[at..line.end], kind, n, first) => {
+            Err(Begun)
+        }
+        Next::To(to) => match words::value(&line.text[at..to], operand) {
+            Some(v) if v < c.count(operand) => Ok((v as u8, to + 1)),
+            _ => Err(Not),
+        },
+        _ => Err(Not),
     }
 }
 
 // A list of `n` decimals below `limit` behind its word, put from `i` on; nothing where it has none.
 pub fn read_list(
-    text: &[u8],
+    line: &Line,
     from: usize,
-    end: usize,
-    stop: usize,
-    w: usize,
+    word: Word,
     n: usize,
     limit: usize,
     out: &mut [u8],
     i: usize,
-) -> Reading
-    requires { InLine text.now from end stop × (w < 26) × (n ≤ 16) × (limit ≤ 256) × (i ≤ 10000) }
-    ensures reads_list { ReadsList text.now from end stop (spelling w) n limit i out.old result out.new }
-    ensures onto { Onto from stop result }
+) -> Result<usize, Unread>
+    requires { (from ≤ line.now.stop) × (n ≤ 16) × (limit ≤ 256) × (i ≤ 10000) }
+    ensures reads_list { in_line ReadsList line.now from (text_of word) n limit i out.old result out.new }
+    ensures onto { Onto from line.now.stop result }
 {
     if n == 0 {
-        return Reading::At(from);
+        return Ok(from);
     }
-    match expect(text, from, end, stop, w, 0 < limit) {
-        Reading::Not => Reading::Not,
-        Reading::Begun => Reading::Begun,
-        Reading::At(p) => read_numbers(text, p, end, stop, n, limit, out, i),
-    }
+    let at = line.expect(from, Token::Word(word), 0 < limit)?;
+    read_numbers(line, at, n, limit, out, i)
 }
 
 // `n` decimals below `limit`, put from `i` on.
 fn read_numbers(
-    text: &[u8],
+    line: &Line,
     from: usize,
-    end: usize,
-    stop: usize,
     n: usize,
     limit: usize,
     out: &mut [u8],
     i: usize,
-) -> Reading
-    requires { InLine text.now from end stop × (n ≤ 16) × (limit ≤ 256) × (i ≤ 10000) }
-    ensures reads_numbers { ReadsNumbers text.now from end stop n limit i out.old result out.new }
-    ensures onto { Onto from stop result }
+) -> Result<usize, Unread>
+    requires { (from ≤ line.now.stop) × (n ≤ 16) × (limit ≤ 256) × (i ≤ 10000) }
+    ensures reads_numbers { in_line ReadsNumbers line.now from n limit i out.old result out.new }
+    ensures onto { Onto from line.now.stop result }
 {
     let mut at = from;
-    let mut j: usize = 0;
-    while j < n {
-        match number_below(text, at, end, stop, limit) {
-            Number::Not => return Reading::Not,
-            Number::Begun => return Reading::Begun,
-            Number::Is(v, p) => {
-                put(out, i + j, v as u8);
-                at = p;
-            }
-        }
-        j += 1;
+    for j in 0..n {
+        let (v, to) = line.number_below(at, limit)?;
+        put(out, i + j, v);
+        at = to;
     }
-    Reading::At(at)
+    Ok(at)
 }
 
 // A call's lists: its callee's k locations, and m slots.
 fn read_lists(
-    text: &[u8],
+    line: &Line,
     at: usize,
-    end: usize,
-    stop: usize,
     first: usize,
-    c: Standing,
+    c: &Standing,
     out: &mut [u8],
-) -> Reading
-    requires { InLine text.now at end stop × ((p : Sofar) × Means c p) × (first < c.callees) }
-    ensures reads_lists { ReadsLists text.now at end stop first c out.old result out.new }
-    ensures onto { Onto at stop result }
+) -> Result<usize, Unread>
+    requires { (at ≤ line.now.stop) × ((p : Sofar) × Means c.now p) × (first < c.now.callees) }
+    ensures reads_lists { in_line ReadsLists line.now at first c.now out.old result out.new }
+    ensures onto { Onto at line.now.stop result }
 {
-    let k = rows::unwritten(c, Operand::CalleeK, first) as usize;
-    let m = rows::unwritten(c, Operand::CalleeM, first) as usize;
-    if !rows::room(c, 4 + k + m) {
-        return Reading::Not;
+    let Head {
+        locations,
+        arguments,
+    } = c.head(first);
+    let k = locations as usize;
+    let m = arguments as usize;
+    if !c.room(4 + k + m) {
+        return Err(Not);
     }
-    match read_list(text, at, end, stop, AT, k, c.places, out, c.used + 4) {
-        Reading::Not => Reading::Not,
-        Reading::Begun => Reading::Begun,
-        Reading::At(p) => read_list(
-            text,
-            p,
-            end,
-            stop,
-            WITH,
-            m,
-            ProgramHeader::SLOTS,
-            out,
-            c.used + 4 + k,
-        ),
-    }
+    let i = c.used as usize + 4;
+    let to = read_list(line, at, Word::At, k, c.places(), out, i)?;
+    read_list(line, to, Word::With, m, ProgramHeader::SLOTS, out, i + k)
 }
 
-impl Line {
-    pub fn not(state: Standing) -> Self
-        ensures { result ≡ record { said = Heard.Not; state = state } }
-    {
-        Line {
-            said: Heard::Not,
-            state: state,
-        }
-    }
-
-    pub fn begun(state: Standing) -> Self
-        ensures { result ≡ record { said = Heard.Begun; state = state } }
-    {
-        Line {
-            said: Heard::Begun,
-            state: state,
-        }
-    }
-
-    // The line must end here.
-    pub fn ends(at: usize, end: usize, state: Standing) -> Self
-        ensures { result ≡ record { said = chosen (ltb end at) Heard.Took Heard.Not; state = state } }
-    {
-        if at <= end {
-            return Line::not(state);
-        }
-        Line {
-            said: Heard::Took,
-            state: state,
-        }
-    }
+// The line must end here.
+pub fn ends(line: &Line, at: usize) -> Result<(), Unread>
+    ensures { result ≡ chosen (ltb line.now.end at) (Ok tt) (Err Unread.Not) }
+{
+    if line.end < at { Ok(()) } else { Err(Not) }
 }
 
-// What statement `b` makes of the program, its operands being read up to `at`.
+// A statement that holds a block: the place of its length word is put, and the line must end.
+fn open_block(
+    line: &Line,
+    at: usize,
+    due: bool,
+    c: &Standing,
+    out: &mut [u8],
+) -> Result<Standing, Unread>
+    requires { (at ≤ line.now.stop) × ((p : Sofar) × Means c.now p) × (c.now.depth < 8)
+        × (c.now.used + c.now.owed + 4 + chosen due 2 0 ≤ 4096) }
+    ensures { in_line OpensBlock line.now at due c.now out.old result out.new }
+{
+    let used = c.used as usize;
+    put(out, used + 2, 0);
+    put(out, used + 3, 0);
+    ends(line, at)?;
+    Ok(c.opened(2, due))
+}
+
+// What a statement makes of the program, its operands being read up to `at`.
 fn behind_operands(
-    text: &[u8],
+    line: &Line,
     at: usize,
-    end: usize,
-    stop: usize,
-    b: u8,
+    kind: Kind,
     first: usize,
-    c: Standing,
+    c: &Standing,
     out: &mut [u8],
-) -> Line
-    requires { InLine text.now at end stop × ((p : Sofar) × Means c p) × (0 < b) × (b < 14) × (fits_of c b ≡ true)
-        × (b ≡ 12 → first < c.callees) }
-    ensures { BehindOperands text.now at end stop b first c out.old result out.new }
+) -> Result<Standing, Unread>
+    requires { (at ≤ line.now.stop) × ((p : Sofar) × Means c.now p) × (fits_of c.now (byte_of kind) ≡ true)
+        × (byte_of kind ≡ 12 → first < c.now.callees) }
+    ensures { in_line BehindOperands line.now at (byte_of kind) first c.now out.old result out.new }
 {
-    match b {
-        10 => {
-            put(out, c.used + 2, 0);
-            put(out, c.used + 3, 0);
-            Line::ends(at, end, c.opened(2, true))
+    match kind {
+        Kind::If => open_block(line, at, true, c, out),
+        Kind::While => open_block(line, at, false, c, out),
+        Kind::Call => {
+            let Head {
+                locations,
+                arguments,
+            } = c.head(first);
+            let to = read_lists(line, at, first, c, out)?;
+            ends(line, to)?;
+            Ok(c.added(4 + locations as usize + arguments as usize))
         }
-        11 => {
-            put(out, c.used + 2, 0);
-            put(out, c.used + 3, 0);
-            Line::ends(at, end, c.opened(2, false))
+        Kind::Init
+        | Kind::Magic
+        | Kind::Free
+        | Kind::Gate
+        | Kind::Measure
+        | Kind::Merge
+        | Kind::Ref
+        | Kind::Get
+        | Kind::Set
+        | Kind::Bool => {
+            ends(line, at)?;
+            Ok(c.added(kind.size()))
         }
-        12 => {
-            let k = rows::unwritten(c, Operand::CalleeK, first) as usize;
-            let m = rows::unwritten(c, Operand::CalleeM, first) as usize;
-            match read_lists(text, at, end, stop, first, c, out) {
-                Reading::Not => Line::not(c),
-                Reading::Begun => Line::begun(c),
-                Reading::At(p) => Line::ends(p, end, c.added(4 + k + m)),
-            }
-        }
-        _ => Line::ends(at, end, c.added(statements::fixed_size(b))),
     }
 }
 
 // A statement's line, from its name on.
 pub fn statement_line(
-    text: &[u8],
+    line: &Line,
     at: usize,
-    end: usize,
-    stop: usize,
-    c: Standing,
+    c: &Standing,
     out: &mut [u8],
-) -> Line
-    requires { InLine text.now at end stop × ((p : Sofar) × Means c p) }
-    ensures { ReadsLine text.now at end stop (only statement_line) c out.old result out.new }
+) -> Result<Standing, Unread>
+    requires { (at ≤ line.now.stop) × ((p : Sofar) × Means c.now p) }
+    ensures { in_line ReadsLine line.now at (only statement_line) c.now out.old result out.new }
 {
-    match next_word(text, at, end, stop) {
-        Word::Nothing => Line::not(c),
-        Word::Unfinished => {
-            if rows::name_begins(text, at, end, c) {
-                return Line::begun(c);
+    match line.next_word(at) {
+        Next::Unfinished if c.name_begins(&line.text[at..line.end]) => { Err(Begun) }
+        Next::To(to) => match words::kind_named(&line.text[at..to]) {
+            Some(kind) if c.fits(kind) => {
+                let operands = read_operands(line, to + 1, kind, c, out)?;
+                behind_operands(line, operands.to, kind, operands.first, c, out)
             }
-            Line::not(c)
-        }
-        Word::To(to) => {
-            let b = words::kind_named(text, at, to);
-            if b == 0 {
-                return Line::not(c);
-            }
-            if !rows::fits(c, b) {
-                return Line::not(c);
-            }
-            let read = read_operands(text, to + 1, end, stop, b, c, out);
-            let said = read.said;
-            match said {
-                Reading::Not => Line::not(c),
-                Reading::Begun => Line::begun(c),
-                Reading::At(p) => behind_operands(text, p, end, stop, b, read.first, c, out),
-            }
-        }
+            _ => Err(Not),
+        },
+        _ => Err(Not),
     }
 }

@@ -1,58 +1,39 @@
 -- The line ends behind the operands of every statement but a call; a call's lists follow.
-use native.Mathlib.Omega.{arith}
-use Rattle.stating.proofs.Behind.{if_deep, while_deep, behind_if, behind_while, behind_plain, behind_not, behind_begun, behind_call}
+use mathlib.Core.Path.{ap}
+use Prim.Native.Nat.{◌+◌}
+use Rattle.standing.specs.declared.state.Head.{Head}
+use Rattle.stating.proofs.Passed.{passed_as}
+use Rattle.stating.proofs.Behind.{ends_past, ends_not, behind_if, behind_while, plain_ended, plain_unended, call_unread, call_ended, call_unended}
 use Rattle.stating.proofs.statement.behind_operands.Goals as goal
 
-pub opened-requires : goal.opened-requires
-opened-requires c =
-    let fits = c.requires.1.1.fits in
-    (omega (arith, fits), if_deep _ _ c.in-10.is c.requires.4, omega (arith, fits))
+pub returns-in-If : goal.returns-in-If
+returns-in-If c = behind_if _ _ _ _ _ _ _ _ _ _ c.in-If.is c.open_block.ensures
 
-pub opened-requires-in-11 : goal.opened-requires-in-11
-opened-requires-in-11 c =
-    let fits = c.requires.1.1.fits in
-    (omega (arith, fits), while_deep _ _ c.in-11.is c.requires.4, omega (arith, fits))
+pub returns-in-While : goal.returns-in-While
+returns-in-While c = behind_while _ _ _ _ _ _ _ _ _ _ c.in-While.is c.open_block-in-While.ensures
 
-pub unwritten-k-requires : goal.unwritten-k-requires
-unwritten-k-requires c =
-    omega (arith, c.requires.5 c.in-12.is, c.requires.1.1.callees, c.requires.1.1.heads.few)
+pub returns-in_err-to-in-Call : goal.returns-in_err-to-in-Call
+returns-in_err-to-in-Call c =
+    rw (passed_as _ c.from_residual.ensures.1) (call_unread _ _ _ _ _ _ _ _ c.in-Call.is _ _ c.in_err-to-in-Call.ensures.reads_lists)
 
-pub unwritten-m-requires : goal.unwritten-m-requires
-unwritten-m-requires c =
-    omega (arith, c.requires.5 c.in-12.is, c.requires.1.1.callees, c.requires.1.1.heads.few)
+pub returns-in_err-ends-in-Call : goal.returns-in_err-ends-in-Call
+returns-in_err-ends-in-Call c =
+    let left = ends_not _ _ _ c.in_err-ends-in-Call.ensures in
+    rw (passed_as _ c.from_residual-in_err-ends-in-Call.ensures.1)
+    (call_unended _ _ _ _ _ _ _ _ c.in-Call.is _ _ c.in_ok-to-in-Call.ensures.reads_lists _ left.0 left.1)
 
-pub read_lists-requires : goal.read_lists-requires
-read_lists-requires c =
-    (c.requires.0, c.requires.1, c.requires.5 c.in-12.is)
+pub returns-in_ok-ends-in-Call : goal.returns-in_ok-ends-in-Call
+returns-in_ok-ends-in-Call c =
+    rw c.added.ensures
+    (call_ended _ _ _ _ _ _ c.args.c.now _ c.in-Call.is _ _ c.in_ok-to-in-Call.ensures.reads_lists _ (ends_past _ _ _ c.in_ok-ends-in-Call.ensures)
+    c.in_ok-to-in-Call.ensures.onto.1 (ap (λ (h : Head). 4 + h.locations + h.arguments) c.head-locations.ensures))
 
-pub returns-in-10 : goal.returns-in-10
-returns-in-10 c =
-    behind_if _ _ _ _ _ _ _ _ _ _ _ _ c.in-10.is (omega arith) c.requires.4 c.ends.ensures c.opened.ensures
-    c.put.ensures c.put-in-10.ensures
+pub returns-in_err-ends-in-Init : goal.returns-in_err-ends-in-Init
+returns-in_err-ends-in-Init c =
+    let left = ends_not _ _ _ c.in_err-ends-in-Init.ensures in
+    rw (passed_as _ c.from_residual-in_err-ends-in-Init.ensures.1) (plain_unended _ _ _ _ _ _ _ _ _ c.in-Init.is left.0 left.1)
 
-pub returns-in-11 : goal.returns-in-11
-returns-in-11 c =
-    behind_while _ _ _ _ _ _ _ _ _ _ _ _ c.in-11.is (omega arith) c.requires.4 c.ends-in-11.ensures c.opened-in-11.ensures
-    c.put-in-11.ensures c.put-in-11-2.ensures
-
-pub returns-in-Not : goal.returns-in-Not
-returns-in-Not c =
-    behind_not _ _ _ _ _ _ _ _ _ _ c.in-12.is c.read_lists.ensures.reads_lists _ _
-    c.in-Not.is c.not.ensures
-
-pub returns-in-Begun : goal.returns-in-Begun
-returns-in-Begun c =
-    behind_begun _ _ _ _ _ _ _ _ _ _ c.in-12.is c.read_lists.ensures.reads_lists _ _
-    c.in-Begun.is c.begun.ensures
-
-pub returns-in-At : goal.returns-in-At
-returns-in-At c =
-    behind_call _ _ _ _ _ _ _ _ _ _ c.in-12.is c.read_lists.ensures.reads_lists _ _ _ _ _
-    c.in-At.is
-    c.read_lists.ensures.onto c.unwritten-k.ensures c.unwritten-m.ensures c.ends-in-At.ensures c.added.ensures
-
-pub returns-in_default : goal.returns-in_default
-returns-in_default c =
-    behind_plain _ _ _ _ _ _ _ _ _ _ _ (omega arith) c.requires.2 c.requires.3 c.in_default.in_default-own.rest.0.0.1 c.in_default.in_default-own.rest.0.1
-    c.in_default.in_default-own.rest.1
-    c.requires.4 c.fixed_size.ensures.value c.ends-in_default.ensures c.added-in_default.ensures
+pub returns-in_ok-ends-in-Init : goal.returns-in_ok-ends-in-Init
+returns-in_ok-ends-in-Init c =
+    rw c.added-in-Init.ensures
+    (plain_ended _ _ _ _ _ _ c.args.c.now _ _ c.in-Init.is (ends_past _ _ _ c.in_ok-ends-in-Init.ensures) c.requires.0 c.requires.2 c.size.ensures.value)

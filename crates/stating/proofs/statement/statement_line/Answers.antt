@@ -1,103 +1,49 @@
 -- The name of a statement that fits, its operands, and what it makes of the program.
-use mathlib.Core.Bool.{true}
-use mathlib.Core.Path.{◌≡◌, sym, subst, ◌∙◌}
-use native.Mathlib.Omega.{arith}
-use Rattle.reading.specs.Hearing.{NextWord, Onto}
-use Rattle.standing.proofs.Meaning.{means_small}
-use Rattle.stating.proofs.Stating.{line_nothing, line_begun, line_unbegun, line_unknown, line_unfit, line_operands_not}
-use Rattle.stating.proofs.Stating.{line_operands_begun, callee_there, line_statement}
+use mathlib.Core.Path.{sym, ◌∙◌}
+use Rattle.reading.specs.Cursor.{part}
+use Rattle.stating.proofs.Passed.{passed_as}
+use Rattle.stating.proofs.Stating.{line_nothing, line_begun, line_unbegun, line_unknown, line_unfit, line_operands, callee_there, line_statement}
 use Rattle.stating.proofs.statement.statement_line.Goals as goal
 
-pub name_begins-requires : goal.name_begins-requires
-unfolding NextWord
-name_begins-requires c =
-    let mean = c.requires.1.1 in
-    let word = subst (NextWord _ _ _ _) c.in-Unfinished.is c.next_word.ensures in
-    (means_small _ _ mean, omega (arith, word.2), omega (arith, c.requires.0))
+pub returns-in-Unfinished : goal.returns-in-Unfinished
+unfolding part
+returns-in-Unfinished c = line_begun _ _ _ _ _ _ _ c.in-Unfinished.ensures (sym c.name_begins.ensures ∙ c.if-name_begins.true)
 
-pub returns-then-name_begins : goal.returns-then-name_begins
-returns-then-name_begins c =
-    line_begun _ _ _ _ _ _ _ c.next_word.ensures _ _ _ _ c.in-Unfinished.is c.name_begins.ensures
-    c.if-name_begins.true c.begun.ensures
+pub returns-in_default : goal.returns-in_default
+unfolding part
+returns-in_default c = line_unbegun _ _ _ _ _ _ _ c.in-Unfinished.ensures (sym c.name_begins.ensures ∙ c.if-name_begins.false)
 
-pub kind_named-b-requires : goal.kind_named-b-requires
-unfolding NextWord
-kind_named-b-requires c =
-    let word = subst (NextWord _ _ _ _) c.in-To.is c.next_word.ensures in
-    omega (arith, word.2, word.3, c.requires.0)
+pub returns-in_default-2 : goal.returns-in_default-2
+returns-in_default-2 c = line_nothing _ _ _ _ _ _ _ c.in_default.ensures
 
-pub returns-then-b-eq0 : goal.returns-then-b-eq0
-returns-then-b-eq0 c =
-    line_unknown _ _ _ _ _ _ _ c.next_word.ensures _ _ c.in-To.is c.kind_named-b.ensures _ _ _ c.if-b-eq0.true
-    c.not-then-b-eq0.ensures
+pub returns-in_default-kind_named : goal.returns-in_default-kind_named
+unfolding part
+returns-in_default-kind_named c =
+    line_unfit _ _ _ _ _ _ _ c.in-To.ensures _ c.in-Some.ensures _ (sym c.fits.ensures ∙ c.if-fits.false)
 
-pub returns-then-not-fits : goal.returns-then-not-fits
-returns-then-not-fits c =
-    line_unfit _ _ _ _ _ _ _ c.next_word.ensures _ _ c.in-To.is c.kind_named-b.ensures _ _ _ _
-    c.if-b-eq0.false c.fits.ensures c.if-not-fits.true c.not-then-not-fits.ensures
+pub returns-in_default-kind_named-2 : goal.returns-in_default-kind_named-2
+unfolding part
+returns-in_default-kind_named-2 c = line_unknown _ _ _ _ _ _ _ c.in-To.ensures _ c.in_default-kind_named.ensures
 
-pub overflow_add-to : goal.overflow_add-to
-unfolding NextWord
-overflow_add-to c =
-    let word = subst (NextWord _ _ _ _) c.in-To.is c.next_word.ensures in
-    omega (arith, word.4)
-
-pub read_operands-read-requires : goal.read_operands-read-requires
-unfolding NextWord
-read_operands-read-requires c =
-    let word = subst (NextWord _ _ _ _) c.in-To.is c.next_word.ensures in
-    let other = c.if-b-eq0.false in (
-      (omega (arith, word.4), c.requires.0.1, c.requires.0.2, c.requires.0.3),
-      c.requires.1,
-      omega arith,
-      omega (arith, c.kind_named-b.ensures.most),
-    )
+pub returns-in_err-operands-in-Some : goal.returns-in_err-operands-in-Some
+unfolding part
+returns-in_err-operands-in-Some c =
+    rw (passed_as _ c.from_residual.ensures.1)
+    (line_operands _ _ _ _ _ _ _ c.in-To.ensures _ c.in-Some.ensures (sym c.fits.ensures ∙ c.if-fits.true) _ _ _
+    c.in_err-operands-in-Some.ensures.reads_operands)
 
 pub behind_operands-requires : goal.behind_operands-requires
-unfolding Onto
-behind_operands-requires c =
-    let fit : c.fits.result ≡ true =
-    c.if-not-fits.false in
-    let said = c.in-At.is in
-    let onto = subst (Onto _ _) said c.read_operands-read.ensures.onto.0 in
-    let other = c.if-b-eq0.false in (
-      (omega (arith, onto.1), c.requires.0.1, c.requires.0.2, c.requires.0.3),
-      c.requires.1,
-      omega arith,
-      omega (arith, c.kind_named-b.ensures.most),
-      sym c.fits.ensures ∙ fit,
-      callee_there _ _ _ _ _ _ _ c.next_word.ensures _ _ c.in-To.is c.kind_named-b.ensures _
-          c.if-b-eq0.false c.fits.ensures fit _ _ c.read_operands-read.ensures.reads_operands _ c.requires.1.1 _ said,
-    )
+unfolding part
+behind_operands-requires c = (
+  c.in_ok-operands-in-Some.ensures.onto.1,
+  c.requires.1,
+  sym c.fits.ensures ∙ c.if-fits.true,
+  callee_there _ _ _ _ _ _ _ c.in-To.ensures _ c.in-Some.ensures (sym c.fits.ensures ∙ c.if-fits.true) _ _
+      c.in_ok-operands-in-Some.ensures.reads_operands c.requires.1.0 c.requires.1.1,
+)
 
-pub returns-in-Nothing : goal.returns-in-Nothing
-returns-in-Nothing c = line_nothing _ _ _ _ _ _ _ c.next_word.ensures _ _ _ c.in-Nothing.is c.not.ensures
-
-pub returns-else-name_begins : goal.returns-else-name_begins
-returns-else-name_begins c =
-    line_unbegun _ _ _ _ _ _ _ c.next_word.ensures _ _ _ _ c.in-Unfinished.is c.name_begins.ensures
-    c.if-name_begins.false c.not-in-Unfinished.ensures
-
-pub returns-in-Not : goal.returns-in-Not
-returns-in-Not c =
-    let fit : c.fits.result ≡ true =
-    c.if-not-fits.false in
-    line_operands_not _ _ _ _ _ _ _ c.next_word.ensures _ _ c.in-To.is c.kind_named-b.ensures _
-    c.if-b-eq0.false c.fits.ensures fit _ _ c.read_operands-read.ensures.reads_operands _ _ _
-    c.in-Not.is c.not-in-Not.ensures
-
-pub returns-in-Begun : goal.returns-in-Begun
-returns-in-Begun c =
-    let fit : c.fits.result ≡ true =
-    c.if-not-fits.false in
-    line_operands_begun _ _ _ _ _ _ _ c.next_word.ensures _ _ c.in-To.is c.kind_named-b.ensures _
-    c.if-b-eq0.false c.fits.ensures fit _ _ c.read_operands-read.ensures.reads_operands _ _ _
-    c.in-Begun.is c.begun-in-Begun.ensures
-
-pub returns-in-At : goal.returns-in-At
-returns-in-At c =
-    let fit : c.fits.result ≡ true =
-    c.if-not-fits.false in
-    line_statement _ _ _ _ _ _ _ c.next_word.ensures _ _ c.in-To.is c.kind_named-b.ensures _
-    c.if-b-eq0.false c.fits.ensures fit _ _ c.read_operands-read.ensures.reads_operands _ _ _
-    c.in-At.is c.behind_operands.ensures
+pub returns-in_ok-operands-in-Some : goal.returns-in_ok-operands-in-Some
+unfolding part
+returns-in_ok-operands-in-Some c =
+    line_statement _ _ _ _ _ _ _ c.in-To.ensures _ c.in-Some.ensures (sym c.fits.ensures ∙ c.if-fits.true) _ _
+    c.in_ok-operands-in-Some.ensures.reads_operands _ _ c.behind_operands.ensures

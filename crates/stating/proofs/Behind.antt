@@ -67,6 +67,12 @@ ended_is t at end stop' p past l =
     ap (λ (whole : Bool). hears whole (stop (some p)) (words_from t at end)) (lt-ltb end stop' (omega arith))
     ∙ ap (hears true (stop (some p))) (no_words t at end past) ∙ hears_end p
 
+-- before its end a word is left
+pub stops_later : (t : Text) (at end : ℕ) (whole : Bool) (p : Sofar) → at ≤ end → hears whole (stop (some p)) (words_from t at end) ≡ not
+stops_later t at end whole p l =
+    let more = some_words t at end l in
+    ap (hears whole (stop (some p))) more.2 ∙ hears_more whole (some p) more.0 more.1
+
 -- a line that must end here
 module _ (t : Text) (at end stop' : ℕ) (p : Sofar) (D : List ℕ) (c : Standing) (after : List ℕ) where
   abbrev ending : Hearing Sofar
@@ -81,12 +87,9 @@ module _ (t : Text) (at end stop' : ℕ) (p : Sofar) (D : List ℕ) (c : Standin
     stand = stand;
   }
 
-  -- a word is left
   pub line_unended : (x : Unread) → at ≤ end → x ≡ Not → LineAs ending D (Err x) after
   unfolding LineAs
-  line_unended x l e =
-      let more = some_words t at end l in
-      rw e (ap (hears (ltb end stop') (stop (some p))) more.2 ∙ hears_more (ltb end stop') (some p) more.0 more.1)
+  line_unended x l e = rw e (stops_later t at end (ltb end stop') p l)
 
   -- by whether it ends here
   pub line_ends : at ≤ stop' → (ltb end at ≡ true → Means c p × (after ≡ sets D 6 (laid p))) → LineAs ending D (chosen (ltb end at) (Ok c) (Err Not)) after

@@ -23,7 +23,7 @@ use Rattle.rules.specs.Grammar.{Grammar, dead, stop}
 use Rattle.rules.specs.Unlisting.{Sofar, added, opened, made}
 use Rattle.rules.proofs.Tests.{and_left}
 use Rattle.reading.specs.Cursor.{words_from}
-use Rattle.reading.specs.Hearing.{Hearing, took, hears}
+use Rattle.reading.specs.Hearing.{Hearing, not, took, hears}
 use Rattle.reading.specs.declared.cursor.Unread.{Unread}
 use Rattle.reading.specs.declared.cursor.Unread.TheVariants.{Not}
 use Rattle.reading.proofs.Hearings.{hears_end, hears_more}

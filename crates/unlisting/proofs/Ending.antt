@@ -1,30 +1,29 @@
 -- The text has ended. In main the open blocks end one by one, unless an else is due, and the header is put before the bytes. The program that a block's
 -- end makes goes on to the same file.
-use mathlib.Core.Bool.{Bool, true, false, false≢true}
+use mathlib.Core.Bool.{Bool, true, false}
 use mathlib.Core.List.{List, [], ◌∷◌, ◌++◌, append-nil}
 use mathlib.Core.Option.{Option, none, some}
 use mathlib.Core.Path.{◌≡◌, refl, sym, ap, subst, ◌∙◌}
 use native.Mathlib.Omega.{arith}
-use Prim.Native.Nat.{ℕ, suc, ◌+◌, ◌-◌, ◌<◌, ◌≤◌}
-use lib.ListN.{get_or, length, set}
+use Prim.Native.Nat.{ℕ, suc, ◌+◌, ◌<◌, ◌≤◌}
+use lib.ListN.{length, set}
 use lib.Seq.{sets}
 use Rattle.rules.specs.Syntax.{Function}
 use Rattle.rules.specs.Unlisting.{Opened, Sofar, State, fresh, sofar, sized, ended, header, file}
 use Rattle.standing.specs.Numbers.{fresh_of, closed_of}
 use Rattle.standing.specs.Means.{outside, laid, laid_at, After, Means, Stands}
 use Rattle.unlisting.specs.Lines.{Closes, Ends, EndAs}
+use Rattle.standing.specs.declared.state.Part.TheVariants.{Before, Main}
 use Rattle.standing.specs.declared.state.Standing.{Standing}
-use Rattle.unlisting.proofs.Closing.{innermost}
+use Rattle.unlisting.proofs.Closing.{innermost, innermost_open, block_due}
 use Rattle.standing.proofs.Meaning.{means_closed, set_before}
-use Rattle.unlisting.proofs.Tops.{no_block, before_main, in_main_lem}
-use Rattle.unlisting.proofs.Turning.{block_due}
+use Rattle.unlisting.proofs.Tops.{none_open, before_main, not_main, in_main}
 
 -- From the numbers and the buffer at first, blocks have been ended up to these: every state that those stood for goes on from a program that these mean.
 pub record Ending (c₀ : Standing) (out₀ : List ℕ) (c : Standing) (out : List ℕ) : Type 0 where
-  pub main : c.in_main ≡ true
+  pub main : c.part ≡ Main
   pub program : (p : Sofar) × Means c p
   pub used : c.used ≡ c₀.used
-  pub long : length out ≡ length out₀
   pub goes : (σ : State) (D : List ℕ) → Stands c₀ σ → out₀ ≡ sets D 6 (laid_at σ)
       → (p : Sofar) × Means c p × (out ≡ sets D 6 (laid p)) × (file σ ≡ file (sofar p))
 
@@ -34,16 +33,10 @@ sets_before D i j [] Y l = refl
 sets_before D i j (x ∷ X) Y l =
     ap (λ (E : List ℕ). sets E (suc j) X) (set_before D i j x Y (omega arith)) ∙ sets_before (set D j x) i (suc j) X Y (omega arith)
 
--- the header's bytes put one by one
-header_put : (out o₁ o₂ o₃ o₄ o₅ after : List ℕ) (n : ℕ) → o₁ ≡ set out 0 0x51 → o₂ ≡ set o₁ 1 0x4C
-    → o₃ ≡ set o₂ 2 0x53 → o₄ ≡ set o₃ 3 0
-    → o₅ ≡ set o₄ 4 1 → after ≡ set o₅ 5 n → after ≡ sets out 0 (header n)
-header_put out o₁ o₂ o₃ o₄ o₅ after n b₁ b₂ b₃ b₄ b₅ b₆ = cc
-
 -- before main a file has not ended
-pub not_in_main_lem : (c : Standing) (before after : List ℕ) → c.in_main ≡ false → Ends c before false after
+pub not_in_main : (c : Standing) (before after : List ℕ) → (c.part ≡ Main → ⊥) → Ends c before false after
 unfolding Ends EndAs Stands
-not_in_main_lem c before after i = λ σ D s b. go σ s
+not_in_main c before after i = λ σ D s b. go σ s
   where
     go : (σ : State) → Stands c σ → file σ ≡ none
     go fresh s = refl
@@ -51,21 +44,20 @@ not_in_main_lem c before after i = λ σ D s b. go σ s
         ap {B = Option (List ℕ)} (λ (x : Option (List Function)). elim x [
           | some fs ↦ none
           | none ↦ elim (ended p.open_blocks p.bytes) [ none ↦ none | some bs ↦ some (header (length p.scope.earlier) ++ bs) ]
-        ]) (before_main c p m i).1
+        ]) (before_main c p m (not_main c p m i)).1
 
 -- in main, at first
-pub ending_first : (c : Standing) (out : List ℕ) → c.in_main ≡ true → (σ : State) × Stands c σ → Ending c out c out
+pub ending_first : (c : Standing) (out : List ℕ) → c.part ≡ Main → (σ : State) × Stands c σ → Ending c out c out
 unfolding Stands
 ending_first c out i s = record {
   main = i;
   program = some_program s.0 s.1;
   used = refl;
-  long = refl;
   goes = goes;
 }
   where
     fresh_not : c ≡ fresh_of → ⊥
-    fresh_not e = false≢true (sym (ap (λ (x : Standing). x.in_main) e) ∙ i)
+    fresh_not e = let z : Before ≡ Main = sym (ap (λ (x : Standing). x.part) e) ∙ i in cc
 
     some_program : (σ : State) → Stands c σ → (p : Sofar) × Means c p
     some_program fresh e = absurd (fresh_not e)
@@ -97,27 +89,24 @@ module _ (c₀ : Standing) (out₀ : List ℕ) (c : Standing) (out : List ℕ) (
   functions_earlier : (p : Sofar) → Means c p → c.functions ≡ length p.scope.earlier
   unfolding After
   functions_earlier p m =
-      let a : After c none = subst (After c) (in_main_lem c p m h.main) m.after in
+      let a : After c none = subst (After c) (in_main c p m h.main) m.after in
       a.1 ∙ m.callees
 
-  pub ending_few : c.functions ≤ 15
-  ending_few = omega (arith, functions_earlier h.program.0 h.program.1, h.program.1.heads.few)
-
   -- an else is due
-  pub ending_due : (after : List ℕ) → 0 < c.depth → get_or c.dues (c.depth - 1) false ≡ true → Ends c₀ out₀ false after
+  pub ending_due : (after : List ℕ) → 0 < c.depth → (innermost_open c).due ≡ true → Ends c₀ out₀ false after
   unfolding Ends EndAs
   ending_due after l u = λ σ D s b.
       let g : (p : Sofar) × Means c p × (out ≡ sets D 6 (laid p)) × (file σ ≡ file (sofar p)) = h.goes σ D s b in
       let p : Sofar = g.0 in
       let n : ℕ = length p.scope.earlier in
       let i : (b : Opened) × (bs : List Opened) × (p.open_blocks ≡ b ∷ bs) = innermost c p g.1 l in
-      g.3 ∙ file_in_main p (in_main_lem c p g.1 h.main)
+      g.3 ∙ file_in_main p (in_main c p g.1 h.main)
       ∙ ap (λ (os : List Opened). filed n (ended os p.bytes)) i.2
       ∙ ap (filed n) (ended_block i.0 i.1 p.bytes true (sym (block_due c p i.0 i.1 g.1 i.2) ∙ u))
 
   -- a block ends
-  module _ (d : Standing) (next : List ℕ) (l : 0 < c.depth) (u : get_or c.dues (c.depth - 1) false ≡ false) (k : Closes c out next)
-      (e : d ≡ closed_of c) (same : length next ≡ length out) where
+  module _ (d : Standing) (next : List ℕ) (l : 0 < c.depth) (u : (innermost_open c).due ≡ false) (k : Closes c out next)
+      (e : d ≡ closed_of c) where
     after_block : (p : Sofar) → Means c p → (D : List ℕ) → out ≡ sets D 6 (laid p)
         → (q : Sofar) × Means (closed_of c) q × (next ≡ sets D 6 (laid q)) × (file (sofar p) ≡ file (sofar q))
     unfolding Closes
@@ -128,7 +117,7 @@ module _ (c₀ : Standing) (out₀ : List ℕ) (c : Standing) (out : List ℕ) (
         let due : o.due ≡ false = sym (block_due c p o os m i.2) ∙ u in
         let n : ℕ = length p.scope.earlier in
         let q : Sofar = record { scope = p.scope; after = p.after; open_blocks = os; bytes = o.before ++ sized p.bytes } in
-        let a : p.after ≡ none = in_main_lem c p m h.main in (
+        let a : p.after ≡ none = in_main c p m h.main in (
           q,
           means_closed c p o os m i.2 due,
           k p o os D [] m i.2 (b ∙ ap (sets D 6) (sym (append-nil (laid p))))
@@ -142,7 +131,6 @@ module _ (c₀ : Standing) (out₀ : List ℕ) (c : Standing) (out : List ℕ) (
       main = h.main;
       program = closed_program h.program.0 h.program.1;
       used = h.used;
-      long = same ∙ h.long;
       goes = λ σ D s b. onwards σ (h.goes σ D s b);
     }
       where
@@ -162,23 +150,21 @@ module _ (c₀ : Standing) (out₀ : List ℕ) (c : Standing) (out : List ℕ) (
     ending_next = subst (λ (x : Standing). Ending c₀ out₀ x next) (sym e) ending_closed
 
   -- no block is open, and the header is put
-  pub ending_header : (o₁ o₂ o₃ o₄ o₅ after : List ℕ) → c.depth ≡ 0 → o₁ ≡ set out 0 0x51 → o₂ ≡ set o₁ 1 0x4C
-      → o₃ ≡ set o₂ 2 0x53 → o₄ ≡ set o₃ 3 0
-      → o₅ ≡ set o₄ 4 1 → after ≡ set o₅ 5 c.functions → Ends c₀ out₀ true after
+  pub ending_header : (after : List ℕ) → c.depth ≡ 0 → after ≡ sets out 0 (header c.functions) → Ends c₀ out₀ true after
   unfolding Ends EndAs
-  ending_header o₁ o₂ o₃ o₄ o₅ after l b₁ b₂ b₃ b₄ b₅ b₆ = λ σ D s b.
+  ending_header after l put = λ σ D s b.
       let g : (p : Sofar) × Means c p × (out ≡ sets D 6 (laid p)) × (file σ ≡ file (sofar p)) = h.goes σ D s b in
       let p : Sofar = g.0 in
       let m : Means c p = g.1 in
-      let none_open : p.open_blocks ≡ [] = no_block c p m l in
+      let none : p.open_blocks ≡ [] = none_open c p m l in
       let n : c.functions ≡ length p.scope.earlier = functions_earlier p m in
       record {
         bytes = header (length p.scope.earlier) ++ p.bytes;
-        is = g.3 ∙ file_in_main p (in_main_lem c p m h.main)
-            ∙ ap (λ (os : List Opened). filed (length p.scope.earlier) (ended os p.bytes)) none_open;
-        many = sym (sym h.used ∙ m.used ∙ ap (λ (os : List Opened). 6 + length (outside os ++ p.bytes)) none_open ∙ omega arith);
-        stand = header_put out o₁ o₂ o₃ o₄ o₅ after c.functions b₁ b₂ b₃ b₄ b₅ b₆ ∙ ap (λ (k : ℕ). sets out 0 (header k)) n
+        is = g.3 ∙ file_in_main p (in_main c p m h.main)
+            ∙ ap (λ (os : List Opened). filed (length p.scope.earlier) (ended os p.bytes)) none;
+        many = sym (sym h.used ∙ m.used ∙ ap (λ (os : List Opened). 6 + length (outside os ++ p.bytes)) none ∙ omega arith);
+        stand = put ∙ ap (λ (k : ℕ). sets out 0 (header k)) n
             ∙ ap (λ (E : List ℕ). sets E 0 (header (length p.scope.earlier)))
-            (g.2 ∙ ap (λ (os : List Opened). sets D 6 (outside os ++ p.bytes)) none_open)
+            (g.2 ∙ ap (λ (os : List Opened). sets D 6 (outside os ++ p.bytes)) none)
             ∙ sets_before D 6 0 (header (length p.scope.earlier)) p.bytes (omega arith);
       }

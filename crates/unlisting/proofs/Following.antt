@@ -10,11 +10,11 @@ use borrow.Author.Tests.{ltb-true, ltb-false, le-leb}
 use lib.Dec.{ltb, leb}
 use lib.ListN.{get_or, length, drop, drop_of_length-le}
 use lib.Seq.{sets}
+use Rattle.std.specs.Prelude.{Result, Ok, Err}
 use Rattle.answers.specs.Check.{Check, ok, refused, refusal, in_file, within, need, ◌>>=◌, ◌>>◌}
-use Rattle.answers.specs.Said.{written_said}
+use Rattle.answers.specs.Said.{said}
 use Rattle.answers.specs.declared.File.TheVariants.{Listing}
-use Rattle.answers.specs.declared.WrittenAnswer.{WrittenAnswer}
-use Rattle.answers.specs.declared.WrittenAnswer.TheVariants.{Written, Refused}
+use Rattle.answers.specs.declared.Refusal.{Refusal}
 use Rattle.rules.specs.Basics.{chosen}
 use Rattle.rules.specs.Words.{Text, space, newline, split}
 use Rattle.rules.specs.Grammar.{takes_one, starts_one}
@@ -22,9 +22,9 @@ use Rattle.rules.specs.Unlisting.{Sofar, State, fresh, sofar, lines, ending, fol
 use Rattle.reading.specs.Cursor.{part, words_from, LineEnd}
 use Rattle.reading.specs.Hearing.{Hearing, not, begun, took, hears_one}
 use Rattle.standing.specs.declared.state.Standing.{Standing}
-use Rattle.stating.specs.declared.statement.Heard.{Heard}
-use Rattle.stating.specs.declared.statement.Heard.TheVariants.{Not, Begun, Took}
-use Rattle.stating.specs.declared.statement.Line.{Line}
+use Rattle.reading.specs.declared.line.Line.{Line}
+use Rattle.reading.specs.declared.cursor.Unread.{Unread}
+use Rattle.reading.specs.declared.cursor.Unread.TheVariants.{Not, Begun}
 use Rattle.standing.specs.Numbers.{fresh_of}
 use Rattle.standing.specs.Means.{laid_at, Stands}
 use Rattle.stating.specs.Statements.{TookLine, LineAs}
@@ -72,15 +72,15 @@ follow_line at σ l m ls (some q) e =
     ap (λ (a : Option Sofar). elim a [ none ↦ refused (refusal 27 at) | some p ↦ follow (at + length l + 1) (sofar p) (m ∷ ls) ]) e
 
 module _ (t : Text) (out₀ : List ℕ) where
-  abbrev pub Promised : WrittenAnswer → List ℕ → Type 0
-  Promised r out = (written_said r ≡ length_of (within Listing (unlisted t))) × ((s : List ℕ) → unlisted t ≡ ok s → out ≡ sets out₀ 0 s)
+  abbrev pub Promised : Result ℕ Refusal → List ℕ → Type 0
+  Promised r out = (said r ≡ length_of (within Listing (unlisted t))) × ((s : List ℕ) → unlisted t ≡ ok s → out ≡ sets out₀ 0 s)
 
   -- the text is refused
-  promised_no : (x : ℕ) → unlisted t ≡ refused (refusal 27 x) → (r : WrittenAnswer) → r ≡ Refused (in_file Listing (refusal 27 x))
-      → (out : List ℕ) → Promised r out
+  promised_no : (x : ℕ) → unlisted t ≡ refused (refusal 27 x) → (r : Refusal) → r ≡ in_file Listing (refusal 27 x)
+      → (out : List ℕ) → Promised (Err r) out
   unfolding length_of ◌>>=◌
   promised_no x e r q out = (
-    ap written_said q ∙ ap (λ (m : Check (List ℕ)). length_of (within Listing m)) (sym e),
+    ap refused q ∙ ap (λ (m : Check (List ℕ)). length_of (within Listing m)) (sym e),
     λ s h. absurd (let z : ◌≡◌ {A = ℕ} 0 1 = cc in omega arith),
   )
 
@@ -95,22 +95,30 @@ module _ (t : Text) (out₀ : List ℕ) where
   unfolding Stands
   followed_none c e = record { state = fresh; stands = e; same = refl; stand = refl }
 
-  module _ (at : ℕ) (c : Standing) (out : List ℕ) (F : Followed at c out) (l : at < length t) (end stop : ℕ) (in₁ : at ≤ end)
-      (in₂ : end ≤ length t) (L : LineEnd t at end) (S : Stop t end stop) (line : Line) (after : List ℕ)
-      (R : ReadsAny t at end stop c out line after) where
+  module _ (at : ℕ) (c : Standing) (out : List ℕ) (F : Followed at c out) (l : at < length t) (line : Line) (of : line.text.now ≡ t) (in₁ : at ≤ line.end)
+      (L : LineEnd t at line.end) (S : Stop t line.end line.stop) where
     abbrev σ : State
     σ = F.state
 
+    abbrev end : ℕ
+    end = line.end
+
+    abbrev stop : ℕ
+    stop = line.stop
+
+    in₂ : end ≤ length t
+    in₂ = omega (arith, S.from, S.within)
+
     -- what one of the lines that may follow is to the words of this one
-    is : (whole : Bool) → ltb end (length t) ≡ whole
-        → LineAs (hears_one whole (lines σ) (split space (part t at end))) out₀ line.said line.state after
+    is : (r : Result Standing Unread) (after : List ℕ) → ReadsAny line.text.now at line.end line.stop c out r after → (whole : Bool) → ltb end (length t) ≡ whole
+        → LineAs (hears_one whole (lines σ) (split space (part t at end))) out₀ r after
     unfolding ReadsAny words_from
-    is whole w =
+    is r after R whole w =
         let z : leb at end ≡ true = le-leb at end in₁ in
-        subst (λ (ws : List Text). LineAs (hears_one whole (lines σ) ws) out₀ line.said line.state after)
+        subst (λ (ws : List Text). LineAs (hears_one whole (lines σ) ws) out₀ r after)
         (ap (λ (b : Bool). chosen b (split space (part t at end)) []) z)
-        (subst (λ (b : Bool). LineAs (hears_one b (lines σ) (words_from t at end)) out₀ line.said line.state after) (S.whole ∙ w)
-        (R σ out₀ F.stands F.stand))
+        (subst (λ (b : Bool). LineAs (hears_one b (lines σ) (words_from t at end)) out₀ r after) (S.whole ∙ w)
+        (subst (λ (u : Text). ReadsAny u at end stop c out r after) of R σ out₀ F.stands F.stand))
 
     abbrev words : List Text
     words = split space (part t at end)
@@ -146,52 +154,49 @@ module _ (t : Text) (out₀ : List ℕ) where
             ∙ ap (λ (n : ℕ). refused (refusal 27 n)) k
         last (y ∷ p) x u f false e k = ap (λ (v : Bool). need v 27 at >> refused (refusal 27 (at + suc (length p)))) e
 
-    -- what the answer says of a whole line, and of the unfinished one
-    said_as : (whole : Bool) → ltb end (length t) ≡ whole → (h : Heard) → line.said ≡ h
-        → LineAs (hears_one whole (lines σ) words) out₀ h line.state after
-    said_as whole w h e = subst (λ (x : Heard). LineAs (hears_one whole (lines σ) words) out₀ x line.state after) e (is whole w)
-
-    line_no : line.said ≡ Not → unlisted t ≡ refused (refusal 27 at)
+    -- a line that is none, and an unfinished one that begins a line
+    line_no : (after : List ℕ) → ReadsAny line.text.now at line.end line.stop c out (Err Not) after → unlisted t ≡ refused (refusal 27 at)
     unfolding LineAs
-    line_no e = go (ltb end (length t)) refl
+    line_no after R = go (ltb end (length t)) refl
       where
         go : (w : Bool) → ltb end (length t) ≡ w → unlisted t ≡ refused (refusal 27 at)
-        go true w = whole_line w none (taken_none (takes_one (lines σ) words) (sym (hears_taken (lines σ) words) ∙ said_as true w Not e))
-        go false w = last_line w false (starts_not (starts_one (lines σ) words) (sym (hears_started (lines σ) words) ∙ said_as false w Not e))
+        go true w = whole_line w none (taken_none (takes_one (lines σ) words) (sym (hears_taken (lines σ) words) ∙ is _ after R true w))
+        go false w = last_line w false (starts_not (starts_one (lines σ) words) (sym (hears_started (lines σ) words) ∙ is _ after R false w))
 
-    line_starts : line.said ≡ Begun → unlisted t ≡ refused (refusal 27 (length t))
+    line_starts : (after : List ℕ) → ReadsAny line.text.now at line.end line.stop c out (Err Begun) after → unlisted t ≡ refused (refusal 27 (length t))
     unfolding LineAs
-    line_starts e = go (ltb end (length t)) refl
+    line_starts after R = go (ltb end (length t)) refl
       where
         go : (w : Bool) → ltb end (length t) ≡ w → unlisted t ≡ refused (refusal 27 (length t))
-        go true w = absurd (taken_begun (takes_one (lines σ) words) (sym (hears_taken (lines σ) words) ∙ said_as true w Begun e))
-        go false w = last_line w true (starts_so (starts_one (lines σ) words) (sym (hears_started (lines σ) words) ∙ said_as false w Begun e))
+        go true w = absurd (taken_begun (takes_one (lines σ) words) (sym (hears_taken (lines σ) words) ∙ is _ after R true w))
+        go false w = last_line w true (starts_so (starts_one (lines σ) words) (sym (hears_started (lines σ) words) ∙ is _ after R false w))
 
-    pub refused_line : line.said ≡ Not → (r : WrittenAnswer) → r ≡ Refused (in_file Listing (refusal 27 at)) → (o : List ℕ) → Promised r o
-    refused_line e r q o = promised_no at (line_no e) r q o
+    pub refused_line : (after : List ℕ) → ReadsAny line.text.now at line.end line.stop c out (Err Not) after → (r : Refusal) → r ≡ in_file Listing (refusal 27 at) → (o : List ℕ)
+        → Promised (Err r) o
+    refused_line after R r q o = promised_no at (line_no after R) r q o
 
-    pub refused_last : line.said ≡ Begun → (r : WrittenAnswer) → r ≡ Refused (in_file Listing (refusal 27 (length t))) → (o : List ℕ)
-        → Promised r o
-    refused_last e r q o = promised_no (length t) (line_starts e) r q o
+    pub refused_last : (after : List ℕ) → ReadsAny line.text.now at line.end line.stop c out (Err Begun) after → (r : Refusal) → r ≡ in_file Listing (refusal 27 (length t))
+        → (o : List ℕ) → Promised (Err r) o
+    refused_last after R r q o = promised_no (length t) (line_starts after R) r q o
 
     -- a line that was taken is whole, so that the next one begins further on
-    pub line_on : line.said ≡ Took → at < stop
+    pub line_on : (s : Standing) (after : List ℕ) → ReadsAny line.text.now at line.end line.stop c out (Ok s) after → at < line.stop
     unfolding LineAs
-    line_on e = go (ltb end (length t)) refl
+    line_on s after R = go (ltb end (length t)) refl
       where
         go : (w : Bool) → ltb end (length t) ≡ w → at < stop
         go true w = omega (arith, ltb-true end stop (S.whole ∙ w))
         go false w =
-            let T : TookLine (hears_one false (lines σ) words) out₀ line.state after = said_as false w Took e in
+            let T : TookLine (hears_one false (lines σ) words) out₀ s after = is _ after R false w in
             absurd (starts_took (starts_one (lines σ) words) T.program (sym (hears_started (lines σ) words) ∙ T.is))
 
-    pub line_took : line.said ≡ Took → Followed stop line.state after
+    pub line_took : (s : Standing) (after : List ℕ) → ReadsAny line.text.now at line.end line.stop c out (Ok s) after → Followed line.stop s after
     unfolding LineAs Stands
-    line_took e = go (ltb end (length t)) refl
+    line_took s after R = go (ltb end (length t)) refl
       where
-        go : (w : Bool) → ltb end (length t) ≡ w → Followed stop line.state after
+        go : (w : Bool) → ltb end (length t) ≡ w → Followed stop s after
         go true w =
-            let T : TookLine (hears_one true (lines σ) words) out₀ line.state after = said_as true w Took e in
+            let T : TookLine (hears_one true (lines σ) words) out₀ s after = is _ after R true w in
             let z : end + 1 ≡ stop = omega (arith, ltb-true end stop (S.whole ∙ w), S.near) in
             record {
               state = sofar T.program;
@@ -201,7 +206,7 @@ module _ (t : Text) (out₀ : List ℕ) where
               stand = T.stand;
             }
         go false w =
-            let T : TookLine (hears_one false (lines σ) words) out₀ line.state after = said_as false w Took e in
+            let T : TookLine (hears_one false (lines σ) words) out₀ s after = is _ after R false w in
             absurd (starts_took (starts_one (lines σ) words) T.program (sym (hears_started (lines σ) words) ∙ T.is))
 
   -- the text has ended
@@ -225,14 +230,14 @@ module _ (t : Text) (out₀ : List ℕ) where
     unfolding EndAs
     end_no e = no_more ∙ ap (λ (o : Option (List ℕ)). ends o) (as_end false e)
 
-    pub refused_end : b ≡ false → (r : WrittenAnswer) → r ≡ Refused (in_file Listing (refusal 27 at)) → (o : List ℕ) → Promised r o
+    pub refused_end : b ≡ false → (r : Refusal) → r ≡ in_file Listing (refusal 27 at) → (o : List ℕ) → Promised (Err r) o
     refused_end e r q o = promised_no at (end_no e) r q o
 
-    pub end_yes : b ≡ true → (r : WrittenAnswer) → r ≡ Written c.used → Promised r after
+    pub end_yes : b ≡ true → Promised (Ok c.used) after
     unfolding EndAs length_of ◌>>=◌
-    end_yes e r q =
+    end_yes e =
         let X : Ended at_end c out₀ after = as_end true e in
         let f : unlisted t ≡ ok X.bytes = no_more ∙ ap (λ (o : Option (List ℕ)). ends o) X.is in (
-          ap written_said q ∙ ap (λ (n : ℕ). ok n) (sym X.many) ∙ ap (λ (m : Check (List ℕ)). length_of (within Listing m)) (sym f),
+          ap (λ (n : ℕ). ok n) (sym X.many) ∙ ap (λ (m : Check (List ℕ)). length_of (within Listing m)) (sym f),
           λ s h. let z : X.bytes ≡ s = cc in X.stand ∙ ap (sets out₀ 0) z,
         )

@@ -1,10 +1,10 @@
-mod Choosing
-mod Closing
-mod Ending
-mod Following
-mod Heads
-mod Outward
-mod Said
-mod Tops
-mod Turning
-mod Twice
+pub mod Said
+pub mod Heads
+pub mod Closing
+pub mod Tops
+pub mod Turning
+pub mod Choosing
+pub mod Outward
+pub mod Ending
+pub mod Following
+pub mod Twice

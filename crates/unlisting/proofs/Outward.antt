@@ -1,31 +1,31 @@
 -- The loop of a line goes from the innermost block outwards: blocks that have ended are closed, and the lines still offered are those that may follow then.
-use mathlib.Core.Bool.{Bool, true, false, false≢true}
+use mathlib.Core.Bool.{Bool, true, false}
 use mathlib.Core.List.{List, [], ◌∷◌, ◌++◌, append-nil}
+use mathlib.Core.Option.{Option, none, some}
 use mathlib.Core.Path.{◌≡◌, refl, sym, ap, subst, ◌∙◌}
-use native.Mathlib.Omega.{arith}
-use Prim.Native.Nat.{ℕ, suc, ◌-◌, ◌<◌}
+use Prim.Native.Nat.{ℕ, suc, ◌<◌}
 use lib.Dec.{ltb}
-use lib.ListN.{get_or, length}
+use lib.ListN.{length}
 use lib.Seq.{sets}
+use Rattle.std.specs.Prelude.{Result, Ok, Err}
+use Rattle.rules.specs.Syntax.{Function}
 use Rattle.rules.specs.Words.{Text}
 use Rattle.rules.specs.Unlisting.{Opened, Sofar, State, fresh, sofar, sized, indent, statement_line, lines_after, lines}
 use Rattle.reading.specs.Cursor.{words_from}
 use Rattle.reading.specs.Hearing.{Hearing, hears, hears_one, onward, Indents, Blank, blanks}
+use Rattle.reading.specs.declared.cursor.Unread.{Unread}
+use Rattle.reading.specs.declared.cursor.Unread.TheVariants.{Not, Begun}
+use Rattle.standing.specs.declared.state.Part.TheVariants.{Before, Functions, Main}
 use Rattle.standing.specs.declared.state.Standing.{Standing}
-use Rattle.reading.specs.declared.cursor.Reading.{Reading}
-use Rattle.reading.specs.declared.cursor.Reading.TheVariants.{Not, Begun, At}
-use Rattle.stating.specs.declared.statement.Heard.TheVariants.{Begun as LineBegun}
-use Rattle.stating.specs.declared.statement.Line.{Line}
 use Rattle.standing.specs.Numbers.{fresh_of, closed_of, statement_lives}
-use Rattle.standing.specs.Means.{outside, laid, laid_at, Means, Stands}
-use Rattle.stating.specs.Statements.{only, LineAs, ReadsLine}
-use Rattle.unlisting.specs.Lines.{else_line, tops_of, ReadsAny, FirstLine, Closes}
-use Rattle.unlisting.proofs.Choosing.{a_statement, a_start, an_else, an_end, ended}
+use Rattle.standing.specs.Means.{outside, laid, laid_at, After, Means, Stands}
 use Rattle.standing.proofs.Lives.{statement_lives_lem}
 use Rattle.standing.proofs.Meaning.{block_depth, means_closed}
-use Rattle.unlisting.proofs.Closing.{innermost as block-open}
-use Rattle.unlisting.proofs.Tops.{no_block}
-use Rattle.unlisting.proofs.Turning.{block_due}
+use Rattle.stating.specs.Statements.{only, LineAs, ReadsLine}
+use Rattle.unlisting.specs.Lines.{else_line, tops_of, lines_of, ReadsAny, FirstLine, Closes}
+use Rattle.unlisting.proofs.Choosing.{a_statement, a_start, an_else, an_end, ended}
+use Rattle.unlisting.proofs.Closing.{innermost as block-open, innermost_open, block_due}
+use Rattle.unlisting.proofs.Tops.{none_open}
 
 -- a block is open where the depth is not 0
 record Innermost (c : Standing) (p : Sofar) : Type 0 where
@@ -33,7 +33,7 @@ record Innermost (c : Standing) (p : Sofar) : Type 0 where
   blocks : List Opened
   are : p.open_blocks ≡ block ∷ blocks
   depth : c.depth ≡ suc (length blocks)
-  due : get_or c.dues (c.depth - 1) false ≡ block.due
+  due : (innermost_open c).due ≡ block.due
 
 innermost : (c : Standing) (p : Sofar) → Means c p → 0 < c.depth → Innermost c p
 innermost c p M h =
@@ -47,23 +47,20 @@ innermost c p M h =
     }
 
 -- where the first line has been read, the numbers mean a program
-pub some_program : (c : Standing) (σ : State) → Stands c σ → c.started ≡ true → (p : Sofar) × (σ ≡ sofar p) × Means c p
+pub some_program : (c : Standing) (σ : State) → Stands c σ → (c.part ≡ Before → ⊥) → (p : Sofar) × (σ ≡ sofar p) × Means c p
 unfolding Stands
-some_program c fresh S h = absurd (false≢true (ap (λ (x : Standing). x.started) (sym S) ∙ h))
+some_program c fresh S h = absurd (h (ap (λ (x : Standing). x.part) S))
 some_program c (sofar p) S h = (p, refl, S)
 
--- the innermost block's number is below eight, and the block ended leaves one fewer
-pub below_eight : (c : Standing) (p : Sofar) → Means c p → 0 < c.depth → c.depth - 1 < 8
-below_eight c p M h = omega (arith, M.deep)
-
-pub one_fewer : (c d : Standing) → d ≡ closed_of c → 0 < c.depth → d.depth < c.depth
-one_fewer c d e h = let z : d.depth ≡ c.depth - 1 = ap (λ (x : Standing). x.depth) e in omega arith
-
 -- nothing has been read
-pub no_program : (c : Standing) (σ : State) → Stands c σ → c.started ≡ false → (σ ≡ fresh) × (c ≡ fresh_of)
-unfolding Stands
+pub no_program : (c : Standing) (σ : State) → Stands c σ → c.part ≡ Before → (σ ≡ fresh) × (c ≡ fresh_of)
+unfolding Stands After
 no_program c fresh S h = (refl, S)
-no_program c (sofar p) S h = absurd (false≢true (sym h ∙ S.started))
+no_program c (sofar p) S h = absurd (go p.after S.after)
+  where
+    go : (a : Option (List Function)) → After c a → ⊥
+    go none e = let z : Main ≡ Before = sym e.0 ∙ h in cc
+    go (some fs) e = let z : Functions ≡ Before = sym e.0 ∙ h in cc
 
 module _ (t : Text) (at end stop : ℕ) (from : Standing) (entry : List ℕ) where
   abbrev whole : Bool
@@ -85,120 +82,98 @@ module _ (t : Text) (at end stop : ℕ) (from : Standing) (entry : List ℕ) whe
   pub reached_none : Reaches from entry
   reached_none p₀ M = record { program = p₀; means = M; same = refl; stand = λ D e. e }
 
+  -- what a line is to every program that the numbers meant at first
+  abbrev AnyLine : Result Standing Unread → List ℕ → Type 0
+  AnyLine r after = ReadsLine t at end stop lines_of from entry r after
+
   module _ (c : Standing) (out : List ℕ) (R : Reaches c out) (h : 0 < c.depth) (lives : Bool) (l : lives ≡ statement_lives c) where
     -- the statement of the innermost block, by what the indent was
-    said : (p : Sofar) (M : Means c p) (I : Innermost c p) (r : Reading) → Indents t at end stop c.depth lives r
-        → hears whole (indent (suc (length I.blocks)) (statement_line p)) ws
-        ≡ onward r λ q. hears whole (statement_line p) (words_from t q end)
+    said : (p : Sofar) (M : Means c p) (I : Innermost c p) (r : Result ℕ Unread) → Indents t at end stop c.depth lives r
+        → hears whole (indent (suc (length I.blocks)) (statement_line p)) ws ≡ onward r λ q. hears whole (statement_line p) (words_from t q end)
     unfolding Indents
     said p M I r i =
-        subst (λ (d : ℕ). hears whole (indent d (statement_line p)) ws
-        ≡ onward r λ q. hears whole (statement_line p) (words_from t q end))
+        subst (λ (d : ℕ). hears whole (indent d (statement_line p)) ws ≡ onward r λ q. hears whole (statement_line p) (words_from t q end))
         I.depth (i (statement_line p) (sym (l ∙ statement_lives_lem c p M)))
 
     -- a statement's line
-    pub line_statement : (r : Reading) (q : ℕ) → r ≡ At q → Indents t at end stop c.depth lives r → Blank t at end c.depth r
-        → (line : Line) (after : List ℕ) → ReadsLine t q end stop (only statement_line) c out line after
-        → (p₀ : Sofar) (D : List ℕ) → Means from p₀ → entry ≡ sets D 6 (laid p₀)
-        → LineAs (hears_one whole (lines (sofar p₀)) ws) D line.said line.state after
-    unfolding Blank ReadsLine
-    line_statement (At q') q e i b line after reads p₀ D M s =
-        let z : q' ≡ q = cc in
+    pub line_statement : (q : ℕ) → Indents t at end stop c.depth lives (Ok q) → Blank t at end c.depth (Ok q) → (r : Result Standing Unread) (after : List ℕ)
+        → ReadsLine t q end stop (only statement_line) c out r after → AnyLine r after
+    unfolding ReadsLine
+    line_statement q i b r after reads p₀ D M s =
         let X : Reached c out p₀ = R p₀ M in
         let p : Sofar = X.program in
         let I : Innermost c p = innermost c p X.means h in
-        let blank : ws ≡ blanks (suc (length I.blocks)) (words_from t q' end) =
-        subst (λ (d : ℕ). ws ≡ blanks d (words_from t q' end)) I.depth b in
+        let blank : ws ≡ blanks (suc (length I.blocks)) (words_from t q end) = subst (λ (d : ℕ). ws ≡ blanks d (words_from t q end)) I.depth b in
         let is : hears_one whole (lines (sofar p₀)) ws ≡ hears_one whole (only statement_line p) (words_from t q end) =
-        X.same ∙ a_statement whole p I.block I.blocks I.are ws (words_from t q' end) blank (said p X.means I (At q') i)
-        ∙ ap (λ (k : ℕ). hears_one whole (only statement_line p) (words_from t k end)) z in
-        subst (λ (k : Hearing Sofar). LineAs k D line.said line.state after) (sym is) (reads p D X.means (X.stand D s))
-    line_statement Not q e i b line after reads p₀ D M s = absurd (let z : ◌≡◌ {A = ℕ} 0 1 = cc in omega arith)
-    line_statement Begun q e i b line after reads p₀ D M s = absurd (let z : ◌≡◌ {A = ℕ} 0 1 = cc in omega arith)
+        X.same ∙ a_statement whole p I.block I.blocks I.are ws (words_from t q end) blank (said p X.means I (Ok q) i) in
+        subst (λ (k : Hearing Sofar). LineAs k D r after) (sym is) (reads p D X.means (X.stand D s))
 
     -- an unfinished line that begins one
-    pub line_begun : (r : Reading) → r ≡ Begun → Indents t at end stop c.depth lives r
-        → (line : Line) → line ≡ record { said = LineBegun; state = c }
-        → (after : List ℕ) (p₀ : Sofar) (D : List ℕ) → Means from p₀ → entry ≡ sets D 6 (laid p₀)
-        → LineAs (hears_one whole (lines (sofar p₀)) ws) D line.said line.state after
-    unfolding LineAs
-    line_begun Begun e i line f after p₀ D M s =
+    pub line_begun : Indents t at end stop c.depth lives (Err Begun) → (after : List ℕ) → AnyLine (Err Begun) after
+    unfolding ReadsLine LineAs
+    line_begun i after p₀ D M s =
         let X : Reached c out p₀ = R p₀ M in
         let I : Innermost c X.program = innermost c X.program X.means h in
-        subst (λ (x : Line). LineAs (hears_one whole (lines (sofar p₀)) ws) D x.said x.state after) (sym f)
-        (X.same ∙ a_start whole X.program I.block I.blocks I.are ws (said X.program X.means I Begun i))
-    line_begun Not e i line f after p₀ D M s = absurd (let z : ◌≡◌ {A = ℕ} 0 1 = cc in omega arith)
-    line_begun (At q) e i line f after p₀ D M s = absurd (let z : ◌≡◌ {A = ℕ} 0 1 = cc in omega arith)
+        X.same ∙ a_start whole X.program I.block I.blocks I.are ws (said X.program X.means I (Err Begun) i)
 
-    -- the else that is due
-    pub line_else : (r : Reading) → r ≡ Not → Indents t at end stop c.depth lives r → get_or c.dues (c.depth - 1) false ≡ true
-        → (line : Line) (after : List ℕ) → ReadsLine t at end stop (only else_line) c out line after
-        → (p₀ : Sofar) (D : List ℕ) → Means from p₀ → entry ≡ sets D 6 (laid p₀)
-        → LineAs (hears_one whole (lines (sofar p₀)) ws) D line.said line.state after
-    unfolding ReadsLine
-    line_else Not e i d line after reads p₀ D M s =
-        let X : Reached c out p₀ = R p₀ M in
-        let p : Sofar = X.program in
-        let I : Innermost c p = innermost c p X.means h in
-        let is : hears_one whole (lines (sofar p₀)) ws ≡ hears_one whole (only else_line p) ws =
-        X.same ∙ an_else whole p I.block I.blocks I.are ws (said p X.means I Not i) (sym I.due ∙ d) in
-        subst (λ (k : Hearing Sofar). LineAs k D line.said line.state after) (sym is) (reads p D X.means (X.stand D s))
-    line_else Begun e i d line after reads p₀ D M s = absurd (let z : ◌≡◌ {A = ℕ} 0 1 = cc in omega arith)
-    line_else (At q) e i d line after reads p₀ D M s = absurd (let z : ◌≡◌ {A = ℕ} 0 1 = cc in omega arith)
+    module _ (i : Indents t at end stop c.depth lives (Err Not)) where
+      -- the else that is due
+      pub line_else : (innermost_open c).due ≡ true → (r : Result Standing Unread) (after : List ℕ)
+          → ReadsLine t at end stop (only else_line) c out r after → AnyLine r after
+      unfolding ReadsLine
+      line_else d r after reads p₀ D M s =
+          let X : Reached c out p₀ = R p₀ M in
+          let p : Sofar = X.program in
+          let I : Innermost c p = innermost c p X.means h in
+          let is : hears_one whole (lines (sofar p₀)) ws ≡ hears_one whole (only else_line p) ws =
+          X.same ∙ an_else whole p I.block I.blocks I.are ws (said p X.means I (Err Not) i) (sym I.due ∙ d) in
+          subst (λ (k : Hearing Sofar). LineAs k D r after) (sym is) (reads p D X.means (X.stand D s))
 
-    -- the innermost block has ended
-    pub reached_more : (r : Reading) → r ≡ Not → Indents t at end stop c.depth lives r → get_or c.dues (c.depth - 1) false ≡ false
-        → (after : List ℕ) → Closes c out after → (state : Standing) → state ≡ closed_of c → Reaches state after
-    unfolding Closes
-    reached_more Not e i d after closes state f p₀ M =
-        let X : Reached c out p₀ = R p₀ M in
-        let p : Sofar = X.program in
-        let I : Innermost c p = innermost c p X.means h in
-        let q : Sofar = ended whole p I.block I.blocks I.are ws in
-        record {
-          program = q;
-          means = subst (λ (x : Standing). Means x q) (sym f)
-              (means_closed c p I.block I.blocks X.means I.are (sym I.due ∙ d));
-          same = X.same ∙ an_end whole p I.block I.blocks I.are ws (said p X.means I Not i) (sym I.due ∙ d);
-          stand = λ D s. closes p I.block I.blocks D [] X.means I.are (X.stand D s ∙ ap (sets D 6) (sym (append-nil (laid p))))
-              ∙ ap (λ (b : List ℕ). sets D 6 (outside I.blocks ++ (I.block.before ++ b))) (append-nil (sized p.bytes));
-        }
-    reached_more Begun e i d after closes state f p₀ M = absurd (let z : ◌≡◌ {A = ℕ} 0 1 = cc in omega arith)
-    reached_more (At q) e i d after closes state f p₀ M = absurd (let z : ◌≡◌ {A = ℕ} 0 1 = cc in omega arith)
+      -- the innermost block has ended
+      pub reached_more : (innermost_open c).due ≡ false → (after : List ℕ) → Closes c out after → (state : Standing) → state ≡ closed_of c
+          → Reaches state after
+      unfolding Closes
+      reached_more d after closes state f p₀ M =
+          let X : Reached c out p₀ = R p₀ M in
+          let p : Sofar = X.program in
+          let I : Innermost c p = innermost c p X.means h in
+          let q : Sofar = ended whole p I.block I.blocks I.are ws in
+          record {
+            program = q;
+            means = subst (λ (x : Standing). Means x q) (sym f)
+                (means_closed c p I.block I.blocks X.means I.are (sym I.due ∙ d));
+            same = X.same ∙ an_end whole p I.block I.blocks I.are ws (said p X.means I (Err Not) i) (sym I.due ∙ d);
+            stand = λ D s. closes p I.block I.blocks D [] X.means I.are (X.stand D s ∙ ap (sets D 6) (sym (append-nil (laid p))))
+                ∙ ap (λ (b : List ℕ). sets D 6 (outside I.blocks ++ (I.block.before ++ b))) (append-nil (sized p.bytes));
+          }
 
   -- the numbers mean a program
-  pub now_means : (c : Standing) (out : List ℕ) → Reaches c out → (σ : State) → Stands from σ → from.started ≡ true → (p : Sofar) × Means c p
-  now_means c out R σ S h =
-      let P : (p : Sofar) × (σ ≡ sofar p) × Means from p = some_program from σ S h in
-      ((R P.0 P.2).program, (R P.0 P.2).means)
+  pub now_means : (c : Standing) (out : List ℕ) → Reaches c out → (p : Sofar) × Means from p → (p : Sofar) × Means c p
+  now_means c out R P = ((R P.0 P.1).program, (R P.0 P.1).means)
 
   -- outside blocks
-  pub line_top : (c : Standing) (out : List ℕ) → Reaches c out → c.depth ≡ 0 → (line : Line) (after : List ℕ)
-      → ReadsLine t at end stop tops_of c out line after
-      → (p₀ : Sofar) (D : List ℕ) → Means from p₀ → entry ≡ sets D 6 (laid p₀)
-      → LineAs (hears_one whole (lines (sofar p₀)) ws) D line.said line.state after
+  pub line_top : (c : Standing) (out : List ℕ) → Reaches c out → c.depth ≡ 0 → (r : Result Standing Unread) (after : List ℕ)
+      → ReadsLine t at end stop tops_of c out r after → AnyLine r after
   unfolding ReadsLine
-  line_top c out R h line after reads p₀ D M s =
+  line_top c out R h r after reads p₀ D M s =
       let X : Reached c out p₀ = R p₀ M in
       let p : Sofar = X.program in
       let is : hears_one whole (lines (sofar p₀)) ws ≡ hears_one whole (tops_of p) ws =
-      X.same ∙ ap (λ (os : List Opened). hears_one whole (lines_after p.scope p.after os p.bytes) ws) (no_block c p X.means h) in
-      subst (λ (k : Hearing Sofar). LineAs k D line.said line.state after) (sym is) (reads p D X.means (X.stand D s))
+      X.same ∙ ap (λ (os : List Opened). hears_one whole (lines_after p.scope p.after os p.bytes) ws) (none_open c p X.means h) in
+      subst (λ (k : Hearing Sofar). LineAs k D r after) (sym is) (reads p D X.means (X.stand D s))
 
-  -- a line after the first is any line
-  pub any_line : from.started ≡ true → (line : Line) (after : List ℕ)
-      → ((p₀ : Sofar) (D : List ℕ) → Means from p₀ → entry ≡ sets D 6 (laid p₀)
-      → LineAs (hears_one whole (lines (sofar p₀)) ws) D line.said line.state after)
-      → ReadsAny t at end stop from entry line after
-  unfolding ReadsAny
-  any_line h line after f σ D S s =
+  -- a line after the first is any line, and so is the first
+  pub any_line : (from.part ≡ Before → ⊥) → (r : Result Standing Unread) (after : List ℕ) → ReadsLine t at end stop lines_of from entry r after
+      → ReadsAny t at end stop from entry r after
+  unfolding ReadsAny ReadsLine
+  any_line h r after f σ D S s =
       let P : (p : Sofar) × (σ ≡ sofar p) × Means from p = some_program from σ S h in
-      subst (λ (τ : State). LineAs (hears_one whole (lines τ) ws) D line.said line.state after) (sym P.1)
+      subst (λ (τ : State). LineAs (hears_one whole (lines τ) ws) D r after) (sym P.1)
       (f P.0 D P.2 (s ∙ ap (λ (τ : State). sets D 6 (laid_at τ)) P.1))
 
-  pub first_any : from.started ≡ false → (line : Line) → FirstLine t at end stop line → ReadsAny t at end stop from entry line entry
+  pub first_any : from.part ≡ Before → (r : Result Standing Unread) → FirstLine t at end stop r → ReadsAny t at end stop from entry r entry
   unfolding ReadsAny FirstLine
-  first_any h line f σ D S s =
+  first_any h r f σ D S s =
       let P : (σ ≡ fresh) × (from ≡ fresh_of) = no_program from σ S h in
-      subst (λ (τ : State). LineAs (hears_one whole (lines τ) ws) D line.said line.state entry) (sym P.0)
+      subst (λ (τ : State). LineAs (hears_one whole (lines τ) ws) D r entry) (sym P.0)
       (f D entry (s ∙ ap (λ (τ : State). sets D 6 (laid_at τ)) P.0))

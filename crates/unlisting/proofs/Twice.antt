@@ -11,11 +11,10 @@ use lib.Dec.{leb}
 use lib.ListN.{length, drop}
 use lib.Seq.{sets, sets-eq}
 use Rattle.answers.specs.Check.{Check, ok, refused, refusal, within, ◌>>=◌, ◌>>◌, need}
-use Rattle.answers.specs.Said.{written_said}
+use Rattle.answers.specs.Said.{said}
 use Rattle.answers.specs.declared.File.TheVariants.{Listing}
 use Rattle.answers.specs.declared.Refusal.{Refusal}
-use Rattle.answers.specs.declared.WrittenAnswer.{WrittenAnswer}
-use Rattle.answers.specs.declared.WrittenAnswer.TheVariants.{Written, Refused}
+use Rattle.std.specs.Prelude.{Result, Err}
 use Rattle.rules.specs.Words.{Text}
 use Rattle.rules.specs.Unlisting.{unlisted}
 use Rattle.rules.specs.Promises.{over, Copied, copied, read_listing_of}
@@ -35,41 +34,41 @@ promised m buffer = copied buffer (within Listing m >>= λ s. need (leb (length 
 abbrev answered : Check ℕ → List ℕ → Copied
 answered a after = record { answer = a; buffer = after }
 
-module _ (t : Text) (buffer : List ℕ) (r : WrittenAnswer) (said : written_said r ≡ length_of (within Listing (unlisted t))) where
+module _ (t : Text) (buffer : List ℕ) where
   -- 27
-  pub counted_no : (x : Refusal) → r ≡ Refused x → told (Refused x) buffer ≡ read_listing_of t buffer
+  pub counted_no : (x : Refusal) → refused x ≡ length_of (within Listing (unlisted t)) → (r : Result ℕ Refusal) → said r ≡ refused x
+      → told r buffer ≡ read_listing_of t buffer
   unfolding length_of ◌>>=◌ ◌>>◌
-  counted_no x e = go (unlisted t) (ap written_said (sym e) ∙ said)
+  counted_no x h r e = ap (λ (a : Check ℕ). answered a buffer) e ∙ go (unlisted t) h
     where
-      go : (m : Check (List ℕ)) → refused x ≡ length_of (within Listing m) → told (Refused x) buffer ≡ promised m buffer
+      go : (m : Check (List ℕ)) → refused x ≡ length_of (within Listing m) → answered (refused x) buffer ≡ promised m buffer
       go (ok s) q = absurd (let z : ◌≡◌ {A = ℕ} 0 1 = cc in omega arith)
       go (refused y) q = ap (λ (a : Check ℕ). answered a buffer) q
 
-  -- 24
-  pub counted_short : (n : ℕ) (x : Refusal) → r ≡ Written n → length buffer < n → x ≡ refusal 24 0
-      → told (Refused x) buffer ≡ read_listing_of t buffer
-  unfolding length_of ◌>>=◌ ◌>>◌
-  counted_short n x e l f = go (unlisted t) (ap written_said (sym e) ∙ said)
-    where
-      go : (m : Check (List ℕ)) → ok n ≡ length_of (within Listing m) → told (Refused x) buffer ≡ promised m buffer
-      go (ok s) q =
-          let z : n ≡ length s = cc in
-          let b : leb (length s) (length buffer) ≡ false = lt-leb (length s) (length buffer) (omega arith) in
-          ap (λ (y : Refusal). answered (refused y) buffer) f ∙ ap (λ (v : Bool). copied buffer (need v 24 0 >> ok s)) (sym b)
-      go (refused y) q = absurd (let z : ◌≡◌ {A = ℕ} 0 1 = cc in omega arith)
+  module _ (n : ℕ) (h : ok n ≡ length_of (within Listing (unlisted t))) where
+    -- 24
+    pub counted_short : (x : Refusal) → length buffer < n → x ≡ refusal 24 0 → told (Err x) buffer ≡ read_listing_of t buffer
+    unfolding length_of ◌>>=◌ ◌>>◌
+    counted_short x l f = go (unlisted t) h
+      where
+        go : (m : Check (List ℕ)) → ok n ≡ length_of (within Listing m) → told (Err x) buffer ≡ promised m buffer
+        go (ok s) q =
+            let z : n ≡ length s = cc in
+            let b : leb (length s) (length buffer) ≡ false = lt-leb (length s) (length buffer) (omega arith) in
+            ap (λ (y : Refusal). answered (refused y) buffer) f ∙ ap (λ (v : Bool). copied buffer (need v 24 0 >> ok s)) (sym b)
+        go (refused y) q = absurd (let z : ◌≡◌ {A = ℕ} 0 1 = cc in omega arith)
 
-  -- the second reading
-  pub counted_written : (n : ℕ) → r ≡ Written n → n ≤ length buffer → (r₂ : WrittenAnswer) (after : List ℕ)
-      → (written_said r₂ ≡ length_of (within Listing (unlisted t))) × ((s : List ℕ) → unlisted t ≡ ok s → after ≡ sets buffer 0 s)
-      → told r₂ after ≡ read_listing_of t buffer
-  unfolding length_of ◌>>=◌ ◌>>◌
-  counted_written n e l r₂ after h = go (unlisted t) (ap written_said (sym e) ∙ said) h.0 h.1
-    where
-      go : (m : Check (List ℕ)) → ok n ≡ length_of (within Listing m) → written_said r₂ ≡ length_of (within Listing m)
-          → ((s : List ℕ) → m ≡ ok s → after ≡ sets buffer 0 s) → told r₂ after ≡ promised m buffer
-      go (ok s) q a k =
-          let z : n ≡ length s = cc in
-          let b : leb (length s) (length buffer) ≡ true = le-leb (length s) (length buffer) (omega arith) in
-          ap (λ (x : Check ℕ). answered x after) a ∙ ap (answered (ok (length s))) (k s refl ∙ over_sets s buffer (omega arith))
-          ∙ ap (λ (v : Bool). copied buffer (need v 24 0 >> ok s)) (sym b)
-      go (refused y) q a k = absurd (let z : ◌≡◌ {A = ℕ} 0 1 = cc in omega arith)
+    -- the second reading
+    pub counted_written : n ≤ length buffer → (r : Result ℕ Refusal) (after : List ℕ) → said r ≡ length_of (within Listing (unlisted t))
+        → ((s : List ℕ) → unlisted t ≡ ok s → after ≡ sets buffer 0 s) → told r after ≡ read_listing_of t buffer
+    unfolding length_of ◌>>=◌ ◌>>◌
+    counted_written l r after = go (unlisted t) h
+      where
+        go : (m : Check (List ℕ)) → ok n ≡ length_of (within Listing m) → said r ≡ length_of (within Listing m)
+            → ((s : List ℕ) → m ≡ ok s → after ≡ sets buffer 0 s) → told r after ≡ promised m buffer
+        go (ok s) q a k =
+            let z : n ≡ length s = cc in
+            let b : leb (length s) (length buffer) ≡ true = le-leb (length s) (length buffer) (omega arith) in
+            ap (λ (x : Check ℕ). answered x after) a ∙ ap (answered (ok (length s))) (k s refl ∙ over_sets s buffer (omega arith))
+            ∙ ap (λ (v : Bool). copied buffer (need v 24 0 >> ok s)) (sym b)
+        go (refused y) q a k = absurd (let z : ◌≡◌ {A = ℕ} 0 1 = cc in omega arith)

@@ -1,252 +1,196 @@
 // Which line may stand next: the first; a statement of the innermost block, the else that is due, or what may follow once that block has ended;
 // outside blocks a function or main.
-ghost use Rattle.std.specs.Prelude.{true, false, [], ◌∷◌, ◌≡◌, ◌+◌, ◌-◌, ◌/◌, ◌%◌, ◌≤◌, ◌<◌, get_or};
+ghost use Rattle.std.specs.Prelude.{true, ◌∷◌, [], ◌≡◌, ◌+◌, ◌-◌, ◌/◌, ◌%◌, ◌≤◌, ◌<◌, get_or, Err};
 ghost use Rattle.std.proofs.lemmas.List.Edits.{sets};
 ghost use Rattle.rules.specs.Unlisting.{Sofar, State};
-ghost use Rattle.reading.specs.Cursor.{InLine};
-ghost use Rattle.reading.specs.Hearing.{Onto, NumberOnto};
-ghost use Rattle.standing.specs.Numbers.{fresh_of};
+ghost use Rattle.reading.specs.Hearing.{in_line, Onto, NumberOnto};
+ghost use Rattle.standing.specs.Numbers.{no_block, fresh_of};
 ghost use Rattle.standing.specs.Means.{Means, Stands};
 ghost use Rattle.stating.specs.Statements.{ReadsLine, only};
 ghost use Rattle.unlisting.specs.Lines.{Closes, FirstLine, FunctionWords, most_arguments, Arguments};
-ghost use Rattle.unlisting.specs.Lines.{functions_of, mains_of, tops_of, else_line, ReadsAny, Ends};
+ghost use Rattle.unlisting.specs.Lines.{functions_of, mains_of, tops_of, lines_of, else_line, ReadsAny, Ends};
 
 use listing::put::put;
-use reading::cursor::{Number, Reading, expect, indent, number_below};
-use reading::words::DECIMALS;
+use reading::cursor::Unread;
+use reading::line::Line;
+use reading::words::Token;
 use rules::program::{FunctionHeader, ProgramHeader};
-use rules::words;
-use standing::rows;
-use standing::state::Standing;
-use stating::statement::{Heard, Line, statement_line};
+use rules::words::Word;
+use standing::state::{Part, Standing};
+use stating::statement::{ends, statement_line};
+
+// Bytes one after the other.
+fn put_bytes(out: &mut [u8], at: usize, bytes: &[u8])
+    requires { at ≤ 10000 }
+    ensures { out.new ≡ sets out.old at bytes.now }
+{
+    for (i, byte) in bytes.iter().enumerate() {
+        put(out, at + i, *byte);
+    }
+}
 
 // The two bytes of a length word.
-pub fn put_length(out: &mut [u8], at: usize, n: usize)
-    requires { (at ≤ 10000) × (n < 65536) }
+pub fn put_length(out: &mut [u8], at: usize, n: u16)
+    requires { at ≤ 10000 }
     ensures { out.new ≡ sets out.old at (n / 256 ∷ n % 256 ∷ []) }
 {
-    put(out, at, (n / 256) as u8);
-    put(out, at + 1, (n % 256) as u8);
+    put_bytes(out, at, &[(n / 256) as u8, (n % 256) as u8]);
 }
 
 // The innermost block ends: its length word is put.
-pub fn put_innermost(c: Standing, out: &mut [u8])
-    requires { ((p : Sofar) × Means c p) × (0 < c.depth) }
-    ensures { Closes c out.old out.new }
+pub fn put_innermost(c: &Standing, out: &mut [u8])
+    requires { ((p : Sofar) × Means c.now p) × (0 < c.now.depth) }
+    ensures { Closes c.now out.old out.new }
 {
-    let depth = c.depth - 1;
-    let word = c.words[depth];
-    put_length(out, word, c.used - word - 2);
+    let word = c.blocks[c.depth - 1].word;
+    put_length(out, word as usize, c.used - word - 2);
 }
 
 // `program 1`
-fn first_line(text: &[u8], at: usize, end: usize, stop: usize, c: Standing) -> Line
-    requires { InLine text.now at end stop × (c ≡ fresh_of) }
-    ensures { FirstLine text.now at end stop result }
+fn first_line(line: &Line, at: usize, c: &Standing) -> Result<Standing, Unread>
+    requires { (at ≤ line.now.stop) × (c.now ≡ fresh_of) }
+    ensures { in_line FirstLine line.now at result }
 {
-    match expect(text, at, end, stop, words::PROGRAM, true) {
-        Reading::Not => Line::not(c),
-        Reading::Begun => Line::begun(c),
-        Reading::At(p) => match expect(text, p, end, stop, DECIMALS + 1, true) {
-            Reading::Not => Line::not(c),
-            Reading::Begun => Line::begun(c),
-            Reading::At(q) => Line::ends(q, end, c.begun()),
-        },
-    }
+    let at = line.expect(at, Token::Word(Word::Program), true)?;
+    let at = line.expect(at, Token::Decimal(1), true)?;
+    ends(line, at)?;
+    Ok(c.begun())
 }
 
 // The words of a function's line before its numbers: `function`, its own number, `locations`.
-fn function_words(text: &[u8], at: usize, end: usize, stop: usize, n: usize) -> Reading
-    requires { InLine text.now at end stop × (n < 15) }
-    ensures function_words { FunctionWords text.now at end stop n result }
-    ensures onto { Onto at stop result }
+fn function_words(line: &Line, at: usize, n: u8) -> Result<usize, Unread>
+    requires { at ≤ line.now.stop }
+    ensures words { in_line FunctionWords line.now at n result }
+    ensures onto { Onto at line.now.stop result }
 {
-    match expect(text, at, end, stop, words::FUNCTION, true) {
-        Reading::Not => Reading::Not,
-        Reading::Begun => Reading::Begun,
-        Reading::At(p) => match expect(text, p, end, stop, DECIMALS + n, true) {
-            Reading::Not => Reading::Not,
-            Reading::Begun => Reading::Begun,
-            Reading::At(q) => expect(text, q, end, stop, words::LOCATIONS, true),
-        },
-    }
+    let at = line.expect(at, Token::Word(Word::Function), true)?;
+    let at = line.expect(at, Token::Decimal(n), true)?;
+    line.expect(at, Token::Word(Word::Locations), true)
 }
 
 // How many arguments a function with `k` locations may have: those below this number.
-fn most_arguments(k: usize) -> usize
-    requires { k ≤ 16 }
-    ensures { (result ≡ most_arguments k) × (result ≤ 9) }
+fn most_arguments(k: u8) -> usize
+    ensures value { result ≡ most_arguments k }
+    ensures few { result ≤ 9 }
 {
-    if k <= FunctionHeader::MOST_ARGUMENTS {
-        k + 1
-    } else {
-        9
-    }
+    FunctionHeader::MOST_ARGUMENTS.min(k as usize) + 1
 }
 
 // `arguments` and their number, in the line of a function with `k` locations.
-fn read_arguments(text: &[u8], at: usize, end: usize, stop: usize, k: usize) -> Number
-    requires { InLine text.now at end stop × (k ≤ 16) }
-    ensures arguments { Arguments text.now at end stop k result }
-    ensures number_onto { NumberOnto at stop 9 result }
+fn read_arguments(line: &Line, at: usize, k: u8) -> Result<(u8, usize), Unread>
+    requires { at ≤ line.now.stop }
+    ensures arguments { in_line Arguments line.now at k result }
+    ensures onto { NumberOnto at line.now.stop 9 result }
 {
-    match expect(text, at, end, stop, words::ARGUMENTS, true) {
-        Reading::Not => Number::Not,
-        Reading::Begun => Number::Begun,
-        Reading::At(p) => number_below(text, p, end, stop, most_arguments(k)),
-    }
+    let at = line.expect(at, Token::Word(Word::Arguments), true)?;
+    line.number_below(at, most_arguments(k))
 }
 
 // A function's line, where one may stand.
-fn function_line(
-    text: &[u8],
-    at: usize,
-    end: usize,
-    stop: usize,
-    c: Standing,
-    out: &mut [u8],
-) -> Line
-    requires { InLine text.now at end stop × ((p : Sofar) × Means c p) × (c.depth ≡ 0) × (c.in_main ≡ false) }
-    ensures reads_line { ReadsLine text.now at end stop functions_of c out.old result out.new }
-    ensures out_unchanged { result.said ≡ Heard.Not → out.new ≡ out.old }
+fn function_line(line: &Line, at: usize, c: &Standing, out: &mut [u8]) -> Result<Standing, Unread>
+    requires { (at ≤ line.now.stop) × ((p : Sofar) × Means c.now p) × (c.now.depth ≡ 0) × (c.now.part ≡ Part.Functions) }
+    ensures reads { in_line ReadsLine line.now at functions_of c.now out.old result out.new }
+    ensures unchanged { result ≡ Err Unread.Not → out.new ≡ out.old }
 {
-    if !rows::room(c, 4) {
-        return Line::not(c);
+    if !c.room(4) || c.functions as usize == ProgramHeader::MOST_FUNCTIONS {
+        return Err(Unread::Not);
     }
-    if c.functions == ProgramHeader::MOST_FUNCTIONS {
-        return Line::not(c);
-    }
-    match function_words(text, at, end, stop, c.functions) {
-        Reading::Not => Line::not(c),
-        Reading::Begun => Line::begun(c),
-        Reading::At(p) => match number_below(text, p, end, stop, 17) {
-            Number::Not => Line::not(c),
-            Number::Begun => Line::begun(c),
-            Number::Is(k, q) => match read_arguments(text, q, end, stop, k) {
-                Number::Not => Line::not(c),
-                Number::Begun => Line::begun(c),
-                Number::Is(m, e) => {
-                    if e <= end {
-                        return Line::not(c);
-                    }
-                    put(out, c.used, k as u8);
-                    put(out, c.used + 1, m as u8);
-                    put(out, c.used + 2, 0);
-                    put(out, c.used + 3, 0);
-                    Line::ends(e, end, c.function(k as u8, m as u8))
-                }
-            },
-        },
-    }
+    let at = function_words(line, at, c.functions)?;
+    let (k, at) = line.number_below(at, FunctionHeader::MOST_LOCATIONS + 1)?;
+    let (m, at) = read_arguments(line, at, k)?;
+    ends(line, at)?;
+    put_bytes(out, c.used as usize, &[k, m, 0, 0]);
+    Ok(c.function(k, m))
 }
 
 // `main`
-fn main_line(text: &[u8], at: usize, end: usize, stop: usize, c: Standing, out: &mut [u8]) -> Line
-    requires { InLine text.now at end stop × ((p : Sofar) × Means c p) × (c.depth ≡ 0) × (c.in_main ≡ false) }
-    ensures { ReadsLine text.now at end stop mains_of c out.old result out.new }
+fn main_line(line: &Line, at: usize, c: &Standing, out: &mut [u8]) -> Result<Standing, Unread>
+    requires { (at ≤ line.now.stop) × ((p : Sofar) × Means c.now p) × (c.now.depth ≡ 0) × (c.now.part ≡ Part.Functions) }
+    ensures { in_line ReadsLine line.now at mains_of c.now out.old result out.new }
 {
-    match expect(text, at, end, stop, words::MAIN, true) {
-        Reading::Not => Line::not(c),
-        Reading::Begun => Line::begun(c),
-        Reading::At(p) => {
-            put(out, c.used, 0);
-            put(out, c.used + 1, 0);
-            Line::ends(p, end, c.main())
-        }
-    }
+    let at = line.expect(at, Token::Word(Word::Main), true)?;
+    ends(line, at)?;
+    put_length(out, c.used as usize, 0);
+    Ok(c.main())
 }
 
 // A line outside functions and main.
-fn top_line(text: &[u8], at: usize, end: usize, stop: usize, c: Standing, out: &mut [u8]) -> Line
-    requires { InLine text.now at end stop × ((p : Sofar) × Means c p) × (c.depth ≡ 0) }
-    ensures { ReadsLine text.now at end stop tops_of c out.old result out.new }
+fn top_line(line: &Line, at: usize, c: &Standing, out: &mut [u8]) -> Result<Standing, Unread>
+    requires { (at ≤ line.now.stop) × ((p : Sofar) × Means c.now p) × (c.now.depth ≡ 0) }
+    ensures { in_line ReadsLine line.now at tops_of c.now out.old result out.new }
 {
-    if c.in_main {
-        return Line::not(c);
+    if c.part == Part::Main {
+        return Err(Unread::Not);
     }
-    let f = function_line(text, at, end, stop, c, out);
-    let said = f.said;
-    match said {
-        Heard::Not => main_line(text, at, end, stop, c, out),
-        _ => f,
+    match function_line(line, at, c, out) {
+        Ok(next) => Ok(next),
+        Err(Unread::Begun) => Err(Unread::Begun),
+        Err(Unread::Not) => main_line(line, at, c, out),
     }
 }
 
 // The else of the innermost block.
-fn else_line(text: &[u8], at: usize, end: usize, stop: usize, c: Standing, out: &mut [u8]) -> Line
-    requires { InLine text.now at end stop × ((p : Sofar) × Means c p) × (0 < c.depth) × (get_or c.dues (c.depth - 1) false ≡ true) }
-    ensures { ReadsLine text.now at end stop (only else_line) c out.old result out.new }
+fn else_line(line: &Line, at: usize, c: &Standing, out: &mut [u8]) -> Result<Standing, Unread>
+    requires { (at ≤ line.now.stop) × ((p : Sofar) × Means c.now p) × (0 < c.now.depth) × ((get_or c.now.blocks (c.now.depth - 1) no_block).due ≡ true) }
+    ensures { in_line ReadsLine line.now at (only else_line) c.now out.old result out.new }
 {
-    match indent(text, at, end, stop, c.depth - 1, true) {
-        Reading::Not => Line::not(c),
-        Reading::Begun => Line::begun(c),
-        Reading::At(p) => match expect(text, p, end, stop, words::ELSE, true) {
-            Reading::Not => Line::not(c),
-            Reading::Begun => Line::begun(c),
-            Reading::At(q) => {
-                put_innermost(c, out);
-                put(out, c.used, 0);
-                put(out, c.used + 1, 0);
-                Line::ends(q, end, c.turned())
-            }
-        },
-    }
+    let at = line.indent(at, c.depth - 1, true)?;
+    let at = line.expect(at, Token::Word(Word::Else), true)?;
+    ends(line, at)?;
+    put_innermost(c, out);
+    put_length(out, c.used as usize, 0);
+    Ok(c.turned())
 }
 
-// The line at `at`. From the innermost block outwards: a statement of the block; its else, if one is due; else the block has ended.
-pub fn read_line(
-    text: &[u8],
-    at: usize,
-    end: usize,
-    stop: usize,
-    from: Standing,
-    out: &mut [u8],
-) -> Line
-    requires { InLine text.now at end stop × ((σ : State) × Stands from σ) }
-    ensures { ReadsAny text.now at end stop from out.old result out.new }
+// A line after the first. From the innermost block outwards: a statement of the block; its else, if one is due; else the block has ended.
+fn next_line(line: &Line, at: usize, from: &Standing, out: &mut [u8]) -> Result<Standing, Unread>
+    requires { (at ≤ line.now.stop) × ((p : Sofar) × Means from.now p) }
+    ensures { in_line ReadsLine line.now at lines_of from.now out.old result out.new }
 {
-    let mut c = from;
-    if !c.started {
-        return first_line(text, at, end, stop, c);
-    }
+    let mut c = *from;
     while 0 < c.depth {
-        match indent(text, at, end, stop, c.depth, rows::statement_lives(c)) {
-            Reading::At(p) => return statement_line(text, p, end, stop, c, out),
-            Reading::Begun => return Line::begun(c),
-            Reading::Not => {}
+        match line.indent(at, c.depth, c.statement_lives()) {
+            Ok(at) => return statement_line(line, at, &c, out),
+            Err(Unread::Begun) => return Err(Unread::Begun),
+            Err(Unread::Not) => {}
         }
-        let dues = c.dues;
-        if dues[c.depth - 1] {
-            return else_line(text, at, end, stop, c, out);
+        if c.blocks[c.depth - 1].due {
+            return else_line(line, at, &c, out);
         }
-        put_innermost(c, out);
+        put_innermost(&c, out);
         c = c.closed();
     }
-    top_line(text, at, end, stop, c, out)
+    top_line(line, at, &c, out)
+}
+
+// The line at `at`, from nothing read on.
+pub fn read_line(line: &Line, at: usize, c: &Standing, out: &mut [u8]) -> Result<Standing, Unread>
+    requires { (at ≤ line.now.stop) × ((σ : State) × Stands c.now σ) }
+    ensures { in_line ReadsAny line.now at c.now out.old result out.new }
+{
+    if c.part == Part::Before {
+        first_line(line, at, c)
+    } else {
+        next_line(line, at, c, out)
+    }
 }
 
 // The text has ended: whether it may. Open blocks end, and the header is put.
-pub fn finish(from: Standing, out: &mut [u8]) -> bool
-    requires { (σ : State) × Stands from σ }
-    ensures { Ends from out.old result out.new }
+pub fn finish(from: &Standing, out: &mut [u8]) -> bool
+    requires { (σ : State) × Stands from.now σ }
+    ensures { Ends from.now out.old result out.new }
 {
-    if !from.in_main {
+    if from.part != Part::Main {
         return false;
     }
-    let mut c = from;
+    let mut c = *from;
     while 0 < c.depth {
-        let dues = c.dues;
-        if dues[c.depth - 1] {
+        if c.blocks[c.depth - 1].due {
             return false;
         }
-        put_innermost(c, out);
+        put_innermost(&c, out);
         c = c.closed();
     }
-    put(out, 0, 0x51);
-    put(out, 1, 0x4C);
-    put(out, 2, 0x53);
-    put(out, 3, 0);
-    put(out, 4, 1);
-    put(out, 5, c.functions as u8);
+    put_bytes(out, 0, &[b'Q', b'L', b'S', 0, 1, c.functions]);
     true
 }

@@ -1,60 +1,48 @@
-use mathlib.Core.Path.{refl}
-use native.Mathlib.Omega.{arith}
-use Rattle.unlisting.proofs.Following.{followed_none, refused_line, refused_last, line_took, line_on, refused_end, end_yes}
-use borrow.Author.Rules.{rules}
+use Rattle.std.proofs.Common.{arith}
+use Rattle.unlisting.proofs.Following.{followed_none, refused_line, refused_last, line_on, line_took, refused_end, end_yes}
 use Rattle.unlisting.proofs.read_lines.Goals as goal
 
 pub loop-at-init : goal.loop-at-init
-loop-at-init c = (search rules, refl, followed_none _ _ _ c.fresh-c.ensures)
+loop-at-init c = (omega arith, followed_none _ _ _ c.fresh-c.ensures)
 
-pub read_line-line-requires : goal.read_line-line-requires
-read_line-line-requires c =
-    let F = c.loop-at.invariant.2 in
-    (search rules, (F.state, F.stands))
+pub returns-in-Err-Not : goal.returns-in-Err-Not
+returns-in-Err-Not c =
+    let is = c.line_at-line.ensures in
+    let none =
+    refused_line _ _ _ _ _ c.loop-at.invariant.1 c.loop-at-test.true c.line_at-line.result is.text is.from is.end is.stop _
+    (rw c.in-Err-Not.field-0-is at c.in-Err-Not.ensures) _ c.no_line.ensures _ in
+    record { answer = none.0; bytes = none.1 }
 
-pub returns-in-Not : goal.returns-in-Not
-returns-in-Not c =
-    let F = c.loop-at.invariant.2 in record {
-      result_value = (refused_line _ _ _ _ _ F (search rules) _ _ (search rules) (search rules) c.line_end-end.ensures.line_end c.line_stop-stop.ensures _ _
-          c.read_line-line.ensures c.in-Not.is _ c.refused.ensures c.args.out.now).0;
-      by_index = (refused_line _ _ _ _ _ F (search rules) _ _ (search rules) (search rules) c.line_end-end.ensures.line_end c.line_stop-stop.ensures _ _
-          c.read_line-line.ensures c.in-Not.is _ c.refused.ensures _).1;
-    }
-
-pub returns-in-Begun : goal.returns-in-Begun
-returns-in-Begun c =
-    let F = c.loop-at.invariant.2 in record {
-      result_value = (refused_last _ _ _ _ _ F (search rules) _ _ (search rules) (search rules) c.line_end-end.ensures.line_end c.line_stop-stop.ensures _ _
-          c.read_line-line.ensures c.in-Begun.is _ c.refused-in-Begun.ensures c.args.out.now).0;
-      by_index = (refused_last _ _ _ _ _ F (search rules) _ _ (search rules) (search rules) c.line_end-end.ensures.line_end c.line_stop-stop.ensures _ _
-          c.read_line-line.ensures c.in-Begun.is _ c.refused-in-Begun.ensures _).1;
-    }
+pub returns-in-Err-Begun : goal.returns-in-Err-Begun
+returns-in-Err-Begun c =
+    let is = c.line_at-line.ensures in
+    let none =
+    refused_last _ _ _ _ _ c.loop-at.invariant.1 c.loop-at-test.true c.line_at-line.result is.text is.from is.end is.stop _
+    (rw c.in-Err-Begun.field-0-is at c.in-Err-Begun.ensures) _ c.no_line-in-Err-Begun.ensures _ in
+    record { answer = none.0; bytes = none.1 }
 
 pub loop-at-smaller : goal.loop-at-smaller
 loop-at-smaller c =
-    let F = c.loop-at.invariant.2 in
-    let m = line_on _ _ _ _ _ F (search rules) _ _ (search rules) (search rules) c.line_end-end.ensures.line_end c.line_stop-stop.ensures _ _
-    c.read_line-line.ensures c.in-Took.is in
-    omega arith
+    let is = c.line_at-line.ensures in
+    let further = line_on _ _ _ _ _ c.loop-at.invariant.1 c.loop-at-test.true c.line_at-line.result is.text is.from is.end is.stop _ _ c.in-Ok.ensures in
+    omega (arith, is.stop.within)
 
 pub loop-at-preserved : goal.loop-at-preserved
 loop-at-preserved c =
-    let F = c.loop-at.invariant.2 in (
-      search rules,
-      search rules,
-      line_took _ _ _ _ _ F (search rules) _ _ (search rules) (search rules) c.line_end-end.ensures.line_end c.line_stop-stop.ensures _ _
-          c.read_line-line.ensures c.in-Took.is,
+    let is = c.line_at-line.ensures in (
+      is.stop.within,
+      line_took _ _ _ _ _ c.loop-at.invariant.1 c.loop-at-test.true c.line_at-line.result is.text is.from is.end is.stop _ _ c.in-Ok.ensures,
     )
 
 pub finish-requires : goal.finish-requires
-finish-requires c =
-    let F = c.loop-at.invariant.2 in
-    (F.state, F.stands)
+finish-requires c = (c.loop-at.invariant.1.state, c.loop-at.invariant.1.stands)
 
 pub returns-then-finish : goal.returns-then-finish
 returns-then-finish c =
-    let F = c.loop-at.invariant.2 in record { result_value = (end_yes _ _ _ _ _ F (search rules) _ _ c.finish.ensures (search rules) _ refl).0; by_index = (end_yes _ _ _ _ _ F (search rules) _ _ c.finish.ensures (search rules) _ refl).1 }
+    let end = end_yes _ _ _ _ _ c.loop-at.invariant.1 c.loop-at-test.false _ _ c.finish.ensures c.if-finish.true in
+    record { answer = rw c.from.ensures end.0; bytes = end.1 }
 
-pub returns : goal.returns
-returns c =
-    let F = c.loop-at.invariant.2 in record { result_value = (refused_end _ _ _ _ _ F (search rules) _ _ c.finish.ensures (search rules) _ c.refused-2.ensures c.args.out.now).0; by_index = (refused_end _ _ _ _ _ F (search rules) _ _ c.finish.ensures (search rules) _ c.refused-2.ensures _).1 }
+pub returns-else-finish : goal.returns-else-finish
+returns-else-finish c =
+    let end = refused_end _ _ _ _ _ c.loop-at.invariant.1 c.loop-at-test.false _ _ c.finish.ensures c.if-finish.false _ c.no_line-else-finish.ensures _ in
+    record { answer = end.0; bytes = end.1 }

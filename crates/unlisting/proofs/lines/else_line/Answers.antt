@@ -1,41 +1,38 @@
 -- The else: its indent and its word; then the block's length word is put, and an empty one behind it.
-use native.Mathlib.Omega.{arith}
-use Rattle.unlisting.proofs.Said.{onto_at}
-use Rattle.unlisting.proofs.Turning.{due_owed, indent_not, indent_begun, else_not, else_begun_lem, else_taken}
+use Rattle.std.proofs.Common.{◌∙◌, arith}
+use Rattle.stating.specs.Statements.{ReadsLine}
+use Rattle.unlisting.proofs.Said.{line_unread, line_taken, ends_heard}
+use Rattle.unlisting.proofs.Turning.{due_owed, indent_heard, else_heard, turned_means, turned_laid}
 use Rattle.unlisting.proofs.lines.else_line.Goals as goal
 
-pub expect-requires : goal.expect-requires
-expect-requires c =
-    let on = onto_at _ _ c.indent.ensures.onto c.in-At.is in
-    omega arith
+pub returns-in_err-at : goal.returns-in_err-at
+unfolding ReadsLine
+returns-in_err-at c = λ p D m b.
+    line_unread _ D _ _ _ c.from_residual.ensures.1 (indent_heard _ c.requires.2 p m _ _ _ _ _ c.in_err-at.ensures.indents)
 
-pub overflow_add-c : goal.overflow_add-c
-overflow_add-c c =
-    omega (arith, c.requires.1.1.fits)
+pub returns-in_err-at-2 : goal.returns-in_err-at-2
+unfolding ReadsLine
+returns-in_err-at-2 c = λ p D m b.
+    line_unread _ D _ _ _ c.from_residual-in_err-at-2.ensures.1
+    (indent_heard _ c.requires.2 p m _ _ _ _ _ c.in_ok-at.ensures.indents ∙ else_heard _ c.requires.2 p m _ _ _ _ _ c.in_err-at-2.ensures.expects)
+
+pub returns-in_err-ends : goal.returns-in_err-ends
+unfolding ReadsLine
+returns-in_err-ends c = λ p D m b.
+    line_unread _ D _ _ _ c.from_residual-in_err-ends.ensures.1
+    (indent_heard _ c.requires.2 p m _ _ _ _ _ c.in_ok-at.ensures.indents ∙ else_heard _ c.requires.2 p m _ _ _ _ _ c.in_ok-at-2.ensures.expects
+    ∙ ends_heard _ _ _ _ _ _ c.in_err-ends.ensures c.in_ok-at-2.ensures.onto.1)
 
 pub turned-requires : goal.turned-requires
 turned-requires c =
-    (omega (arith, c.requires.1.1.fits), c.requires.2, c.requires.1.1.deep, due_owed _ _ c.requires.1.1 c.requires.2 c.requires.3)
+    let m = c.requires.1.1 in
+    (omega (arith, m.fits), c.requires.2, m.deep, due_owed _ _ m c.requires.2 c.requires.3)
 
-pub returns-in-Not : goal.returns-in-Not
-returns-in-Not c =
-    indent_not _ _ _ _ _ c.requires.2 _ _ c.indent.ensures.indents c.in-Not.is c.not.ensures
-
-pub returns-in-Begun : goal.returns-in-Begun
-returns-in-Begun c =
-    indent_begun _ _ _ _ _ c.requires.2 _ _ c.indent.ensures.indents c.in-Begun.is c.begun.ensures
-
-pub returns-in-Not-expect : goal.returns-in-Not-expect
-returns-in-Not-expect c =
-    else_not _ _ _ _ _ c.requires.2 _ _ c.indent.ensures.indents c.in-At.is c.expect.ensures.expects c.in-Not-expect.is c.not-in-Not-expect.ensures
-
-pub returns-in-Begun-expect : goal.returns-in-Begun-expect
-returns-in-Begun-expect c =
-    else_begun_lem _ _ _ _ _ c.requires.2 _ _ c.indent.ensures.indents c.in-At.is c.expect.ensures.expects c.in-Begun-expect.is c.begun-in-Begun-expect.ensures
-
-pub returns-in-At-expect : goal.returns-in-At-expect
-returns-in-At-expect c =
-    let on = onto_at _ _ c.expect.ensures.onto c.in-At-expect.is in
-    else_taken _ _ _ _ _ c.requires.2 _ _ c.indent.ensures.indents c.in-At.is c.expect.ensures.expects _ _ c.requires.3
-    c.in-At-expect.is on.1 c.ends.ensures c.turned.ensures c.put_innermost.ensures c.put.ensures
-    c.put-in-At-expect.ensures
+pub returns : goal.returns
+unfolding ReadsLine
+returns c = λ p D m b.
+    line_taken _ D _ _ _
+    (indent_heard _ c.requires.2 p m _ _ _ _ _ c.in_ok-at.ensures.indents ∙ else_heard _ c.requires.2 p m _ _ _ _ _ c.in_ok-at-2.ensures.expects
+    ∙ ends_heard _ _ _ _ _ _ c.in_ok-ends.ensures c.in_ok-at-2.ensures.onto.1)
+    (rw c.turned.ensures (turned_means _ c.requires.2 p m c.requires.3))
+    (turned_laid _ c.requires.2 p m D _ _ _ b c.put_innermost.ensures c.put_length.ensures)

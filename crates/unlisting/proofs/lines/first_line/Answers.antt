@@ -1,30 +1,35 @@
 -- The first line: its two words, one after the other, and nothing behind them.
-use native.Mathlib.Omega.{arith}
-use Rattle.unlisting.proofs.Said.{onto_at}
-use Rattle.unlisting.proofs.Heads.{first_not, first_begun, second_not, second_begun, second_ends}
+use Rattle.std.proofs.Common.{ap, ◌∙◌}
+use Rattle.rules.specs.Unlisting.{program_begun}
+use Rattle.standing.specs.Numbers.{begun_of}
+use Rattle.standing.proofs.Meaning.{means_begun}
+use Rattle.unlisting.specs.Lines.{FirstLine}
+use Rattle.unlisting.proofs.Said.{line_unread, line_taken, ends_heard}
+use Rattle.unlisting.proofs.Heads.{program_heard, version_heard}
 use Rattle.unlisting.proofs.lines.first_line.Goals as goal
 
-pub expect-requires-in-At : goal.expect-requires-in-At
-expect-requires-in-At c =
-    let on = onto_at _ _ c.expect.ensures.onto c.in-At.is in
-    omega arith
+pub returns-in_err-at : goal.returns-in_err-at
+unfolding FirstLine
+returns-in_err-at c = λ D after s.
+    line_unread _ D after _ _ c.from_residual.ensures.1 (program_heard _ _ _ _ _ c.in_err-at.ensures.expects)
 
-pub returns-in-Not : goal.returns-in-Not
-returns-in-Not c = first_not _ _ _ _ _ c.expect.ensures.expects c.in-Not.is c.not.ensures
+pub returns-in_err-at-2 : goal.returns-in_err-at-2
+unfolding FirstLine
+returns-in_err-at-2 c = λ D after s.
+    line_unread _ D after _ _ c.from_residual-in_err-at-2.ensures.1
+    (program_heard _ _ _ _ _ c.in_ok-at.ensures.expects ∙ version_heard _ _ _ _ _ c.in_err-at-2.ensures.expects)
 
-pub returns-in-Begun : goal.returns-in-Begun
-returns-in-Begun c = first_begun _ _ _ _ _ c.expect.ensures.expects c.in-Begun.is c.begun.ensures
+pub returns-in_err-ends : goal.returns-in_err-ends
+unfolding FirstLine
+returns-in_err-ends c = λ D after s.
+    line_unread _ D after _ _ c.from_residual-in_err-ends.ensures.1
+    (program_heard _ _ _ _ _ c.in_ok-at.ensures.expects ∙ version_heard _ _ _ _ _ c.in_ok-at-2.ensures.expects
+    ∙ ends_heard _ _ _ _ _ _ c.in_err-ends.ensures c.in_ok-at-2.ensures.onto.1)
 
-pub returns-in-Not-expect : goal.returns-in-Not-expect
-returns-in-Not-expect c =
-    second_not _ _ _ _ _ c.expect.ensures.expects c.in-At.is c.expect-in-At.ensures.expects c.in-Not-expect.is c.not-in-Not-expect.ensures
-
-pub returns-in-Begun-expect : goal.returns-in-Begun-expect
-returns-in-Begun-expect c =
-    second_begun _ _ _ _ _ c.expect.ensures.expects c.in-At.is c.expect-in-At.ensures.expects c.in-Begun-expect.is c.begun-in-Begun-expect.ensures
-
-pub returns-in-At-expect : goal.returns-in-At-expect
-returns-in-At-expect c =
-    let on = onto_at _ _ c.expect-in-At.ensures.onto c.in-At-expect.is in
-    second_ends _ _ _ _ _ c.expect.ensures.expects c.in-At.is c.expect-in-At.ensures.expects c.in-At-expect.is on.1 c.requires.1
-    c.begun-in-At-expect.ensures c.ends.ensures
+pub returns : goal.returns
+unfolding FirstLine
+returns c = λ D after s.
+    line_taken _ D after _ program_begun
+    (program_heard _ _ _ _ _ c.in_ok-at.ensures.expects ∙ version_heard _ _ _ _ _ c.in_ok-at-2.ensures.expects
+    ∙ ends_heard _ _ _ _ _ _ c.in_ok-ends.ensures c.in_ok-at-2.ensures.onto.1)
+    (rw (c.begun.ensures ∙ ap begun_of c.requires.1) means_begun) s

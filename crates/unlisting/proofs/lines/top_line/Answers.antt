@@ -1,20 +1,31 @@
 -- A function's line is asked for first, then main's; in main there is neither.
-use mathlib.Core.Path.{ap}
-use denote.Enum.Declared.{tag_of}
-use Rattle.stating.specs.contracts.statement.Heard.{the_type}
-use Rattle.unlisting.proofs.Tops.{one_of_two, nothing_in_main, main_after, function_stays}
-use borrow.Enum.Refused.{opened}
+use Rattle.std.proofs.Common.{sym, refl, rules}
+use denote.Enum.Bare.{same_true, same_false}
+use Rattle.standing.specs.contracts.state.Part.{the_type}
+use Rattle.unlisting.proofs.Tops.{not_main, nothing_in_main, main_after, function_begins, function_taken}
 use Rattle.unlisting.proofs.lines.top_line.Goals as goal
 
-pub returns-then-c : goal.returns-then-c
-returns-then-c c = nothing_in_main _ _ _ _ _ _ _ c.if-c.true c.not.ensures
+pub returns-then-eq : goal.returns-then-eq
+returns-then-eq c = nothing_in_main _ _ _ _ _ _ _ (same_true the_type (search rules) _ _ (sym c.if-eq.ensures))
 
-pub returns-in-Not : goal.returns-in-Not
-returns-in-Not c =
-    main_after _ _ _ _ _ _ _ _ _ _ c.if-c.false c.function_line-f.ensures.reads_line c.function_line-f.ensures.out_unchanged
-    c.in-Not.is c.main_line.ensures
+pub function_line-requires : goal.function_line-requires
+function_line-requires c =
+    (c.requires.0, c.requires.1, c.requires.2, not_main _ _ c.requires.1.1 (same_false the_type _ _ (sym c.if-eq.ensures)))
 
-pub returns-in_default : goal.returns-in_default
-returns-in_default c =
-    function_stays _ _ _ _ _ _ _ _ c.if-c.false c.function_line-f.ensures.reads_line (λ e. one_of_two _ (ap (tag_of the_type) e)
-    (opened c.in_default.in_default-own.keys2))
+pub main_line-requires : goal.main_line-requires
+main_line-requires c =
+    (c.requires.0, c.requires.1, c.requires.2, not_main _ _ c.requires.1.1 (same_false the_type _ _ (sym c.if-eq.ensures)))
+
+pub returns-in-Ok : goal.returns-in-Ok
+returns-in-Ok c =
+    function_taken _ _ _ _ _ (not_main _ _ c.requires.1.1 (same_false the_type _ _ (sym c.if-eq.ensures))) _ _ _ c.in-Ok.ensures.reads
+
+pub returns-in-Err-Begun : goal.returns-in-Err-Begun
+returns-in-Err-Begun c =
+    function_begins _ _ _ _ _ (not_main _ _ c.requires.1.1 (same_false the_type _ _ (sym c.if-eq.ensures))) _ _
+    (rw c.in-Err-Begun.field-0-is at c.in-Err-Begun.ensures.reads)
+
+pub returns-in-Err-Not : goal.returns-in-Err-Not
+returns-in-Err-Not c =
+    main_after _ _ _ _ _ (not_main _ _ c.requires.1.1 (same_false the_type _ _ (sym c.if-eq.ensures))) _ _ _ _
+    (rw c.in-Err-Not.field-0-is at c.in-Err-Not.ensures.reads) (c.in-Err-Not.ensures.unchanged (rw c.in-Err-Not.field-0-is refl)) c.main_line.ensures

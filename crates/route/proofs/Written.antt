@@ -3,8 +3,8 @@ use mathlib.Core.List.{List, [], ◌∷◌, ◌++◌, append-nil}
 use mathlib.Core.Path.{◌≡◌, refl, sym, ap, ◌∙◌}
 use native.Mathlib.Numerals.{add-one}
 use native.Mathlib.Omega.{arith}
-use Prim.Native.Nat.{ℕ, suc, ◌+◌, ◌-◌, ◌≤◌, ◌<◌}
-use lib.ListN.{length, get_or, set, drop, length-append, length-drop, drop_of_length-le}
+use Prim.Native.Nat.{ℕ, suc, ◌+◌, ◌-◌, ◌<◌}
+use lib.ListN.{length, get_or, set, drop, length-append, drop_of_length-le}
 use lib.Seq.{drop-cons, set_at, append_snoc}
 use Rattle.route.specs.Hops.{hops}
 
@@ -19,9 +19,6 @@ pub writing_start : (h : List ℕ) (a n : ℕ) (before : List ℕ) → Writing h
 writing_start h a n before = record { done = []; long = refl; held = refl; whole = let z : n ≡ n - 0 = omega arith in ap (λ (m : ℕ). hops h m a) z }
 
 module _ {h : List ℕ} {a n : ℕ} {before out : List ℕ} {x i : ℕ} (w : Writing h a n before out x i) where
-  pub writing_length : i ≤ length before → length out ≡ length before
-  writing_length l = ap length w.held ∙ length-append w.done (drop i before) ∙ rw (length-drop i before) (let e = w.long in omega arith)
-
   pub writing_more : i < n → i < length before → Writing h a n before (set out i x) (get_or h x 0) (i + 1)
   writing_more b l =
       let z : n - i ≡ suc (n - (i + 1)) = omega arith in

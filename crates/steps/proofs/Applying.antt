@@ -23,6 +23,7 @@ use Rattle.rules.specs.declared.place.Location.{Location}
 use Rattle.steps.specs.declared.Act.{Act}
 use Rattle.steps.specs.declared.Act.TheVariants.{Quiet, Takes, Gives}
 use Rattle.steps.specs.declared.Stepped.{Stepped}
+use Rattle.steps.specs.declared.job.Job.{Job}
 use Rattle.steps.specs.Performing.{Maps}
 use Rattle.steps.specs.Told.{act_of}
 use Rattle.steps.specs.Applying.{Within, Applies}
@@ -66,21 +67,21 @@ module _ (act : Act) (j : ℕ) (map : List ℕ) where
   applied_quiet k (gives l) occ e w M = other (gives l) Quiet e k (λ z. omega arith)
   applied_quiet k (merges b l c m) occ e w M = M
 
-  pub applied_taken : (l : Location) (x : ℕ) → act ≡ Takes l → x ≡ l.0 → x < 256 → Applies act j map (set map x j)
-  applied_taken l x k d h quiet occ e w M = other quiet (Takes l) e k (λ z. omega arith)
-  applied_taken l x k d h (takes q p) occ e w M =
-      let z : x ≡ p.no = d ∙ sym (ap where_at (e ∙ k)) in
-      subst (λ (y : ℕ). Maps (set map x j) (set occ y j)) z (stored map occ x j h (omega arith) M)
-  applied_taken l x k d h (gives p) occ e w M = other (gives p) (Takes l) e k (λ z. omega arith)
-  applied_taken l x k d h (merges b p c m) occ e w M = other (merges b p c m) (Takes l) e k (λ z. omega arith)
+  pub applied_taken : (l : Location) → act ≡ Takes l → l.0 < 256 → Applies act j map (set map l.0 j)
+  applied_taken l k h quiet occ e w M = other quiet (Takes l) e k (λ z. omega arith)
+  applied_taken l k h (takes q p) occ e w M =
+      let z : l.0 ≡ p.no = sym (ap where_at (e ∙ k)) in
+      subst (λ (y : ℕ). Maps (set map l.0 j) (set occ y j)) z (stored map occ l.0 j h (omega arith) M)
+  applied_taken l k h (gives p) occ e w M = other (gives p) (Takes l) e k (λ z. omega arith)
+  applied_taken l k h (merges b p c m) occ e w M = other (merges b p c m) (Takes l) e k (λ z. omega arith)
 
-  pub applied_given : (l : Location) (x : ℕ) → act ≡ Gives l → x ≡ l.0 → Applies act j map (set map x 0)
-  applied_given l x k d quiet occ e w M = other quiet (Gives l) e k (λ z. omega arith)
-  applied_given l x k d (takes q p) occ e w M = other (takes q p) (Gives l) e k (λ z. omega arith)
-  applied_given l x k d (gives p) occ e w M =
-      let z : x ≡ p.no = d ∙ sym (ap where_at (e ∙ k)) in
-      subst (λ (y : ℕ). Maps (set map x 0) (set occ y 0)) z (cleared map occ x M)
-  applied_given l x k d (merges b p c m) occ e w M = other (merges b p c m) (Gives l) e k (λ z. omega arith)
+  pub applied_given : (l : Location) → act ≡ Gives l → Applies act j map (set map l.0 0)
+  applied_given l k quiet occ e w M = other quiet (Gives l) e k (λ z. omega arith)
+  applied_given l k (takes q p) occ e w M = other (takes q p) (Gives l) e k (λ z. omega arith)
+  applied_given l k (gives p) occ e w M =
+      let z : l.0 ≡ p.no = sym (ap where_at (e ∙ k)) in
+      subst (λ (y : ℕ). Maps (set map l.0 0) (set occ y 0)) z (cleared map occ l.0 M)
+  applied_given l k (merges b p c m) occ e w M = other (merges b p c m) (Gives l) e k (λ z. omega arith)
 
 pub length_written : (j : ℕ) (a : slots.Act device) (occ : List ℕ) → length (written j a occ) ≡ length occ
 length_written j quiet occ = refl
@@ -136,6 +137,6 @@ module _ (R : Region) (fs : List Function) (v : Bool) (occ : List ℕ) (n : ℕ)
   step_within J = within_items J.top J.below J.items
 
 -- the map after a step that follows the rules', by what was applied
-pub step_applied : (s : List ℕ) (p : Program) (R : Region) (v : Bool) (occ map after : List ℕ) (j : ℕ) (J : rules.Job) (r : Stepped) → length R.owned ≤ length occ → Maps map occ
-    → Follows s p (step R p.functions v (free_in R occ) J) r → Applies r.act j map after → Maps after (written j (step R p.functions v (free_in R occ) J).act occ)
-step_applied s p R v occ map after j J r h M F A = A (step R p.functions v (free_in R occ) J).act occ (sym F.2) (step_within R p.functions v occ (length occ) h J) M
+pub step_applied : (s : List ℕ) (p : Program) (R : Region) (v : Bool) (occ map after : List ℕ) (j : ℕ) (J : rules.Job) (i : Job) (r : Stepped) → length R.owned ≤ length occ → Maps map occ
+    → Follows s p (step R p.functions v (free_in R occ) J) i r → Applies r.act j map after → Maps after (written j (step R p.functions v (free_in R occ) J).act occ)
+step_applied s p R v occ map after j J i r h M F A = A (step R p.functions v (free_in R occ) J).act occ (sym F.2) (step_within R p.functions v occ (length occ) h J) M

@@ -1,5 +1,5 @@
 -- What a call asks, exit by exit: each test of the code is the check of the rules at that place.
-use mathlib.Core.Bool.{Bool, true, false, ◌&&◌}
+use mathlib.Core.Bool.{Bool, true, false, not, ◌&&◌}
 use mathlib.Core.List.{List, [], ◌∷◌}
 use mathlib.Core.Path.{◌≡◌, refl, sym, ap, ◌∙◌, fun_ext}
 use native.Mathlib.Numerals.{add-one}
@@ -8,41 +8,45 @@ use Prim.Native.Nat.{ℕ, zero, suc, ◌+◌, ◌≤◌, ◌<◌}
 use lib.Dec.{eqb}
 use lib.ListN.{get_or, length, drop}
 use lib.Seq.{drop-cons}
-use borrow.Author.Tests.{eq-eqb, ne_eqb}
+use Rattle.std.specs.Prelude.{Result, Ok, Err}
+use Rattle.answers.specs.declared.Fault.{Fault}
+use Rattle.answers.specs.declared.Fault.TheVariants.{Outside, Taken, Twice, Elsewhere}
 use Rattle.answers.specs.Check.{Check, ok, refused, ◌>>=◌, ◌>>◌, need}
 use Rattle.rules.specs.declared.place.Location.{Location}
 use Rattle.rules.specs.Basics.{all, distinct}
 use Rattle.rules.specs.Region.{Region, owns, free_in}
-use Rattle.rules.specs.Syntax.{Side, device, Place, Function}
+use Rattle.rules.specs.Syntax.{Side, device, Place}
 use Rattle.rules.specs.Slots.{slot, need_qubit, Setting, arguments_at}
-use Rattle.rules.specs.Machine.{Actual, floor}
+use Rattle.rules.specs.Machine.{floor}
 use Rattle.sets.specs.declared.LocationSet.{LocationSet}
 use Rattle.sets.specs.Sets.{has}
 use Rattle.device.specs.Reader.{Owned}
 use Rattle.steps.specs.declared.slots.Slots.{Slots}
-use Rattle.steps.specs.declared.slots.Placed.{Placed}
-use Rattle.steps.specs.declared.slots.Placed.TheVariants.{At, Nowhere}
-use Rattle.steps.specs.declared.asks.Asked.{Asked}
-use Rattle.steps.specs.declared.asks.Asked.TheVariants.{Granted, Refused}
+use Rattle.steps.specs.Said.{said_at, itself}
 use Rattle.steps.specs.State.{place_of, slots_of}
 use Rattle.steps.specs.Performing.{Maps}
-use Rattle.steps.specs.Calling.{asked_said, numbers, argument_at, Arguments, Callable}
-use Rattle.steps.proofs.Perform.{Qubit, qubit_is}
+use Rattle.steps.specs.Calling.{numbers, argument_at, Arguments, Callable}
+use Rattle.steps.proofs.Perform.{Refuses, Gives, qubit_of}
+
+-- what a test that was turned round says
+pub turned : (b t : Bool) → b ≡ not t → t ≡ not b
+turned b true e = ap not (sym e)
+turned b false e = ap not (sym e)
 
 -- one argument
-module _ (φ : Slots) (x : ℕ) (l : Location) (w : Placed) (h : Qubit φ x w) where
-  pub argument_11 : w ≡ Nowhere → (o : ℕ) → asked_said (Refused 11) o ≡ argument_at φ x l o
+module _ (φ : Slots) (x : ℕ) (l : Location) where
+  pub argument_stops : (r : Result (Unit {0}) Fault) (reason : Fault) → r ≡ Err reason → Refuses reason (qubit_of φ x) → (o : ℕ) → said_at itself r o ≡ argument_at φ x l o
   unfolding argument_at ◌>>=◌
-  argument_11 e o = sym (rw (qubit_is φ x w Nowhere h e o))
+  argument_stops r reason k e o = ap (λ (z : Result (Unit {0}) Fault). said_at itself z o) k ∙ sym (rw (sym (e o)) refl)
 
-  module _ (k : Location) (e : w ≡ At k) where
-    pub argument_16 : (k.0 ≡ l.0 → ⊥) → (o : ℕ) → asked_said (Refused 16) o ≡ argument_at φ x l o
+  module _ (k : Location) (h : Gives (place_of k) (qubit_of φ x)) where
+    pub argument_elsewhere : eqb k.0 l.0 ≡ false → Refuses Elsewhere (argument_at φ x l)
     unfolding argument_at ◌>>=◌
-    argument_16 n o = sym (rw (qubit_is φ x w (At k) h e o, ne_eqb k.0 l.0 n))
+    argument_elsewhere n o = sym (rw (sym (h o), n) refl)
 
-    pub argument_fine : k.0 ≡ l.0 → (o : ℕ) → asked_said Granted o ≡ argument_at φ x l o
+    pub argument_there : eqb k.0 l.0 ≡ true → Gives tt (argument_at φ x l)
     unfolding argument_at ◌>>=◌
-    argument_fine n o = sym (rw (qubit_is φ x w (At k) h e o, eq-eqb k.0 l.0 n))
+    argument_there n o = sym (rw (sym (h o), n) refl)
 
 -- the arguments from the i-th on
 pub record Left (φ : Slots) (xs : List ℕ) (ls : List (Place device)) (i : ℕ) : Type 0 where
@@ -51,8 +55,8 @@ pub record Left (φ : Slots) (xs : List ℕ) (ls : List (Place device)) (i : ℕ
 pub left_all : (φ : Slots) (xs : List ℕ) (ls : List (Place device)) → Left φ xs ls 0
 left_all φ xs ls = record { same = λ d W o. refl }
 
-module _ (φ : Slots) (xs : List ℕ) (ls : List (Place device)) (i : ℕ) (h : Left φ xs ls i) (x : ℕ) (l : Location) (a : Asked) (hx : i < length xs) (hl : i < length ls) (ex : x ≡ get_or xs i 0) (el : place_of l ≡ get_or ls i (record { no = 0 }))
-    (ea : (o : ℕ) → asked_said a o ≡ argument_at φ x l o) where
+module _ (φ : Slots) (xs : List ℕ) (ls : List (Place device)) (i : ℕ) (h : Left φ xs ls i) (x : ℕ) (l : Location) (hx : i < length xs) (hl : i < length ls) (ex : x ≡ get_or xs i 0)
+    (el : place_of l ≡ get_or ls i (record { no = 0 })) where
   first : {d : Side} (W : Setting d device Bool) (o : ℕ) (ys : List ℕ) (ks : List (Place device)) → arguments_at W o (slots_of φ) (x ∷ ys) (place_of l ∷ ks) ≡ (argument_at φ x l o >> arguments_at W o (slots_of φ) ys ks)
   unfolding argument_at ◌>>=◌ ◌>>◌
   first W o ys ks = go (need_qubit (slot (slots_of φ) x) o)
@@ -61,20 +65,22 @@ module _ (φ : Slots) (xs : List ℕ) (ls : List (Place device)) (i : ℕ) (h : 
       go (ok k) = refl
       go (refused r) = refl
 
-  next : {d : Side} (W : Setting d device Bool) (o : ℕ) → arguments_at W o (slots_of φ) (drop i xs) (drop i ls) ≡ (asked_said a o >> arguments_at W o (slots_of φ) (drop (i + 1) xs) (drop (i + 1) ls))
+  next : {d : Side} (W : Setting d device Bool) (o : ℕ) → arguments_at W o (slots_of φ) xs ls ≡ (argument_at φ x l o >> arguments_at W o (slots_of φ) (drop (i + 1) xs) (drop (i + 1) ls))
   next W o =
-      ap (λ (ys : List ℕ). arguments_at W o (slots_of φ) ys (drop i ls)) (drop-cons xs i 0 hx ∙ ap (λ (z : ℕ). z ∷ drop (suc i) xs) (sym ex))
+      h.same _ W o ∙ ap (λ (ys : List ℕ). arguments_at W o (slots_of φ) ys (drop i ls)) (drop-cons xs i 0 hx ∙ ap (λ (z : ℕ). z ∷ drop (suc i) xs) (sym ex))
       ∙ ap (λ (ks : List (Place device)). arguments_at W o (slots_of φ) (x ∷ drop (suc i) xs) ks) (drop-cons ls i (record { no = 0 }) hl ∙ ap (λ (z : Place device). z ∷ drop (suc i) ls) (sym el))
-      ∙ first W o (drop (suc i) xs) (drop (suc i) ls) ∙ ap (λ (m : Check (Unit {0})). m >> arguments_at W o (slots_of φ) (drop (suc i) xs) (drop (suc i) ls)) (sym (ea o))
-      ∙ ap (λ (n : ℕ). asked_said a o >> arguments_at W o (slots_of φ) (drop n xs) (drop n ls)) (sym (add-one i))
+      ∙ first W o (drop (suc i) xs) (drop (suc i) ls)
+      ∙ ap (λ (n : ℕ). argument_at φ x l o >> arguments_at W o (slots_of φ) (drop n xs) (drop n ls)) (sym (add-one i))
 
-  pub left_more : a ≡ Granted → Left φ xs ls (i + 1)
+  pub left_more : Gives tt (argument_at φ x l) → Left φ xs ls (i + 1)
   unfolding ◌>>◌
-  left_more e = record { same = λ d W o. h.same d W o ∙ next W o ∙ ap (λ (z : Asked). asked_said z o >> arguments_at W o (slots_of φ) (drop (i + 1) xs) (drop (i + 1) ls)) e }
+  left_more e = record { same = λ d W o. next W o ∙ ap (λ (m : Check (Unit {0})). m >> arguments_at W o (slots_of φ) (drop (i + 1) xs) (drop (i + 1) ls)) (sym (e o)) }
 
-  pub left_refused : (n : ℕ) → a ≡ Refused n → Arguments φ xs ls (Refused n)
+  pub left_stops : (r : Result (Unit {0}) Fault) (reason : Fault) → r ≡ Err reason → Refuses reason (argument_at φ x l) → Arguments φ xs ls r
   unfolding ◌>>◌
-  left_refused n e d W o = sym (h.same d W o ∙ next W o ∙ ap (λ (z : Asked). asked_said z o >> arguments_at W o (slots_of φ) (drop (i + 1) xs) (drop (i + 1) ls)) e)
+  left_stops r reason k e d W o =
+      ap (λ (z : Result (Unit {0}) Fault). said_at itself z o) k
+      ∙ sym (next W o ∙ ap (λ (m : Check (Unit {0})). m >> arguments_at W o (slots_of φ) (drop (i + 1) xs) (drop (i + 1) ls)) (sym (e o)))
 
 drop_all : (L : List ℕ) (i : ℕ) → length L ≤ i → drop i L ≡ []
 drop_all [] zero h = refl
@@ -82,50 +88,51 @@ drop_all [] (suc i) h = refl
 drop_all (x ∷ L) zero h = absurd (omega arith)
 drop_all (x ∷ L) (suc i) h = drop_all L i (omega arith)
 
-pub left_end : (φ : Slots) (xs : List ℕ) (ls : List (Place device)) (i : ℕ) → Left φ xs ls i → length xs ≤ i → Arguments φ xs ls Granted
+pub left_end : (φ : Slots) (xs : List ℕ) (ls : List (Place device)) (i : ℕ) → Left φ xs ls i → length xs ≤ i → Arguments φ xs ls (Ok tt)
 left_end φ xs ls i h l d W o = sym (h.same d W o ∙ ap (λ (ys : List ℕ). arguments_at W o (slots_of φ) ys (drop i ls)) (drop_all xs i l))
 
 -- all that a call asks
-module _ (φ : Slots) (xs : List ℕ) (ls : List (Place device)) (owned : LocationSet) (map : List ℕ) (b₁ : Bool) (e₁ : b₁ ≡ all (λ l. has owned l.no) ls) where
-  inside_all : (b : Bool) → b₁ ≡ b → (R : Region) → Owned R owned → all (λ l. owns R l.no) ls ≡ b
-  inside_all b t R O =
+module _ (φ : Slots) (xs : List ℕ) (ls : List (Place device)) (owned : LocationSet) (map : List ℕ) where
+  inside_all : (b : Bool) → b ≡ all (λ l. has owned l.no) ls → (R : Region) → Owned R owned → all (λ l. owns R l.no) ls ≡ b
+  inside_all b e R O =
       let z : ◌≡◌ {A = Place device → Bool} (λ l. owns R l.no) (λ l. has owned l.no) = fun_ext λ l. sym (O.owned l.no) in
-      ap (λ (P : Place device → Bool). all P ls) z ∙ sym e₁ ∙ t
+      ap (λ (P : Place device → Bool). all P ls) z ∙ sym e
 
-  pub call_13 : b₁ ≡ false → Callable φ xs ls owned map (Refused 13)
+  pub call_outside : false ≡ all (λ l. has owned l.no) ls → Callable φ xs ls owned map (Err Outside)
   unfolding ◌>>=◌ ◌>>◌
-  call_13 t d σ R fs v occupancy O M o = sym (rw (inside_all false t R O))
+  call_outside t d σ R fs v occupancy O M o = sym (rw (inside_all false t R O) refl)
 
-  module _ (t₁ : b₁ ≡ true) (b₂ : Bool) (e₂ : b₂ ≡ distinct (numbers ls)) where
-    pub call_15 : b₂ ≡ false → Callable φ xs ls owned map (Refused 15)
+  module _ (t₁ : true ≡ all (λ l. has owned l.no) ls) where
+    pub call_twice : false ≡ distinct (numbers ls) → Callable φ xs ls owned map (Err Twice)
     unfolding ◌>>=◌ ◌>>◌
-    call_15 t d σ R fs v occupancy O M o = sym (rw (inside_all true t₁ R O, sym e₂ ∙ t))
+    call_twice t d σ R fs v occupancy O M o = sym (rw (inside_all true t₁ R O, sym t) refl)
 
-    module _ (t₂ : b₂ ≡ true) (b₃ : Bool) (e₃ : b₃ ≡ distinct xs) where
-      pub call_15_slots : b₃ ≡ false → Callable φ xs ls owned map (Refused 15)
+    module _ (t₂ : true ≡ distinct (numbers ls)) where
+      pub call_slot_twice : false ≡ distinct xs → Callable φ xs ls owned map (Err Twice)
       unfolding ◌>>=◌ ◌>>◌
-      call_15_slots t d σ R fs v occupancy O M o = sym (rw (inside_all true t₁ R O, sym e₂ ∙ t₂, sym e₃ ∙ t))
+      call_slot_twice t d σ R fs v occupancy O M o = sym (rw (inside_all true t₁ R O, sym t₂, sym t) refl)
 
-      module _ (t₃ : b₃ ≡ true) (a : Asked) (ea : Arguments φ xs ls a) where
-        pub call_argument : (n : ℕ) → a ≡ Refused n → Callable φ xs ls owned map (Refused n)
+      module _ (t₃ : true ≡ distinct xs) where
+        pub call_argument : (r : Result (Unit {0}) Fault) (reason : Fault) → r ≡ Err reason → Arguments φ xs ls (Err reason) → Callable φ xs ls owned map r
         unfolding ◌>>=◌ ◌>>◌
-        call_argument n t d σ R fs v occupancy O M o =
-            sym (rw (inside_all true t₁ R O, sym e₂ ∙ t₂, sym e₃ ∙ t₃, sym (ea d (floor R fs v (free_in R occupancy) σ) o) ∙ ap (λ (z : Asked). asked_said z o) t))
+        call_argument r reason k a d σ R fs v occupancy O M o =
+            ap (λ (z : Result (Unit {0}) Fault). said_at itself z o) k
+            ∙ sym (rw (inside_all true t₁ R O, sym t₂, sym t₃, sym (a d (floor R fs v (free_in R occupancy) σ) o)) refl)
 
-        module _ (t₄ : a ≡ Granted) (m : ℕ) (em : length xs ≡ m) (b₅ : Bool) (e₅ : b₅ ≡ all (λ l. has owned l.no && eqb (get_or map l.no 0) 0) (drop m ls)) where
-          free_all : (b : Bool) → b₅ ≡ b → (R : Region) (occupancy : List ℕ) → Owned R owned → Maps map occupancy → all (λ l. free_in R occupancy l.no) (drop (length xs) ls) ≡ b
-          free_all b t R occupancy O M =
+        module _ (a : Arguments φ xs ls (Ok tt)) where
+          free_all : (b : Bool) → b ≡ all (λ l. has owned l.no && eqb (get_or map l.no 0) 0) (drop (length xs) ls) → (R : Region) (occupancy : List ℕ) → Owned R owned → Maps map occupancy
+              → all (λ l. free_in R occupancy l.no) (drop (length xs) ls) ≡ b
+          free_all b e R occupancy O M =
               let z : ◌≡◌ {A = Place device → Bool} (λ l. free_in R occupancy l.no) (λ l. has owned l.no && eqb (get_or map l.no 0) 0) =
               fun_ext λ l. ap (λ (y : Bool). y && eqb (get_or occupancy l.no 0) 0) (sym (O.owned l.no)) ∙ ap (λ (y : ℕ). has owned l.no && eqb y 0) (sym (M.same l.no)) in
-              ap (λ (n : ℕ). all (λ l. free_in R occupancy l.no) (drop n ls)) em ∙ ap (λ (P : Place device → Bool). all P (drop m ls)) z ∙ sym e₅ ∙ t
+              ap (λ (P : Place device → Bool). all P (drop (length xs) ls)) z ∙ sym e
 
-          granted : (d : Side) (σ : Actual d) (R : Region) (fs : List Function) (v : Bool) (occupancy : List ℕ) (o : ℕ) → arguments_at (floor R fs v (free_in R occupancy) σ) o (slots_of φ) xs ls ≡ ok tt
-          granted d σ R fs v occupancy o = sym (ea d (floor R fs v (free_in R occupancy) σ) o) ∙ ap (λ (z : Asked). asked_said z o) t₄
-
-          pub call_14 : b₅ ≡ false → Callable φ xs ls owned map (Refused 14)
+          pub call_taken : false ≡ all (λ l. has owned l.no && eqb (get_or map l.no 0) 0) (drop (length xs) ls) → Callable φ xs ls owned map (Err Taken)
           unfolding ◌>>=◌ ◌>>◌
-          call_14 t d σ R fs v occupancy O M o = sym (rw (inside_all true t₁ R O, sym e₂ ∙ t₂, sym e₃ ∙ t₃, granted d σ R fs v occupancy o, free_all false t R occupancy O M))
+          call_taken t d σ R fs v occupancy O M o =
+              sym (rw (inside_all true t₁ R O, sym t₂, sym t₃, sym (a d (floor R fs v (free_in R occupancy) σ) o), free_all false t R occupancy O M) refl)
 
-          pub call_granted : b₅ ≡ true → Callable φ xs ls owned map Granted
+          pub call_granted : true ≡ all (λ l. has owned l.no && eqb (get_or map l.no 0) 0) (drop (length xs) ls) → Callable φ xs ls owned map (Ok tt)
           unfolding ◌>>=◌ ◌>>◌
-          call_granted t d σ R fs v occupancy O M o = sym (rw (inside_all true t₁ R O, sym e₂ ∙ t₂, sym e₃ ∙ t₃, granted d σ R fs v occupancy o, free_all true t R occupancy O M))
+          call_granted t d σ R fs v occupancy O M o =
+              sym (rw (inside_all true t₁ R O, sym t₂, sym t₃, sym (a d (floor R fs v (free_in R occupancy) σ) o), free_all true t R occupancy O M) refl)

@@ -8,7 +8,9 @@ use native.Mathlib.Omega.{arith}
 use Prim.Native.Nat.{ℕ, ◌+◌, ◌-◌, ◌≤◌, ◌<◌}
 use lib.ListN.{length}
 use borrow.Author.Tests.{eq-eqb, ne_eqb}
-use Rattle.answers.specs.Check.{Check, ok, refused, refusal}
+use Rattle.std.specs.Prelude.{Result, Ok, Err}
+use Rattle.answers.specs.declared.Fault.{Fault}
+use Rattle.answers.specs.Check.{number_of, Check, ok, refused, refusal}
 use Rattle.rules.specs.Region.{Region}
 use Rattle.rules.specs.Syntax.{Side, Statement, Function, function, Program}
 use Rattle.rules.specs.Program.{Scope}
@@ -17,18 +19,17 @@ use Rattle.rules.specs.Machine.{Actual, locate, Item, run, statements_before, of
 use Rattle.program.specs.In.{StatementIn, ProgramIn}
 use Rattle.program.proofs.In.{statement_byte}
 use Rattle.steps.specs.declared.Act.{Act}
-use Rattle.steps.specs.declared.Stepped.{Stepped}
+use Rattle.steps.specs.declared.slots.Slots.{Slots}
+use Rattle.steps.specs.declared.operations.Performed.{Performed}
 use Rattle.steps.specs.declared.frames.Frame.{Frame}
 use Rattle.steps.specs.declared.job.Job.{Job}
-use Rattle.steps.specs.declared.operations.Told.TheVariants.{Moved, Stuck}
-use Rattle.steps.specs.declared.operations.Performed.{Performed}
+use Rattle.steps.specs.declared.Effect.{Effect}
 use Rattle.steps.specs.State.{place_of, slots_of, here_of, with_slots, advanced, with_top, located_in}
-use Rattle.steps.specs.Told.{act_of}
+use Rattle.steps.specs.Told.{told, act_of}
 use Rattle.steps.specs.Standing.{FrameIn, FramesIn, Stands}
-use Rattle.steps.specs.Performing.{Tells, moves, fails, Named}
-use Rattle.steps.specs.Stepping.{stuck_at, moved_at, Follows, Steady}
+use Rattle.steps.specs.Performing.{Answer, performed, Tells, moves, fails, Named}
+use Rattle.steps.specs.Stepping.{Follows, Steady, Comes}
 use Rattle.steps.proofs.Seen.{offset_seen}
-use Rattle.steps.proofs.Unique.{one_told}
 use Rattle.steps.proofs.Stand.{Head, head_of, Top, top_of, passed, advanced_kept}
 
 pub record Next (s : List ℕ) (p : Program) (J : rules.Job) (j : Job) (at : ℕ) : Type 0 where
@@ -102,11 +103,25 @@ next s p J j at P St h e = record {
     here : StatementIn s T.S H.depths at H.t H.q
     here = subst (λ (a : ℕ). StatementIn s T.S H.depths a H.t H.q) (sym e) H.here
 
+-- an answer has a value or a reason, one of them
+not_both : {w : Performed} {reason : Fault} → ◌≡◌ {A = Answer} (Ok w) (Err reason) → ⊥
+not_both e = let z : ◌≡◌ {A = ℕ} 0 1 = ap (λ (a : Answer). elim a [ Ok w ↦ 0 | Err r ↦ 1 ]) e in absurd (omega arith)
+
+same_value : {w z : Performed} → ◌≡◌ {A = Answer} (Ok w) (Ok z) → w ≡ z
+same_value {w} e = ap (λ (a : Answer). elim a [ Ok x ↦ x | Err r ↦ w ]) e
+
+same_reason : {x y : Fault} → ◌≡◌ {A = Answer} (Err x) (Err y) → x ≡ y
+same_reason {x} e = ap (λ (a : Answer). elim a [ Ok w ↦ x | Err r ↦ r ]) e
+
 module _ (s : List ℕ) (p : Program) (J : rules.Job) (j : Job) (at : ℕ) (N : Next s p J j at) (St : Stands s p J j)
-    (R : Region) (v : Bool) (is_free : ℕ → Bool) (r : Stepped) where
+    (R : Region) (v : Bool) (is_free : ℕ → Bool) where
   -- the rules' move of the statement to come
   abbrev pub moved : Check Move
   moved = move R p.functions v is_free (slots_of j.top.slots) J.below (run N.σ N.t) N.rest
+
+  -- a step leaves the job i and tells r
+  abbrev pub Leaves : Job → Result Effect Fault → Type 0
+  Leaves i r = Follows s p (step R p.functions v is_free J) i (told r at)
 
   abbrev before : rules.Job
   before = record { top = slots_of j.top.slots; below = J.below; items = run N.σ N.t ∷ N.rest }
@@ -117,81 +132,64 @@ module _ (s : List ℕ) (p : Program) (J : rules.Job) (j : Job) (at : ℕ) (N : 
       ∙ ap (λ (is : List Item). step_items R p.functions v is_free (slots_of j.top.slots) J.below is) N.items
       ∙ ap (λ (o : ℕ). stepped before o moved) N.offset
 
-  follows : (c : Check Move) → moved ≡ c → Follows s p (stepped before at c) r → Follows s p (step R p.functions v is_free J) r
-  follows c e F = subst (λ (S : rules.Stepped). Follows s p S r) (sym (step_is ∙ ap (stepped before at) e)) F
+  follows : (i : Job) (r : Result Effect Fault) (c : Check Move) → moved ≡ c → Follows s p (stepped before at c) i (told r at) → Leaves i r
+  follows i r c e F = subst (λ (S : rules.Stepped). Follows s p S i (told r at)) (sym (step_is ∙ ap (stepped before at) e)) F
 
-  pub stays : (n o : ℕ) → moved ≡ refused (refusal n o) → r ≡ stuck_at j n at → Follows s p (step R p.functions v is_free J) r
-  stays n o e k =
-      follows (refused (refusal n o)) e (
-        subst (λ (z : Stepped). Stands s p before z.job) (sym k)
-            (record {
-              top = refl;
-              sized = St.sized;
-              frames = subst (λ (is : List Item). FramesIn s p.functions j.below j.depth j.top J.below is) N.items St.frames;
-            }),
-        ap (λ (z : Stepped). z.record) k,
-        ap (λ (z : Stepped). z.act) k,
-      )
+  pub stays : (r : Result Effect Fault) (reason : Fault) (o : ℕ) → r ≡ Err reason → moved ≡ refused (refusal (number_of reason) o) → Leaves j r
+  stays r reason o k e =
+      subst (Leaves j) (sym k)
+      (follows j (Err reason) (refused (refusal (number_of reason) o)) e (
+        record {
+          top = refl;
+          sized = St.sized;
+          frames = subst (λ (is : List Item). FramesIn s p.functions j.below j.depth j.top J.below is) N.items St.frames;
+        },
+        refl,
+        refl,
+      ))
 
-  pub goes_on : (m : Move) (i : Job) → moved ≡ ok m → Stands s p m.next i → r ≡ moved_at i m.edges (act_of m.act) at
-      → Follows s p (step R p.functions v is_free J) r
-  goes_on m i e w k =
-      follows (ok m) e (subst (λ (z : Stepped). Stands s p m.next z.job) (sym k) w, ap (λ (z : Stepped). z.record) k, ap (λ (z : Stepped). z.act) k)
+  pub goes_on : (m : Move) (i : Job) → moved ≡ ok m → Stands s p m.next i → Leaves i (Ok (record { edges = m.edges; act = act_of m.act }))
+  goes_on m i e w = follows i (Ok (record { edges = m.edges; act = act_of m.act })) (ok m) e (w, refl, refl)
 
   -- another top frame, that came by the same call
   pub frame_goes : (m : Move) (f : Frame) → moved ≡ ok m → m.next.below ≡ J.below → m.next.top ≡ slots_of f.slots
       → f.call ≡ j.top.call → f.places ≡ j.top.places
-      → FrameIn s N.S N.σ f N.after m.next.items → r ≡ moved_at (with_top j f) m.edges (act_of m.act) at
-      → Follows s p (step R p.functions v is_free J) r
-  frame_goes m f e b φ c l F k =
+      → FrameIn s N.S N.σ f N.after m.next.items → Leaves (with_top j f) (Ok (record { edges = m.edges; act = act_of m.act }))
+  frame_goes m f e b φ c l F =
       goes_on m (with_top j f) e
       (record {
         top = φ;
         sized = St.sized;
         frames = subst (λ (φs : List rules.Frame). FramesIn s p.functions j.below j.depth f φs m.next.items) (sym b)
             (N.again f m.next.items c l F);
-      }) k
+      })
 
   -- an operation, by what it told
-  told_stuck : (o : Performed) (c : Check Move) → moved ≡ c → Tells o J.below N.rest c → (n : ℕ) → o.told ≡ Stuck n
-      → r ≡ stuck_at j n at → Follows s p (step R p.functions v is_free J) r
-  told_stuck o c e (moves {e = i} a b d) n t k =
-      let l : o.told ≡ Moved i = one_told o.told (Moved i) 0 (a 0) in
-      let z : ◌≡◌ {A = ℕ} 0 1 = cc in
-      absurd (omega arith)
-  told_stuck o c e (fails {n = i} {o = q} a) n t k =
-      let l : o.told ≡ Stuck i = one_told o.told (Stuck i) q a in
-      let z : i ≡ n = cc in
-      stays i q e (k ∙ ap (λ (z : ℕ). stuck_at j z at) (sym z))
+  told_stuck : (r : Result Effect Fault) (a : Answer) (reason : Fault) (c : Check Move) → moved ≡ c → Tells a J.below N.rest c → a ≡ Err reason → r ≡ Err reason → Leaves j r
+  told_stuck r a reason c e (moves u b) t k = absurd (not_both (sym u ∙ t))
+  told_stuck r a reason c e (fails {reason = i} {o = q} u) t k = stays r i q (k ∙ ap Err (same_reason (sym t ∙ u))) e
 
-  told_moved : (o : Performed) (c : Check Move) → moved ≡ c → Tells o J.below N.rest c → (e : ℕ) → o.told ≡ Moved e
-      → r ≡ moved_at (with_top j (with_slots (advanced j.top N.q) o.slots)) e o.act at → Follows s p (step R p.functions v is_free J) r
-  told_moved o c u (moves {φ = φ} {a = x} {e = i} a b d) e t k =
-      let h : o.told ≡ Moved i = one_told o.told (Moved i) 0 (a 0) in
-      let z : i ≡ e = cc in
+  told_moved : (a : Answer) (φ : Slots) (n : ℕ) (act : Act) (c : Check Move) → moved ≡ c → Tells a J.below N.rest c → a ≡ Ok (performed φ n act)
+      → Leaves (with_top j (with_slots (advanced j.top N.q) φ)) (Ok (record { edges = n; act = act }))
+  told_moved a φ n act c u (moves {φ = χ} {a = x} {e = i} {ψ = ψ} w b) t =
       let l = advanced_kept j.top N.q in
-      let w = N.past in
-      let f : Frame = with_slots (advanced j.top N.q) o.slots in
-      let told = ap (λ (z : ℕ). moved_at (with_top j f) z o.act at) (sym z) ∙ ap (λ (y : Act). moved_at (with_top j f) i y at) d in
-      frame_goes (record { next = record { top = φ; below = J.below; items = N.rest }; act = x; edges = i }) f u refl (sym b) l.call l.places
-      (record { sized = w.sized; room = w.room; ranges = w.ranges }) (k ∙ told)
-  told_moved o c u (fails {n = i} {o = q} a) e t k =
-      let h : o.told ≡ Stuck i = one_told o.told (Stuck i) q a in
-      let z : ◌≡◌ {A = ℕ} 0 1 = cc in
-      absurd (omega arith)
+      let p = N.past in
+      let same : performed ψ i (act_of x) ≡ performed φ n act = same_value (sym w ∙ t) in
+      let goes = frame_goes (record { next = record { top = χ; below = J.below; items = N.rest }; act = x; edges = i }) (with_slots (advanced j.top N.q) ψ) u refl (sym b) l.call l.places
+      (record { sized = p.sized; room = p.room; ranges = p.ranges }) in
+      subst (λ (z : Performed). Leaves (with_top j (with_slots (advanced j.top N.q) z.slots)) (Ok (record { edges = z.edges; act = z.act }))) same goes
+  told_moved a φ n act c u (fails w) t = absurd (not_both (sym t ∙ w))
 
-  pub operation_stuck : (o : Performed) → Tells o J.below N.rest moved → (n : ℕ) → o.told ≡ Stuck n → r ≡ stuck_at j n at
-      → Follows s p (step R p.functions v is_free J) r
-  operation_stuck o T n t k = told_stuck o moved refl T n t k
+  pub operation_stuck : (r : Result Effect Fault) (a : Answer) (reason : Fault) → Tells a J.below N.rest moved → a ≡ Err reason → r ≡ Err reason → Leaves j r
+  operation_stuck r a reason T t k = told_stuck r a reason moved refl T t k
 
-  pub operation_moved : (o : Performed) → Tells o J.below N.rest moved → (e : ℕ) → o.told ≡ Moved e
-      → r ≡ moved_at (with_top j (with_slots (advanced j.top N.q) o.slots)) e o.act at
-      → Follows s p (step R p.functions v is_free J) r
-  operation_moved o T e t k = told_moved o moved refl T e t k
+  pub operation_moved : (a : Answer) (φ : Slots) (n : ℕ) (act : Act) → Tells a J.below N.rest moved → a ≡ Ok (performed φ n act)
+      → Leaves (with_top j (with_slots (advanced j.top N.q) φ)) (Ok (record { edges = n; act = act }))
+  operation_moved a φ n act T t = told_moved a φ n act moved refl T t
 
 -- a job that stands for some job of the rules has room for its ranges
 pub room_there : {s : List ℕ} {j : Job} → Steady s j → j.top.n ≤ 8
 room_there {s} {j} Q = (top_of s Q.p.functions j.below j.depth j.top Q.J.below Q.J.items Q.stands.frames).frame.room
 
-pub coming : {s : List ℕ} {j : Job} (Q : Steady s j) → 0 < j.top.n → (at : ℕ) → at ≡ here_of j.top → Next s Q.p Q.J j at
-coming {s} {j} Q h at e = next s Q.p Q.J j at Q.program Q.stands h e
+pub coming : {s : List ℕ} {j : Job} {at : ℕ} (C : Comes s j at) → Next s C.steady.p C.steady.J j at
+coming {s} {j} {at} C = next s C.steady.p C.steady.J j at C.steady.program C.steady.stands C.some C.here

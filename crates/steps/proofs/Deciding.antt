@@ -3,10 +3,14 @@
 use mathlib.Core.Bool.{Bool}
 use mathlib.Core.List.{List, []}
 use mathlib.Core.Path.{◌≡◌, refl, sym, ap, ◌∙◌, subst}
-use native.Mathlib.Nat.{add-zero}
 use native.Mathlib.Omega.{arith}
 use Prim.Native.Nat.{ℕ, suc, ◌+◌, ◌≤◌, ◌<◌}
 use lib.ListN.{length, replicate}
+use Rattle.std.specs.Prelude.{Result, Ok}
+use Rattle.answers.specs.declared.Fault.{Fault}
+use Rattle.rules.specs.declared.statements.Kind.{Kind}
+use Rattle.rules.specs.declared.statements.Kind.TheVariants.{Init, Magic, Free, Gate, Measure, Merge, Ref, Get, Set, If, While, Call, Bool as Truth}
+use Rattle.rules.specs.Kinds.{byte_of}
 use Rattle.rules.specs.declared.place.Location.{Location}
 use Rattle.rules.specs.Basics.{byte, word}
 use Rattle.rules.specs.Region.{free_in}
@@ -16,19 +20,23 @@ use Rattle.rules.specs.Slots.{unbound}
 use Rattle.rules.specs.Machine as rules
 use Rattle.rules.specs.Machine.{themselves, Item, statements_before, block_before}
 use Rattle.sets.specs.declared.LocationSet.{LocationSet}
+use Rattle.sets.specs.declared.rows.Rows.{Rows}
 use Rattle.program.specs.declared.functions.FunctionTable.{FunctionTable}
 use Rattle.program.specs.In.{StatementsIn, ProgramIn, main_scope, offset_of}
 use Rattle.program.specs.Reader.{Heads}
-use Rattle.program.proofs.In.{block_in}
+use Rattle.program.proofs.In.{block_in, statement_byte}
+use Rattle.steps.specs.declared.Effect.{Effect}
 use Rattle.steps.specs.declared.Stepped.{Stepped}
 use Rattle.steps.specs.declared.slots.Slots.{Slots}
 use Rattle.steps.specs.declared.frames.Frame.{Frame}
 use Rattle.steps.specs.declared.job.Job.{Job}
 use Rattle.steps.specs.State.{slots_of, here_of, empty_frame, pushed}
+use Rattle.steps.specs.Told as told
 use Rattle.steps.specs.Standing.{RangesIn, FrameIn, FramesIn, Stands}
-use Rattle.steps.specs.Stepping.{stuck_at, Ready, NoBlock, Anyway, Acts, Calls, Steps, Begins, Starts}
+use Rattle.steps.specs.Stepping.{Comes, Ready, NoBlock, Returns, Anyway, Acts, Calls, Goes, Steps, Begins, Starts}
 use Rattle.steps.proofs.Stand.{put, pushed_kept}
-use Rattle.steps.proofs.Coming.{next}
+use Rattle.steps.proofs.Coming.{coming}
+use Rattle.steps.proofs.Entering.{steady}
 use Rattle.steps.proofs.Returning.{finished}
 
 -- a job of a program that was read and tabled is ready
@@ -36,30 +44,83 @@ pub ready : {s : List ℕ} {p : Program} {J : rules.Job} {t : FunctionTable} {j 
 ready {s} {p} {J} P H St = record { p = p; J = J; program = P; heads = H; stands = St }
 
 -- the statement to come is in the file
-pub starts_there : {s : List ℕ} {t : FunctionTable} {j : Job} → Ready s t j → 0 < j.top.n → (at : ℕ) → at ≡ here_of j.top → at < length s
-starts_there {s} {t} {j} Q h at e = let w = (next s Q.p Q.J j at Q.program Q.stands h e).within in omega (arith, w.0, w.1)
+pub comes : {s : List ℕ} {t : FunctionTable} {j : Job} → Ready s t j → (0 < j.top.n) → (at : ℕ) → at ≡ here_of j.top → Comes s j at
+comes Q h at e = record { steady = steady Q; some = h; here = e }
 
--- its first byte
-pub first_byte : (s : List ℕ) (j : Job) (at b n : ℕ) → at ≡ here_of j.top → b ≡ byte s (at + 0) → b ≡ n → byte s (here_of j.top) ≡ n
-first_byte s j at b n e k z = sym (k ∙ ap (byte s) (add-zero at ∙ e)) ∙ z
+pub starts_there : {s : List ℕ} {j : Job} {at : ℕ} → Comes s j at → (0 < byte s at) × (byte s at < 14) × (at < length s) × (length s ≤ 4096)
+starts_there C =
+    let N = coming C in
+    let b = statement_byte N.here in (b.0, b.1, omega (arith, b.2, b.3), N.size)
 
-pub other_byte : (s : List ℕ) (j : Job) (at b : ℕ) → at ≡ here_of j.top → b ≡ byte s (at + 0) → (b ≡ 10 → ⊥) → (b ≡ 11 → ⊥) → (b ≡ 12 → ⊥) → NoBlock (byte s (here_of j.top))
-other_byte s j at b e k x y z =
-    subst NoBlock (k ∙ ap (byte s) (add-zero at ∙ e)) (record { no_if = x; no_while = y; no_call = z })
+kind_10 : (k : Kind) → byte_of k ≡ 10 → (k ≡ If → ⊥) → ⊥
+kind_10 Init e h = absurd (omega (arith, e))
+kind_10 Magic e h = absurd (omega (arith, e))
+kind_10 Free e h = absurd (omega (arith, e))
+kind_10 Gate e h = absurd (omega (arith, e))
+kind_10 Measure e h = absurd (omega (arith, e))
+kind_10 Merge e h = absurd (omega (arith, e))
+kind_10 Ref e h = absurd (omega (arith, e))
+kind_10 Get e h = absurd (omega (arith, e))
+kind_10 Set e h = absurd (omega (arith, e))
+kind_10 If e h = absurd (h refl)
+kind_10 While e h = absurd (omega (arith, e))
+kind_10 Call e h = absurd (omega (arith, e))
+kind_10 Truth e h = absurd (omega (arith, e))
+
+kind_11 : (k : Kind) → byte_of k ≡ 11 → (k ≡ While → ⊥) → ⊥
+kind_11 Init e h = absurd (omega (arith, e))
+kind_11 Magic e h = absurd (omega (arith, e))
+kind_11 Free e h = absurd (omega (arith, e))
+kind_11 Gate e h = absurd (omega (arith, e))
+kind_11 Measure e h = absurd (omega (arith, e))
+kind_11 Merge e h = absurd (omega (arith, e))
+kind_11 Ref e h = absurd (omega (arith, e))
+kind_11 Get e h = absurd (omega (arith, e))
+kind_11 Set e h = absurd (omega (arith, e))
+kind_11 If e h = absurd (omega (arith, e))
+kind_11 While e h = absurd (h refl)
+kind_11 Call e h = absurd (omega (arith, e))
+kind_11 Truth e h = absurd (omega (arith, e))
+
+kind_12 : (k : Kind) → byte_of k ≡ 12 → (k ≡ Call → ⊥) → ⊥
+kind_12 Init e h = absurd (omega (arith, e))
+kind_12 Magic e h = absurd (omega (arith, e))
+kind_12 Free e h = absurd (omega (arith, e))
+kind_12 Gate e h = absurd (omega (arith, e))
+kind_12 Measure e h = absurd (omega (arith, e))
+kind_12 Merge e h = absurd (omega (arith, e))
+kind_12 Ref e h = absurd (omega (arith, e))
+kind_12 Get e h = absurd (omega (arith, e))
+kind_12 Set e h = absurd (omega (arith, e))
+kind_12 If e h = absurd (omega (arith, e))
+kind_12 While e h = absurd (omega (arith, e))
+kind_12 Call e h = absurd (h refl)
+kind_12 Truth e h = absurd (omega (arith, e))
+
+-- a statement of another kind than those three is no block's
+pub no_block : (k : Kind) (b : ℕ) → byte_of k ≡ b → (k ≡ If → ⊥) → (k ≡ While → ⊥) → (k ≡ Call → ⊥) → NoBlock b
+no_block k b e x y z = record { no_if = λ h. kind_10 k (e ∙ h) x; no_while = λ h. kind_11 k (e ∙ h) y; no_call = λ h. kind_12 k (e ∙ h) z }
 
 -- what the kinds promise is what a step promises
-module _ (s : List ℕ) (t : FunctionTable) (rows : List ℕ) (owned : LocationSet) (map : List ℕ) (v : Bool) (j : Job) (r : Stepped) where
-  pub by_anyway : Anyway s j r → Steps s t rows owned map v j r
+module _ (s : List ℕ) (t : FunctionTable) (at : ℕ) (rows : Rows) (owned : LocationSet) (map : List ℕ) (v : Bool) (j i : Job) (r : Result Effect Fault) where
+  pub by_anyway : Anyway s at j i r → Goes s t at rows owned map v j i r
   by_anyway A p J R occ P H St O W M = A p J R v (free_in R occ) P St
 
-  pub by_call : Calls s t owned map j r → Steps s t rows owned map v j r
+  pub by_call : Calls s t at owned map j i r → Goes s t at rows owned map v j i r
   by_call A p J R occ P H St O W M = A p J R v occ P H St O M
 
-  pub by_operation : Acts s rows owned map v j r → Steps s t rows owned map v j r
+  pub by_operation : Acts s at rows owned map v j i r → Goes s t at rows owned map v j i r
   by_operation A p J R occ P H St O W M = A p J R occ P St O W M
 
-  pub by_end : j.top.n ≡ 0 → j.depth ≡ 0 → r ≡ stuck_at j 1 65535 → Steps s t rows owned map v j r
-  by_end n d e p J R occ P H St O W M = finished s p J j St n R v (free_in R occ) r d e
+module _ (s : List ℕ) (t : FunctionTable) (rows : Rows) (owned : LocationSet) (map : List ℕ) (v : Bool) (j i : Job) (r : Stepped) where
+  pub by_told : (at : ℕ) (x : Result Effect Fault) → Goes s t at rows owned map v j i x → r ≡ told.told x at → Steps s t rows owned map v j i r
+  by_told at x G e = subst (Steps s t rows owned map v j i) (sym e) G
+
+  pub by_return : (at : ℕ) → Returns s j i at → r ≡ told.told (Ok told.silent) at → Steps s t rows owned map v j i r
+  by_return at A e = subst (Steps s t rows owned map v j i) (sym e) (λ p J R occ P H St O W M. A p J R v (free_in R occ) P St)
+
+pub by_end : (s : List ℕ) (t : FunctionTable) (rows : Rows) (owned : LocationSet) (map : List ℕ) (v : Bool) (j : Job) (r : Stepped) → j.top.n ≡ 0 → j.depth ≡ 0 → r ≡ told.finished → Steps s t rows owned map v j j r
+by_end s t rows owned map v j r n d e = subst (Steps s t rows owned map v j j) (sym e) (λ p J R occ P H St O W M. finished s p J j St n R v (free_in R occ) d)
 
 -- where main is
 pub main_there : {s : List ℕ} {main : ℕ} → Begins s main → (main + 2 + word s main ≤ length s) × (length s ≤ 4096)

@@ -7,8 +7,11 @@ use mathlib.Core.Path.{◌≡◌, refl, sym, ap, ◌∙◌, subst}
 use native.Mathlib.Numerals.{add-one}
 use native.Mathlib.Omega.{arith}
 use Prim.Native.Nat.{ℕ, zero, suc, ◌+◌, ◌-◌, ◌≤◌, ◌<◌}
-use lib.ListN.{get_or, set, length, take, replicate, length-map, length-set, length-append, get_or-map}
-use lib.Seq.{take-suc, take-take, set_at, ext_get_or}
+use lib.ListN.{set, length, take, drop, replicate, length-map, length-set, length-append, get_or-map}
+use lib.Seq.{length-take-le, take-suc, take-take, set_at, ext_get_or}
+use Rattle.std.specs.Prelude.{Result, Ok, Err}
+use Rattle.std.proofs.lemmas.List.{take-map}
+use Rattle.answers.specs.declared.Fault.{Fault}
 use Rattle.answers.specs.Check.{Check, ok, ◌>>◌}
 use Rattle.rules.specs.declared.place.Location.{Location}
 use Rattle.rules.specs.Basics.{byte, word, up_to}
@@ -16,28 +19,29 @@ use Rattle.rules.specs.Region.{Region, free_in}
 use Rattle.rules.specs.Syntax.{device, parameter, Place, call, Statement, Statements, Block, block, Function, function, Program}
 use Rattle.rules.specs.Slots.{unbound, qubit, entered, callable}
 use Rattle.rules.specs.Machine as rules
-use Rattle.rules.specs.Machine.{Actual, locate, locations, Item, run, return, statements_before, block_before, Move, silent, floor, move, step}
+use Rattle.rules.specs.Machine.{Actual, locate, locations, Item, run, return, statements_before, block_before, Move, silent, floor, move}
 use Rattle.sets.specs.declared.LocationSet.{LocationSet}
 use Rattle.device.specs.Reader.{Owned}
+use Rattle.program.specs.declared.functions.Head.{Head}
 use Rattle.program.specs.declared.functions.FunctionTable.{FunctionTable}
 use Rattle.program.specs.In.{StatementsIn, ProgramIn, offset_of, scope_of}
+use Rattle.program.specs.Reader.{entry}
 use Rattle.program.proofs.In.{block_in}
-use Rattle.steps.specs.declared.Act.TheVariants.{Quiet}
-use Rattle.steps.specs.declared.Stepped.{Stepped}
+use Rattle.steps.specs.declared.Effect.{Effect}
 use Rattle.steps.specs.declared.slots.Slots.{Slots}
 use Rattle.steps.specs.declared.frames.Frame.{Frame}
 use Rattle.steps.specs.declared.job.Job.{Job}
-use Rattle.steps.specs.declared.asks.Asked.{Asked}
-use Rattle.steps.specs.declared.asks.Asked.TheVariants.{Granted, Refused}
-use Rattle.steps.specs.State.{place_of, slots_of, location_at, here_of, empty_frame, advanced, pushed, entering, located_in}
+use Rattle.steps.specs.Said.{said_at, itself}
+use Rattle.steps.specs.Told as told
+use Rattle.steps.specs.State.{place_of, slots_of, location_at, empty_frame, advanced, pushed, entering, located_in}
 use Rattle.steps.specs.Standing.{RangesIn, FrameIn, CallIn, FramesIn, Stands}
 use Rattle.steps.specs.Performing.{Maps}
-use Rattle.steps.specs.Calling.{asked_said, given, Callable, Enters}
-use Rattle.steps.specs.Stepping.{stuck_at, moved_at, Follows, Steady, Ready, Calls}
-use Rattle.steps.proofs.Lists.{length_up_to, get_d_up_to, given_length, given_at}
+use Rattle.steps.specs.Calling.{given, Callable, Enters}
+use Rattle.steps.specs.Stepping.{Comes, Steady, Ready, Calls}
+use Rattle.steps.proofs.Lists.{length_up_to, get_d_up_to, slice_is, given_length, given_at}
 use Rattle.steps.proofs.Seen.{call_seen}
 use Rattle.steps.proofs.Stand.{put, Kept, advanced_kept, pushed_kept, call_moved, entered_frames}
-use Rattle.steps.proofs.Coming.{Next, next, moved, stays, goes_on, room_there}
+use Rattle.steps.proofs.Coming.{Next, Leaves, next, moved, stays, goes_on}
 
 -- the callee's slots, one argument more
 pub record Bound (places : List Location) (i : ℕ) (φ : Slots) : Type 0 where
@@ -154,7 +158,7 @@ module _ (s : List ℕ) (p : Program) (J : rules.Job) (j : Job) (at : ℕ) (N : 
         body_in = subst (λ (z : ℕ). StatementsIn s (scope_of fs g) b.1 (body + 2) z b.0) b.4 b.6;
       }
 
-  module _ (P : ProgramIn s p) (is_call : byte s at ≡ 12) (St : Stands s p J j) (R : Region) (v : Bool) (occ : List ℕ) (r : Stepped) (places : List Location) (lp : length places ≡ 16)
+  module _ (P : ProgramIn s p) (is_call : byte s at ≡ 12) (St : Stands s p J j) (R : Region) (v : Bool) (occ : List ℕ) (places : List Location) (lp : length places ≡ 16)
       (ep : (i : ℕ) → i < K → location_at places i ≡ located_in j (byte s (at + 4 + i))) where
     abbrev C : Call
     C = call_facts P is_call
@@ -174,25 +178,25 @@ module _ (s : List ℕ) (p : Program) (J : rules.Job) (j : Job) (at : ℕ) (N : 
     abbrev called : List (Place device) → Move
     called ks = silent (entered (take (length xs) ks)) (slots_of j.top.slots ∷ J.below) (block_before (locations ks) (function fs g).body (return at ks xs ∷ N.rest))
 
-    calls : moved s p J j at N St R v (free_in R occ) r ≡ (asking ls >> ok (called ls))
+    calls : moved s p J j at N St R v (free_in R occ) ≡ (asking ls >> ok (called ls))
     calls =
         ap (λ (z : Statement N.d). move R fs v (free_in R occ) (slots_of j.top.slots) J.below (run N.σ z) N.rest) C.tree
         ∙ ap (λ (ks : List (Place device)). asking ks >> ok (called ks)) actual_is
 
-    module _ (owned : LocationSet) (map : List ℕ) (O : Owned R owned) (M : Maps map occ) (a : Asked) (A : Callable j.top.slots xs ls owned map a) where
-      asked : (b : Asked) → a ≡ b → asking ls ≡ asked_said b at
-      asked b e = sym (A N.d N.σ R fs v occ O M at) ∙ ap (λ (z : Asked). asked_said z at) e
+    module _ (owned : LocationSet) (map : List ℕ) (O : Owned R owned) (M : Maps map occ) where
+      asked : (a : Result (Unit {0}) Fault) → Callable j.top.slots xs ls owned map a → asking ls ≡ said_at itself a at
+      asked a A = sym (A N.d N.σ R fs v occ O M at)
 
-      refused_call : (n : ℕ) → a ≡ Refused n → r ≡ stuck_at j n at → Follows s p (step R fs v (free_in R occ) J) r
+      refused_call : (r : Result Effect Fault) (reason : Fault) → r ≡ Err reason → Callable j.top.slots xs ls owned map (Err reason) → Leaves s p J j at N St R v (free_in R occ) j r
       unfolding ◌>>◌
-      refused_call n e k = stays s p J j at N St R v (free_in R occ) r n at (calls ∙ ap (λ (c : Check (Unit {0})). c >> ok (called ls)) (asked (Refused n) e)) k
+      refused_call r reason k A = stays s p J j at N St R v (free_in R occ) r reason at k (calls ∙ ap (λ (c : Check (Unit {0})). c >> ok (called ls)) (asked (Err reason) A))
 
-      granted_call : (f : Frame) → a ≡ Granted → Enters places m at f → r ≡ moved_at (entering j (advanced j.top N.q) (pushed f (body + 2) (body + 2 + word s body))) 0 Quiet at
-          → Follows s p (step R fs v (free_in R occ) J) r
+      granted_call : (f : Frame) → Callable j.top.slots xs ls owned map (Ok tt) → Enters places m at f
+          → Leaves s p J j at N St R v (free_in R occ) (entering j (advanced j.top N.q) (pushed f (body + 2) (body + 2 + word s body))) (Ok told.silent)
       unfolding ◌>>◌ given RangesIn
-      granted_call f e E k =
-          goes_on s p J j at N St R v (free_in R occ) r (called ls) (entering j (advanced j.top N.q) inner) (calls ∙ ap (λ (c : Check (Unit {0})). c >> ok (called ls)) (asked Granted e))
-          (record { top = top; sized = length-set j.below j.depth (advanced j.top N.q) ∙ St.sized; frames = frames }) k
+      granted_call f A E =
+          goes_on s p J j at N St R v (free_in R occ) (called ls) (entering j (advanced j.top N.q) inner) (calls ∙ ap (λ (c : Check (Unit {0})). c >> ok (called ls)) (asked (Ok tt) A))
+          (record { top = top; sized = length-set j.below j.depth (advanced j.top N.q) ∙ St.sized; frames = frames })
         where
           inner : Frame
           inner = pushed f (body + 2) (body + 2 + word s body)
@@ -254,18 +258,18 @@ pub record Called (s : List ℕ) (t : FunctionTable) (j : Job) (at : ℕ) : Type
   pub fewer : byte s (at + 3) ≤ byte s (at + 2)
   pub places : 0 < j.depth → (i : ℕ) → i < byte s (at + 2) → byte s (at + 4 + i) < 16
   pub slots : (i : ℕ) → i < byte s (at + 3) → byte s (at + 4 + byte s (at + 2) + i) < 32
-  pub callee : byte s (at + 1) < 15
-  pub body : get_or t.bodies (byte s (at + 1)) 0 + 2 + word s (get_or t.bodies (byte s (at + 1)) 0) ≤ length s
+  pub body : (entry t (byte s (at + 1))).body + 2 + word s (entry t (byte s (at + 1))).body ≤ length s
   pub deep : j.depth < 15
+  pub some : 0 < j.top.n
   pub room : j.top.n ≤ 8
 
 pub steady : {s : List ℕ} {t : FunctionTable} {j : Job} → Ready s t j → Steady s j
 steady Q = record { p = Q.p; J = Q.J; program = Q.program; stands = Q.stands }
 
-pub called_there : {s : List ℕ} {t : FunctionTable} {j : Job} → Ready s t j → 0 < j.top.n → (at : ℕ) → at ≡ here_of j.top → byte s (here_of j.top) ≡ 12 → Called s t j at
-called_there {s} {t} {j} Q h at e k =
-    let N = next s Q.p Q.J j at Q.program Q.stands h e in
-    let C = call_facts s Q.p Q.J j at N Q.program (ap (byte s) e ∙ k) in
+pub called_there : {s : List ℕ} {t : FunctionTable} {j : Job} {at : ℕ} → Ready s t j → Comes s j at → byte s at ≡ 12 → Called s t j at
+called_there {s} {t} {j} {at} Q D k =
+    let N = next s Q.p Q.J j at Q.program Q.stands D.some D.here in
+    let C = call_facts s Q.p Q.J j at N Q.program k in
     record {
       size = N.size;
       fits = C.fits;
@@ -274,57 +278,97 @@ called_there {s} {t} {j} Q h at e k =
       fewer = C.fewer;
       places = λ d i l. let a = N.few d in let b = C.places i l in omega arith;
       slots = C.bound;
-      callee = omega (arith, C.deep, C.few);
       body = subst (λ (z : ℕ). z + 2 + word s z ≤ length s) (sym (Q.heads.bodies (byte s (at + 1)) (omega (arith, C.deep)))) C.body_fits;
       deep = omega (arith, C.deep, C.few);
+      some = D.some;
       room = N.room;
     }
-
-pub ready_room : {s : List ℕ} {t : FunctionTable} {j : Job} → Ready s t j → j.top.n ≤ 8
-ready_room Q = room_there (steady Q)
 
 pub entered_room : {places : List Location} {m at : ℕ} {f : Frame} → Enters places m at f → f.n < 8
 entered_room E = let e = ap (λ (z : Frame). z.n) E.frame in omega arith
 
--- the same of the numbers that were read
-module _ {s : List ℕ} {t : FunctionTable} {j : Job} {at : ℕ} (C : Called s t j at) (k : ℕ) (ek : k ≡ byte s (at + 2)) where
-  pub places_fit : (at + 4 + k ≤ length s) × (k ≤ 16) × (0 < j.depth → (i : ℕ) → i < k → byte s (at + 4 + i) < 16)
-  places_fit = (omega (arith, C.fits), omega (arith, C.most), λ d i h. C.places d i (omega arith))
+-- the bytes of the call's locations and of its slots, as the code has them
+module _ {s : List ℕ} {t : FunctionTable} {j : Job} {at : ℕ} (C : Called s t j at) where
+  abbrev pub names : List ℕ
+  names = take (at + 4 + byte s (at + 2) - (at + 4)) (drop (at + 4) s)
 
-  pub slots_fit : (m : ℕ) → m ≡ byte s (at + 3) → (k ≤ 16) × (m ≤ k) × (at + 4 + k + m ≤ length s) × ((i : ℕ) → i < m → byte s (at + 4 + k + i) < 32)
-  slots_fit m em =
-      (omega (arith, C.most), omega (arith, C.fewer), omega (arith, C.fits), λ i h. subst (λ (z : ℕ). byte s (at + 4 + z + i) < 32) (sym ek) (C.slots i (omega arith)))
+  abbrev pub lent : List ℕ
+  lent = take (at + 4 + byte s (at + 2) + byte s (at + 3) - (at + 4 + byte s (at + 2))) (drop (at + 4 + byte s (at + 2)) s)
 
-pub body_fits : {s : List ℕ} {t : FunctionTable} {j : Job} {at : ℕ} → Called s t j at → (g b : ℕ) → g ≡ byte s (at + 1) → b ≡ get_or t.bodies g 0 → b + 2 + word s b ≤ length s
-body_fits {s} {t} C g b eg eb = subst (λ (z : ℕ). z + 2 + word s z ≤ length s) (sym (eb ∙ ap (λ (z : ℕ). get_or t.bodies z 0) eg)) C.body
+  names_are : names ≡ up_to (at + 4) (byte s (at + 2)) (byte s)
+  names_are = slice_is s (at + 4) (byte s (at + 2)) (omega (arith, C.fits))
+
+  lent_are : lent ≡ up_to (at + 4 + byte s (at + 2)) (byte s (at + 3)) (byte s)
+  lent_are = slice_is s (at + 4 + byte s (at + 2)) (byte s (at + 3)) C.fits
+
+  names_length : length names ≡ byte s (at + 2)
+  names_length = ap length names_are ∙ length_up_to (byte s) (at + 4) (byte s (at + 2))
+
+  lent_length : length lent ≡ byte s (at + 3)
+  lent_length = ap length lent_are ∙ length_up_to (byte s) (at + 4 + byte s (at + 2)) (byte s (at + 3))
+
+  name_at : (i : ℕ) → i < byte s (at + 2) → byte names i ≡ byte s (at + 4 + i)
+  name_at i h = ap (λ (xs : List ℕ). byte xs i) names_are ∙ get_d_up_to (byte s) (at + 4) (byte s (at + 2)) i 0 h
+
+  lent_at : (i : ℕ) → i < byte s (at + 3) → byte lent i ≡ byte s (at + 4 + byte s (at + 2) + i)
+  lent_at i h = ap (λ (xs : List ℕ). byte xs i) lent_are ∙ get_d_up_to (byte s) (at + 4 + byte s (at + 2)) (byte s (at + 3)) i 0 h
+
+  pub places_fit : (length names ≤ 16) × (0 < j.depth → (i : ℕ) → i < length names → byte names i < 16)
+  places_fit = (
+    omega (arith, names_length, C.most),
+    λ d i h. let l : i < byte s (at + 2) = omega (arith, names_length, h) in let e = name_at i l in let k = C.places d i l in omega (arith, e, k),
+  )
+
+  pub slots_fit : (places : List Location) → length places ≡ 16
+      → (length lent ≤ length (take (byte s (at + 2)) places)) × (length (take (byte s (at + 2)) places) ≤ 16) × ((i : ℕ) → i < length lent → byte lent i < 32)
+  slots_fit places l =
+      let k : length (take (byte s (at + 2)) places) ≡ byte s (at + 2) = length-take-le (byte s (at + 2)) places (omega (arith, l, C.most)) in (
+        omega (arith, lent_length, k, C.fewer),
+        omega (arith, k, C.most),
+        λ i h. let b : i < byte s (at + 3) = omega (arith, lent_length, h) in let e = lent_at i b in let f = C.slots i b in omega (arith, e, f),
+      )
+
+  pub places_bound : (places : List Location) → length places ≡ 16 → byte s (at + 2) ≤ length places
+  places_bound places l = omega (arith, l, C.most)
+
+  pub places_taken : (places : List Location) → length places ≡ 16 → byte s (at + 2) ≡ length (take (byte s (at + 2)) places)
+  places_taken places l = sym (length-take-le (byte s (at + 2)) places (places_bound places l))
+
+  -- the callee's body
+  pub body_fits : (h : Head) → h ≡ entry t (byte s (at + 1)) → (h.body + 2 + word s h.body ≤ length s) × (length s ≤ 4096)
+  body_fits h e = (subst (λ (z : Head). z.body + 2 + word s z.body ≤ length s) (sym e) C.body, C.size)
+
+  -- what they ask is what the call asks
+  in_lists : (places : List Location) (owned : LocationSet) (m : List ℕ) (a : Result (Unit {0}) Fault) → Callable j.top.slots lent (map place_of (take (byte s (at + 2)) places)) owned m a
+      → Callable j.top.slots (up_to (at + 4 + byte s (at + 2)) (byte s (at + 3)) (byte s)) (given places (byte s (at + 2))) owned m a
+  unfolding given
+  in_lists places owned m a A =
+      subst (λ (xs : List ℕ). Callable j.top.slots xs (take (byte s (at + 2)) (map place_of places)) owned m a) lent_are
+      (subst (λ (ls : List (Place device)). Callable j.top.slots lent ls owned m a) (sym (take-map place_of (byte s (at + 2)) places)) A)
 
 -- the exits of the call, over what the code has in hand
-module _ (s : List ℕ) (t : FunctionTable) (owned : LocationSet) (map : List ℕ) (j : Job) (r : Stepped) (at k m : ℕ) (places : List Location) (a : Asked) (h : 0 < j.top.n) (here : at ≡ here_of j.top)
-    (is : byte s (here_of j.top) ≡ 12) (ek : k ≡ byte s (at + 2)) (em : m ≡ byte s (at + 3)) (lp : length places ≡ 16) (ep : (i : ℕ) → i < k → location_at places i ≡ located_in j (byte s (at + 4 + i)))
-    (A : Callable j.top.slots (up_to (at + 4 + k) m (byte s)) (given places k) owned map a) where
-  is_call_lem : byte s at ≡ 12
-  is_call_lem = ap (byte s) here ∙ is
+module _ {s : List ℕ} {t : FunctionTable} {j : Job} {at : ℕ} (Q : Ready s t j) (D : Comes s j at) (is : byte s at ≡ 12) (owned : LocationSet) (map : List ℕ) (places : List Location) (lp : length places ≡ 16)
+    (ep : (i : ℕ) → i < length (names (called_there Q D is)) → location_at places i ≡ located_in j (byte (names (called_there Q D is)) i)) where
+  abbrev F : Called s t j at
+  F = called_there Q D is
 
   located : (i : ℕ) → i < byte s (at + 2) → location_at places i ≡ located_in j (byte s (at + 4 + i))
-  located i l = ep i (omega arith)
+  located i l = ep i (omega (arith, names_length F, l)) ∙ ap (located_in j) (name_at F i l)
 
-  asks : Callable j.top.slots (up_to (at + 4 + byte s (at + 2)) (byte s (at + 3)) (byte s)) (given places (byte s (at + 2))) owned map a
-  asks =
-      subst (λ (z : ℕ). Callable j.top.slots (up_to (at + 4 + z) (byte s (at + 3)) (byte s)) (given places z) owned map a) ek
-      (subst (λ (z : ℕ). Callable j.top.slots (up_to (at + 4 + k) z (byte s)) (given places k) owned map a) em A)
+  pub call_refused : (r : Result Effect Fault) (reason : Fault) → r ≡ Err reason → Callable j.top.slots (lent F) (Core.map place_of (take (byte s (at + 2)) places)) owned map (Err reason)
+      → Calls s t at owned map j j r
+  call_refused r reason k A p J R v occ P H St O M =
+      refused_call s p J j at (next s p J j at P St D.some D.here) P is St R v occ places lp located owned map O M r reason k (in_lists F places owned map (Err reason) A)
 
-  pub call_refused : (n : ℕ) → a ≡ Refused n → r ≡ stuck_at j n at → Calls s t owned map j r
-  call_refused n e er p J R v occ P H St O M =
-      refused_call s p J j at (next s p J j at P St h here) P is_call_lem St R v occ r places lp located owned map O M a asks n e er
-
-  pub call_granted : (g b e : ℕ) (f inner adv : Frame) (i : Job) → a ≡ Granted → g ≡ byte s (at + 1) → b ≡ get_or t.bodies g 0 → e ≡ b + 2 + word s b → Enters places m at f → inner ≡ pushed f (b + 2) e
-      → adv ≡ advanced j.top (at + 4 + k + m) → i ≡ entering j adv inner → r ≡ moved_at i 0 Quiet at → Calls s t owned map j r
-  call_granted g b e f inner adv i ea eg eb ee E ei ev ej er p J R v occ P H St O M =
-      let N = next s p J j at P St h here in
-      let C = call_facts s p J j at N P is_call_lem in
-      let body_is : b ≡ offset_of (function p.functions (byte s (at + 1))).body = eb ∙ ap (λ (z : ℕ). get_or t.bodies z 0) eg ∙ H.bodies (byte s (at + 1)) (omega (arith, C.deep)) in
-      let end_is : at + 4 + k + m ≡ N.q = omega (arith, C.ends) in
+  pub call_granted : (h : Head) (e : ℕ) (f inner adv : Frame) (i : Job) → Callable j.top.slots (lent F) (Core.map place_of (take (byte s (at + 2)) places)) owned map (Ok tt) → h ≡ entry t (byte s (at + 1))
+      → e ≡ h.body + 2 + word s h.body → Enters places (byte s (at + 3)) at f → inner ≡ pushed f (h.body + 2) e → adv ≡ advanced j.top (at + 4 + byte s (at + 2) + byte s (at + 3))
+      → i ≡ entering j adv inner → Calls s t at owned map j i (Ok told.silent)
+  call_granted h e f inner adv i A eb ee E ei ev ej p J R v occ P H St O M =
+      let N = next s p J j at P St D.some D.here in
+      let C = call_facts s p J j at N P is in
+      let body_is : h.body ≡ offset_of (function p.functions (byte s (at + 1))).body = ap (λ (z : Head). z.body) eb ∙ H.bodies (byte s (at + 1)) (omega (arith, C.deep)) in
       let inner_is : inner ≡ pushed f (offset_of (function p.functions (byte s (at + 1))).body + 2) (offset_of (function p.functions (byte s (at + 1))).body + 2 + word s (offset_of (function p.functions (byte s (at + 1))).body)) =
-      ei ∙ ap (pushed f (b + 2)) ee ∙ ap (λ (z : ℕ). pushed f (z + 2) (z + 2 + word s z)) body_is in
-      granted_call s p J j at N P is_call_lem St R v occ r places lp located owned map O M a asks f ea (subst (λ (z : ℕ). Enters places z at f) em E)
-      (er ∙ ap (λ (z : Job). moved_at z 0 Quiet at) (ej ∙ ap (λ (z : Frame). entering j z inner) (ev ∙ ap (advanced j.top) end_is) ∙ ap (entering j (advanced j.top N.q)) inner_is))
+      ei ∙ ap (pushed f (h.body + 2)) ee ∙ ap (λ (z : ℕ). pushed f (z + 2) (z + 2 + word s z)) body_is in
+      subst (λ (z : Job). Leaves s p J j at N St R v (free_in R occ) z (Ok told.silent))
+      (sym (ej ∙ ap (λ (z : Frame). entering j z inner) (ev ∙ ap (advanced j.top) (sym C.ends)) ∙ ap (entering j (advanced j.top N.q)) inner_is))
+      (granted_call s p J j at N P is St R v occ places lp located owned map O M f (in_lists F places owned map (Ok tt) A) E)

@@ -9,8 +9,8 @@ pub mod Lists
 pub mod Merging
 pub mod Operate
 pub mod Operating
+pub mod Passed
 pub mod Perform
 pub mod Returning
 pub mod Seen
 pub mod Stand
-pub mod Unique

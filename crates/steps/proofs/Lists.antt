@@ -1,20 +1,21 @@
 -- Laws of the lists that a call goes by, element by element: a test of all of them, no number twice, and lists made from a function.
-use mathlib.Core.Bool.{Bool, true, false, not, ◌&&◌, ◌||◌}
+use mathlib.Core.Bool.{Bool, not, ◌&&◌, ◌||◌}
 use mathlib.Core.List.{List, [], ◌∷◌, map}
-use mathlib.Core.Path.{◌≡◌, refl, sym, ap, ◌∙◌}
+use mathlib.Core.Path.{◌≡◌, refl, sym, ap, ap₂, ◌∙◌}
 use native.Mathlib.Decide.{ℕ_discrete}
 use native.Mathlib.Nat.{add-zero}
-use native.Mathlib.Numerals.{add-one}
 use native.Mathlib.Omega.{arith}
 use Prim.Native.Nat.{ℕ, zero, suc, ◌+◌, ◌-◌, ◌≤◌, ◌<◌}
 use lib.Dec.{eqb}
-use lib.ListN.{get_or, set, length, drop, length-map, get_or-map}
-use lib.Seq.{drop-cons, get_or-take, get_or-set_same, get_or-set_other, length-take-le}
+use lib.ListN.{get_or, set, length, take, drop, length-map, get_or-map}
+use Rattle.std.proofs.Math.Seq.{take-length}
+use Rattle.std.proofs.lemmas.List.{length-drop, get_or-drop}
+use lib.Seq.{get_or-take, get_or-set_same, get_or-set_other, length-take-le, ext_get_or}
+use Rattle.std.specs.List.{list_all, list_any}
 use Rattle.rules.specs.declared.place.Location.{Location}
-use Rattle.rules.specs.Basics.{all, any, up_to, distinct}
+use Rattle.rules.specs.Basics.{byte, all, any, up_to, distinct}
 use Rattle.rules.specs.Syntax.{device, Place}
-use Rattle.sets.specs.declared.LocationSet.{LocationSet}
-use Rattle.sets.specs.Sets.{has}
+use Rattle.sets.specs.Bytes.{all_apart}
 use Rattle.steps.specs.State.{place_of, location_at}
 use Rattle.steps.specs.Calling.{given, numbers}
 
@@ -31,6 +32,15 @@ module _ {A : Type 0} (f : ℕ → A) where
       let e : suc p + i ≡ p + suc i = omega arith in
       get_d_up_to (suc p) m i d (omega arith) ∙ ap f e
 
+-- a slice of a file
+pub slice_is : (s : List ℕ) (p m : ℕ) → p + m ≤ length s → take (p + m - p) (drop p s) ≡ up_to p m (byte s)
+slice_is s p m h =
+    let e : p + m - p ≡ m = omega arith in
+    let l : length (take m (drop p s)) ≡ m = length-take-le m (drop p s) (omega (arith, length-drop p s)) in
+    ap (λ (k : ℕ). take k (drop p s)) e
+    ∙ ext_get_or 0 (take m (drop p s)) (up_to p m (byte s)) (l ∙ sym (length_up_to (byte s) p m)) λ i b.
+    get_or-take m (drop p s) i 0 (omega (arith, l)) ∙ get_or-drop p s i 0 ∙ sym (get_d_up_to (byte s) p m i 0 (omega (arith, l)))
+
 -- the first places of a call
 pub given_length : (places : List Location) (k : ℕ) → length places ≡ 16 → k ≤ 16 → length (given places k) ≡ k
 unfolding given
@@ -40,89 +50,51 @@ pub given_at : (places : List Location) (k i : ℕ) → i < k → get_or (given 
 unfolding given
 given_at places k i h = get_or-take k (map place_of places) i (record { no = 0 }) h ∙ get_or-map place_of places i (record { 0 = 0 })
 
--- a test of all, from the i-th on
-module _ {A : Type 0} (P : A → Bool) (d : A) where
-  all_one : (L : List A) (i : ℕ) → i < length L → all P (drop i L) ≡ (P (get_or L i d) && all P (drop (i + 1) L))
-  all_one L i h = rw (add-one, drop-cons L i d)
+-- a test of all locations is one of all places
+pub tested : (P : ℕ → Bool) (ls : List Location) → list_all (λ (l : Location). P l.0) ls ≡ all (λ (l : Place device). P l.no) (map place_of ls)
+tested P [] = refl
+tested P (l ∷ ls) = ap (λ (b : Bool). P l.0 && b) (tested P ls)
 
-  all_end : (L : List A) (i : ℕ) → length L ≤ i → all P (drop i L) ≡ true
-  all_end [] zero h = refl
-  all_end [] (suc i) h = refl
-  all_end (x ∷ L) zero h = absurd (omega arith)
-  all_end (x ∷ L) (suc i) h = all_end L i (omega arith)
+-- nothing comes twice
+any_is : (x : ℕ) (xs : List ℕ) → list_any (eqb x) xs ≡ any (eqb x) xs
+any_is x [] = refl
+any_is x (y ∷ ys) = ap (λ (b : Bool). eqb x y || b) (any_is x ys)
 
--- x is the test of those that are left
-pub record Tested (P : Place device → Bool) (places : List Location) (k : ℕ) (x : Bool) (i : ℕ) : Type 0 where
-  pub test : x ≡ all P (drop i (given places k))
-
-module _ (P : Place device → Bool) (places : List Location) (k : ℕ) (lp : length places ≡ 16) (lk : k ≤ 16) (x : Bool) (i : ℕ) (h : Tested P places k x i) where
-  pub given_no : i < k → (b : Bool) → b ≡ P (place_of (location_at places i)) → b ≡ false → false ≡ x
-  given_no l b e t =
-      sym (h.test ∙ all_one P (record { no = 0 }) (given places k) i (omega (arith, given_length places k lp lk)) ∙ ap (λ (z : Bool). z && all P (drop (i + 1) (given places k))) (ap P (given_at places k i l) ∙ sym e ∙ t))
-
-  pub given_yes : i < k → (b : Bool) → b ≡ P (place_of (location_at places i)) → b ≡ true → Tested P places k x (i + 1)
-  given_yes l b e t = record {
-    test =
-        h.test ∙ all_one P (record { no = 0 }) (given places k) i (omega (arith, given_length places k lp lk)) ∙ ap (λ (z : Bool). z && all P (drop (i + 1) (given places k))) (ap P (given_at places k i l) ∙ sym e ∙ t);
-  }
-
-  pub given_end : k ≤ i → true ≡ x
-  given_end l = sym (h.test ∙ all_end P (record { no = 0 }) (given places k) i (omega (arith, given_length places k lp lk)))
-
--- no number twice: from the i-th on there is none, and the set has those
-pub record Seen (L : List ℕ) (i : ℕ) (seen : LocationSet) : Type 0 where
-  pub once : distinct (drop i L) ≡ true
-  pub set : (y : ℕ) → has seen y ≡ any (eqb y) (drop i L)
-
-drop_all : (L : List ℕ) (i : ℕ) → length L ≤ i → drop i L ≡ []
-drop_all [] zero h = refl
-drop_all [] (suc i) h = refl
-drop_all (x ∷ L) zero h = absurd (omega arith)
-drop_all (x ∷ L) (suc i) h = drop_all L i (omega arith)
-
-and_false : (a b : Bool) → b ≡ false → (a && b) ≡ false
-and_false true b e = e
-and_false false b e = refl
-
-distinct_drop : (n : ℕ) (L : List ℕ) → distinct (drop n L) ≡ false → distinct L ≡ false
-distinct_drop zero L e = e
-distinct_drop (suc n) [] e = e
-distinct_drop (suc n) (x ∷ L) e = and_false (not (any (eqb x) L)) (distinct L) (distinct_drop n L e)
-
-pub seen_none : (L : List ℕ) (k : ℕ) (seen : LocationSet) → length L ≡ k → ((y : ℕ) → has seen y ≡ false) → Seen L k seen
-seen_none L k seen e h =
-    let z = drop_all L k (omega arith) in
-    record { once = ap distinct z; set = λ y. h y ∙ sym (ap (any (eqb y)) z) }
-
-module _ (L : List ℕ) (i x : ℕ) (seen : LocationSet) (b : Bool) (h : 0 < i) (l : i ≤ length L) (S : Seen L i seen) (ex : x ≡ get_or L (i - 1) 0) (eb : b ≡ has seen x) where
-  one_more : drop (i - 1) L ≡ x ∷ drop i L
-  one_more =
-      let e : suc (i - 1) ≡ i = omega arith in
-      drop-cons L (i - 1) 0 (omega arith) ∙ ap (λ (z : ℕ). z ∷ drop (suc (i - 1)) L) (sym ex) ∙ ap (λ (n : ℕ). x ∷ drop n L) e
-
-  pub seen_twice : b ≡ true → false ≡ distinct L
-  seen_twice t = sym (distinct_drop (i - 1) L (ap distinct one_more ∙ ap (λ (z : Bool). not z && distinct (drop i L)) (sym (S.set x) ∙ sym eb ∙ t)))
-
-  pub seen_more : (r : LocationSet) → b ≡ false → ((y : ℕ) → has r y ≡ (eqb y x || has seen y)) → Seen L (i - 1) r
-  seen_more r t g = record {
-    once = ap distinct one_more ∙ ap (λ (z : Bool). not z && distinct (drop i L)) (sym (S.set x) ∙ sym eb ∙ t) ∙ S.once;
-    set = λ y. g y ∙ ap (λ (z : Bool). eqb y x || z) (S.set y) ∙ sym (ap (any (eqb y)) one_more);
-  }
-
-pub seen_all : (L : List ℕ) (i : ℕ) (seen : LocationSet) → i ≡ 0 → Seen L i seen → true ≡ distinct L
-seen_all L i seen e S = sym (ap (λ (n : ℕ). distinct (drop n L)) (sym e) ∙ S.once)
-
-pub number_at : (places : List Location) (k i : ℕ) → i < k → (location_at places i).0 ≡ get_or (numbers (given places k)) i 0
-number_at places k i h = sym (get_or-map (λ (l : Place device). l.no) (given places k) i (record { no = 0 }) ∙ ap (λ (l : Place device). l.no) (given_at places k i h))
-
-pub numbers_length : (places : List Location) (k : ℕ) → length places ≡ 16 → k ≤ 16 → length (numbers (given places k)) ≡ k
-numbers_length places k e h = length-map (given places k) (λ l. l.no) ∙ given_length places k e h
+pub apart_is : (xs : List ℕ) → all_apart xs ≡ distinct xs
+apart_is [] = refl
+apart_is (x ∷ xs) = ap₂ (λ (a b : Bool). not a && b) (any_is x xs) (apart_is xs)
 
 -- an array filled in order
-pub filled_more : (f : ℕ → Location) (places : List Location) (i : ℕ) (l : Location) → i < length places → l ≡ f i → ((n : ℕ) → n < i → location_at places n ≡ f n) → (n : ℕ) → n < i + 1
-    → location_at (set places i l) n ≡ f n
-filled_more f places i l h e g n k = go (ℕ_discrete n i)
+pub filled_more : {A : Type 0} (f : ℕ → A) (xs : List A) (d : A) (i : ℕ) (x : A) → i < length xs → x ≡ f i → ((n : ℕ) → n < i → get_or xs n d ≡ f n) → (n : ℕ) → n < i + 1
+    → get_or (set xs i x) n d ≡ f n
+filled_more f xs d i x h e g n k = go (ℕ_discrete n i)
   where
-    go : Dec (n ≡ i) → location_at (set places i l) n ≡ f n
-    go (yes z) = ap (λ (m : ℕ). location_at (set places i l) m) z ∙ get_or-set_same places i l (record { 0 = 0 }) h ∙ e ∙ ap f (sym z)
-    go (no z) = get_or-set_other places i n l (record { 0 = 0 }) z ∙ g n (omega (arith, z))
+    go : Dec (n ≡ i) → get_or (set xs i x) n d ≡ f n
+    go (yes z) = ap (λ (m : ℕ). get_or (set xs i x) m d) z ∙ get_or-set_same xs i x d h ∙ e ∙ ap f (sym z)
+    go (no z) = get_or-set_other xs i n x d z ∙ g n (omega (arith, z))
+
+-- the numbers of so many locations
+pub numbers_are : (ls : List Location) (ns : List ℕ) → length ls ≤ length ns → ((n : ℕ) → n < length ls → get_or ns n 0 ≡ (location_at ls n).0) → take (length ls) ns ≡ numbers (map place_of ls)
+numbers_are [] ns h e = refl
+numbers_are (l ∷ ls) [] h e = absurd (omega arith)
+numbers_are (l ∷ ls) (n ∷ ns) h e = ap₂ (λ (m : ℕ) (ms : List ℕ). m ∷ ms) (e 0 (omega arith)) (numbers_are ls ns (omega arith) λ k b. e (suc k) (omega arith))
+
+-- ---- the same in the rules' terms, by what the code's test said
+pub all_said : (P : ℕ → Bool) (ls : List Location) (b t : Bool) → b ≡ list_all (λ (l : Location). P l.0) ls → b ≡ t → t ≡ all (λ (l : Place device). P l.no) (map place_of ls)
+all_said P ls b t e k = sym k ∙ e ∙ tested P ls
+
+dropped : (n : ℕ) (ls : List Location) → map place_of (drop n ls) ≡ drop n (map place_of ls)
+dropped zero ls = refl
+dropped (suc n) [] = refl
+dropped (suc n) (l ∷ ls) = dropped n ls
+
+pub rest_said : (P : ℕ → Bool) (n : ℕ) (ls : List Location) (b t : Bool) → b ≡ list_all (λ (l : Location). P l.0) (take (length ls - n) (drop n ls)) → b ≡ t → t ≡ all (λ (l : Place device). P l.no) (drop n (map place_of ls))
+rest_said P n ls b t e k =
+    all_said P (drop n ls) b t (e ∙ ap (list_all (λ (l : Location). P l.0)) (ap (λ (m : ℕ). take m (drop n ls)) (sym (length-drop n ls)) ∙ take-length (drop n ls))) k ∙ ap (all (λ (l : Place device). P l.no)) (dropped n ls)
+
+pub apart_said : (xs : List ℕ) (b t : Bool) → b ≡ all_apart xs → b ≡ t → t ≡ distinct xs
+apart_said xs b t e k = sym k ∙ e ∙ apart_is xs
+
+pub numbers_said : (ls : List Location) (ns : List ℕ) (b t : Bool) → length ls ≤ length ns → ((n : ℕ) → n < length ls → get_or ns n 0 ≡ (location_at ls n).0)
+    → b ≡ all_apart (take (length ls) ns) → b ≡ t → t ≡ distinct (numbers (map place_of ls))
+numbers_said ls ns b t h f e k = apart_said (take (length ls) ns) b t e k ∙ ap distinct (numbers_are ls ns h f)

@@ -1,80 +1,79 @@
 -- A return: the caller's slots are gone through from the last argument to the first, which is the order in which the rules unbind them.
 use mathlib.Core.Bool.{Bool, true, false}
 use mathlib.Core.List.{List, [], ◌∷◌, map}
-use mathlib.Core.Path.{◌≡◌, refl, sym, ap, ◌∙◌, subst}
+use mathlib.Core.Path.{◌≡◌, refl, sym, ap, ap₂, ◌∙◌, subst}
 use native.Mathlib.Omega.{arith}
 use Prim.Native.Nat.{ℕ, zero, suc, ◌+◌, ◌-◌, ◌≤◌, ◌<◌}
-use lib.ListN.{set, length, get_or-map}
-use lib.Seq.{get_or-take}
-use Rattle.rules.specs.Basics.{byte, chosen, up_to, without, set_all}
+use lib.ListN.{set, length, get_or, take, drop, get_or-map}
+use lib.Seq.{get_or-take, drop-cons}
+use Rattle.std.specs.Prelude.{Ok}
+use Rattle.rules.specs.Basics.{byte, up_to, without, set_all}
 use Rattle.rules.specs.Region.{Region}
 use Rattle.rules.specs.Syntax.{device, Place, at, Function, Program}
 use Rattle.rules.specs.Slots as slots
 use Rattle.rules.specs.Slots.{unbound, slot, is_qubit_at, kept}
 use Rattle.rules.specs.Machine as rules
 use Rattle.rules.specs.Machine.{Item, return, silent, stepped, step_items, step}
-use Rattle.steps.specs.declared.Act.TheVariants.{Quiet}
-use Rattle.steps.specs.declared.Stepped.{Stepped}
 use Rattle.steps.specs.declared.slots.Slots.{Slots}
 use Rattle.steps.specs.declared.frames.Frame.{Frame}
 use Rattle.steps.specs.declared.job.Job.{Job}
-use Rattle.steps.specs.State.{place_of, slots_of, location_at, frame_at, with_slots, leaving}
+use Rattle.steps.specs.State.{place_of, slots_of, location_at, frame_at, with_slots, with_top, leaving}
 use Rattle.steps.specs.Standing.{CallIn, FramesIn, Stands}
 use Rattle.steps.specs.Calling.{keeps, handed_back}
-use Rattle.steps.specs.Stepping.{stuck_at, moved_at, Follows, Steady}
-use Rattle.steps.proofs.Lists.{length_up_to}
+use Rattle.steps.specs.Told as told
+use Rattle.steps.specs.Stepping.{Follows, Steady, Returns}
+use Rattle.steps.proofs.Lists.{length_up_to, get_d_up_to, slice_is}
 use Rattle.steps.proofs.Stand.{Ending, ending, none_left, reslotted}
 
 -- the slots after the arguments from i on
-pub record Back (s : List ℕ) (p m : ℕ) (f : Frame) (φ : Slots) (i : ℕ) (ψ : Slots) : Type 0 where
-  pub same : slots_of ψ ≡ handed_back f i (up_to (p + i) (m - i) (byte s)) (m - i) (slots_of φ)
+pub record Back (xs : List ℕ) (f : Frame) (φ : Slots) (i : ℕ) (ψ : Slots) : Type 0 where
+  pub same : slots_of ψ ≡ handed_back f i (drop i xs) (length xs - i) (slots_of φ)
 
-pub back_none : (s : List ℕ) (p m : ℕ) (f : Frame) (φ : Slots) → Back s p m f φ m φ
+drop_all : (L : List ℕ) → drop (length L) L ≡ []
+drop_all [] = refl
+drop_all (x ∷ L) = drop_all L
+
+pub back_none : (xs : List ℕ) (f : Frame) (φ : Slots) → Back xs f φ (length xs) φ
 unfolding handed_back
-back_none s p m f φ =
-    let e : 0 ≡ m - m = omega arith in
-    record { same = ap (λ (n : ℕ). set_all unbound (without (up_to m n (keeps f)) (up_to (p + m) n (byte s))) (slots_of φ)) e }
+back_none xs f φ =
+    let e : 0 ≡ length xs - length xs = omega arith in
+    record { same = ap₂ (λ (n : ℕ) (ys : List ℕ). set_all unbound (without (up_to (length xs) n (keeps f)) ys) (slots_of φ)) e (sym (drop_all xs)) }
 
 -- one argument more
-one_more : (b : Bool) (x : ℕ) (bs : List Bool) (xs : List ℕ) (φ : rules.Frame) → chosen b (set_all unbound (without bs xs) φ) (set (set_all unbound (without bs xs) φ) x unbound) ≡ set_all unbound (without (b ∷ bs) (x ∷ xs)) φ
-one_more true x bs xs φ = refl
-one_more false x bs xs φ = refl
+module _ (xs : List ℕ) (f : Frame) (φ : Slots) (i : ℕ) (ψ : Slots) (B : Back xs f φ i ψ) (h : 0 < i) (l : i ≤ length xs) (x : ℕ) (ex : x ≡ i - 1) (b : Bool)
+    (eb : b ≡ is_qubit_at (slot (slots_of f.slots) x) (place_of (location_at f.places (i - 1)))) where
+  keeps_is : b ≡ keeps f (i - 1)
+  keeps_is = eb ∙ ap (λ (z : ℕ). is_qubit_at (slot (slots_of f.slots) z) (place_of (location_at f.places (i - 1)))) ex
 
-pub back_more : (s : List ℕ) (p m : ℕ) (f : Frame) (φ : Slots) (i : ℕ) (ψ : Slots) → Back s p m f φ i ψ → 0 < i → i ≤ m → (b : Bool) (x : ℕ) (r : Slots) → b ≡ keeps f (i - 1) → x ≡ byte s (p + (i - 1))
-    → slots_of r ≡ chosen b (slots_of ψ) (set (slots_of ψ) x unbound) → Back s p m f φ (i - 1) r
-unfolding handed_back
-back_more s p m f φ i ψ B h l b x r eb ex er = record {
-  same =
-      er ∙ ap (λ (χ : rules.Frame). chosen b χ (set χ x unbound)) B.same ∙ one_more b x (up_to i (m - i) (keeps f)) (up_to (p + i) (m - i) (byte s)) (slots_of φ)
-      ∙ ap (λ (c : Bool). set_all unbound (without (c ∷ up_to i (m - i) (keeps f)) (x ∷ up_to (p + i) (m - i) (byte s))) (slots_of φ)) eb
-      ∙ ap (λ (y : ℕ). set_all unbound (without (keeps f (i - 1) ∷ up_to i (m - i) (keeps f)) (y ∷ up_to (p + i) (m - i) (byte s))) (slots_of φ)) ex
-      ∙ ap (λ (n : ℕ). set_all unbound (without (keeps f (i - 1) ∷ up_to n (m - i) (keeps f)) (byte s (p + (i - 1)) ∷ up_to (p + i) (m - i) (byte s))) (slots_of φ)) next
-      ∙ ap (λ (n : ℕ). set_all unbound (without (keeps f (i - 1) ∷ up_to (suc (i - 1)) (m - i) (keeps f)) (byte s (p + (i - 1)) ∷ up_to n (m - i) (byte s))) (slots_of φ)) next_byte
-      ∙ ap (λ (n : ℕ). set_all unbound (without (up_to (i - 1) n (keeps f)) (up_to (p + (i - 1)) n (byte s))) (slots_of φ)) count;
-}
-  where
-    next : i ≡ suc (i - 1)
-    next = omega arith
+  before : (χ : rules.Frame) → handed_back f (i - 1) (drop (i - 1) xs) (length xs - (i - 1)) χ
+      ≡ set_all unbound (without (b ∷ up_to i (length xs - i) (keeps f)) (get_or xs (i - 1) 0 ∷ drop i xs)) χ
+  unfolding handed_back
+  before χ =
+      let n : suc (i - 1) ≡ i = omega arith in
+      let m : length xs - (i - 1) ≡ suc (length xs - i) = omega arith in
+      ap (λ (k : ℕ). set_all unbound (without (up_to (i - 1) k (keeps f)) (drop (i - 1) xs)) χ) m
+      ∙ ap (λ (ys : List ℕ). set_all unbound (without (keeps f (i - 1) ∷ up_to (suc (i - 1)) (length xs - i) (keeps f)) ys) χ) (drop-cons xs (i - 1) 0 (omega arith))
+      ∙ ap (λ (k : ℕ). set_all unbound (without (keeps f (i - 1) ∷ up_to k (length xs - i) (keeps f)) (get_or xs (i - 1) 0 ∷ drop k xs)) χ) n
+      ∙ ap (λ (c : Bool). set_all unbound (without (c ∷ up_to i (length xs - i) (keeps f)) (get_or xs (i - 1) 0 ∷ drop i xs)) χ) (sym keeps_is)
 
-    next_byte : p + i ≡ suc (p + (i - 1))
-    next_byte = omega arith
+  pub back_kept : b ≡ true → Back xs f φ (i - 1) ψ
+  unfolding handed_back
+  back_kept t = record {
+    same = B.same ∙ sym (before (slots_of φ) ∙ ap (λ (c : Bool). set_all unbound (without (c ∷ up_to i (length xs - i) (keeps f)) (get_or xs (i - 1) 0 ∷ drop i xs)) (slots_of φ)) t);
+  }
 
-    count : suc (m - i) ≡ m - (i - 1)
-    count = omega arith
+  pub back_lost : b ≡ false → (z : ℕ) → z ≡ get_or xs (i - 1) 0 → (r : Slots) → slots_of r ≡ set (slots_of ψ) z unbound → Back xs f φ (i - 1) r
+  unfolding handed_back
+  back_lost t z ez r e = record {
+    same =
+        e ∙ ap (λ (y : ℕ). set (slots_of ψ) y unbound) ez ∙ ap (λ (χ : rules.Frame). set χ (get_or xs (i - 1) 0) unbound) B.same
+        ∙ sym (before (slots_of φ) ∙ ap (λ (c : Bool). set_all unbound (without (c ∷ up_to i (length xs - i) (keeps f)) (get_or xs (i - 1) 0 ∷ drop i xs)) (slots_of φ)) t);
+  }
 
-pub back_all : (s : List ℕ) (p m : ℕ) (f : Frame) (φ : Slots) (i : ℕ) (ψ : Slots) → Back s p m f φ i ψ → i ≡ 0 → slots_of ψ ≡ handed_back f 0 (up_to p m (byte s)) m (slots_of φ)
-unfolding handed_back
-back_all s p m f φ i ψ B e =
-    let c : m - i ≡ m = omega arith in
-    let d : p + i ≡ p = omega arith in
-    B.same ∙ ap (λ (n : ℕ). set_all unbound (without (up_to i n (keeps f)) (up_to (p + i) n (byte s))) (slots_of φ)) c ∙ ap (λ (n : ℕ). set_all unbound (without (up_to n m (keeps f)) (up_to (p + i) m (byte s))) (slots_of φ)) e
-    ∙ ap (λ (n : ℕ). set_all unbound (without (up_to 0 m (keeps f)) (up_to n m (byte s))) (slots_of φ)) d
-
-pub kept_slot : (φ r : Slots) (x : ℕ) (b : Bool) → b ≡ true → slots_of φ ≡ chosen b (slots_of φ) (set (slots_of φ) x unbound)
-kept_slot φ r x b e = sym (ap (λ (c : Bool). chosen c (slots_of φ) (set (slots_of φ) x unbound)) e)
-
-pub lost_slot : (φ r : Slots) (x : ℕ) (b : Bool) → b ≡ false → slots_of r ≡ set (slots_of φ) x unbound → slots_of r ≡ chosen b (slots_of φ) (set (slots_of φ) x unbound)
-lost_slot φ r x b e k = k ∙ sym (ap (λ (c : Bool). chosen c (slots_of φ) (set (slots_of φ) x unbound)) e)
+pub back_all : (xs : List ℕ) (f : Frame) (φ : Slots) (i : ℕ) (ψ : Slots) → Back xs f φ i ψ → i ≤ 0 → slots_of ψ ≡ handed_back f 0 xs (length xs) (slots_of φ)
+back_all xs f φ i ψ B h =
+    let e : i ≡ 0 = omega arith in
+    B.same ∙ ap (λ (k : ℕ). handed_back f k (drop k xs) (length xs - k) (slots_of φ)) e ∙ ap (λ (k : ℕ). handed_back f 0 xs k (slots_of φ)) (omega arith)
 
 -- two functions that agree below a number
 up_to_same : {A : Type 0} (f g : ℕ → A) (p m : ℕ) → ((i : ℕ) → p ≤ i → i < p + m → f i ≡ g i) → up_to p m f ≡ up_to p m g
@@ -106,13 +105,12 @@ module _ (s : List ℕ) (p : Program) (J : rules.Job) (j : Job) (St : Stands s p
   fs = p.functions
 
   -- the end of main is the end of the job
-  pub finished : (R : Region) (v : Bool) (is_free : ℕ → Bool) (r : Stepped) → j.depth ≡ 0 → r ≡ stuck_at j 1 65535 → Follows s p (step R fs v is_free J) r
-  finished R v is_free r e k =
-      subst (λ (S : rules.Stepped). Follows s p S r) (sym (ap (λ (is : List Item). step_items R fs v is_free J.top J.below is) over)) (
-        subst (λ (z : Stepped). Stands s p (record { top = J.top; below = J.below; items = [] }) z.job) (sym k)
-            (record { top = St.top; sized = St.sized; frames = subst (λ (is : List Item). FramesIn s fs j.below j.depth j.top J.below is) over St.frames }),
-        ap (λ (z : Stepped). z.record) k,
-        ap (λ (z : Stepped). z.act) k,
+  pub finished : (R : Region) (v : Bool) (is_free : ℕ → Bool) → j.depth ≡ 0 → Follows s p (step R fs v is_free J) j told.finished
+  finished R v is_free e =
+      subst (λ (S : rules.Stepped). Follows s p S j told.finished) (sym (ap (λ (is : List Item). step_items R fs v is_free J.top J.below is) over)) (
+        record { top = St.top; sized = St.sized; frames = subst (λ (is : List Item). FramesIn s fs j.below j.depth j.top J.below is) over St.frames },
+        refl,
+        refl,
       )
     where
       over : J.items ≡ []
@@ -131,10 +129,9 @@ module _ (s : List ℕ) (p : Program) (J : rules.Job) (j : Job) (St : Stands s p
     abbrev o : ℕ
     o = j.top.call
 
-    returned : (R : Region) (v : Bool) (is_free : ℕ → Bool) (r : Stepped) (φ : Slots) → slots_of φ ≡ handed_back j.top 0 (up_to (o + 4 + byte s (o + 2)) (byte s (o + 3)) (byte s)) (byte s (o + 3)) (slots_of caller.slots)
-        → r ≡ moved_at (leaving j (with_slots caller φ)) 0 Quiet o → Follows s p (step R fs v is_free J) r
-    returned R v is_free r φ b k =
-        subst (λ (S : rules.Stepped). Follows s p S r) (sym step_is) (subst (λ (z : Stepped). Stands s p after z.job) (sym k) leaves, ap (λ (z : Stepped). z.record) k, ap (λ (z : Stepped). z.act) k)
+    returned : (R : Region) (v : Bool) (is_free : ℕ → Bool) (φ : Slots) → slots_of φ ≡ handed_back j.top 0 (up_to (o + 4 + byte s (o + 2)) (byte s (o + 3)) (byte s)) (byte s (o + 3)) (slots_of caller.slots)
+        → Follows s p (step R fs v is_free J) (leaving j (with_slots caller φ)) (told.told (Ok told.silent) o)
+    returned R v is_free φ b = subst (λ (S : rules.Stepped). Follows s p S (leaving j (with_slots caller φ)) (told.told (Ok told.silent) o)) (sym step_is) (leaves, refl, refl)
       where
         after : rules.Job
         after = record { top = set_all unbound (without (kept (slots_of j.top.slots) (at E.ls) (length E.xs)) E.xs) (slots_of caller.slots); below = E.χs; items = E.after }
@@ -151,31 +148,47 @@ module _ (s : List ℕ) (p : Program) (J : rules.Job) (j : Job) (St : Stands s p
           frames = reslotted s fs j.below (j.depth - 1) caller E.χs E.after φ E.lower;
         }
 
-    -- the same over what the code has in hand
-    pub gives_back : (R : Region) (v : Bool) (is_free : ℕ → Bool) (r : Stepped) (c k m : ℕ) (f g : Frame) (φ : Slots) (i : Job) → c ≡ o → k ≡ byte s (c + 2) → m ≡ byte s (c + 3) → f ≡ caller
-        → slots_of φ ≡ handed_back j.top 0 (up_to (c + 4 + k) m (byte s)) m (slots_of f.slots) → g ≡ with_slots f φ → i ≡ leaving j g → r ≡ moved_at i 0 Quiet c → Follows s p (step R fs v is_free J) r
-    gives_back R v is_free r c k m f g φ i ec ek em ef b eg ei er =
-        returned R v is_free r φ
-        (b ∙ ap (λ (z : ℕ). handed_back j.top 0 (up_to (c + 4 + z) m (byte s)) m (slots_of f.slots)) ek ∙ ap (λ (z : ℕ). handed_back j.top 0 (up_to (c + 4 + byte s (c + 2)) z (byte s)) z (slots_of f.slots)) em
-        ∙ ap (λ (z : ℕ). handed_back j.top 0 (up_to (z + 4 + byte s (z + 2)) (byte s (z + 3)) (byte s)) (byte s (z + 3)) (slots_of f.slots)) ec
-        ∙ ap (λ (z : Frame). handed_back j.top 0 (up_to (o + 4 + byte s (o + 2)) (byte s (o + 3)) (byte s)) (byte s (o + 3)) (slots_of z.slots)) ef)
-        (er ∙ ap (λ (z : ℕ). moved_at i 0 Quiet z) ec ∙ ap (λ (z : Job). moved_at z 0 Quiet o) (ei ∙ ap (leaving j) (eg ∙ ap (λ (z : Frame). with_slots z φ) ef)))
-
 -- what the code asks of the call that it returns from
-pub record Returns (s : List ℕ) (c : ℕ) (depth : ℕ) : Type 0 where
+pub record Came (s : List ℕ) (c : ℕ) (depth : ℕ) : Type 0 where
   pub fits : c + 4 + byte s (c + 2) + byte s (c + 3) ≤ length s
   pub size : length s ≤ 4096
   pub few : byte s (c + 3) ≤ 8
   pub slots : (i : ℕ) → i < byte s (c + 3) → byte s (c + 4 + byte s (c + 2) + i) < 32
   pub deep : depth ≤ 15
 
-pub returns_there : {s : List ℕ} {j : Job} (Q : Steady s j) → j.top.n ≡ 0 → 0 < j.depth → (c : ℕ) → c ≡ j.top.call → Returns s c j.depth
-returns_there {s} {j} Q n d c e =
+pub came : {s : List ℕ} {j : Job} (Q : Steady s j) → j.top.n ≡ 0 → 0 < j.depth → Came s j.top.call j.depth
+came {s} {j} Q n d =
     let E = ended s Q.p Q.J j Q.stands n d in
     let C = E.call in
-    subst (λ (z : ℕ). Returns s z j.depth) (sym e) (record { fits = C.fits; size = Q.program.size; few = C.arguments; slots = C.bound; deep = omega (arith, E.depth, Q.program.few) })
+    record { fits = C.fits; size = Q.program.size; few = C.arguments; slots = C.bound; deep = omega (arith, E.depth, Q.program.few) }
 
--- the same of the numbers that were read
-pub gave_fits : {s : List ℕ} {c d : ℕ} → Returns s c d → (k m : ℕ) → k ≡ byte s (c + 2) → m ≡ byte s (c + 3) → (c + 4 + k + m ≤ length s) × (m ≤ 16) × ((i : ℕ) → i < m → byte s (c + 4 + k + i) < 32)
-gave_fits {s} {c} F k m ek em =
-    (omega (arith, F.fits), omega (arith, F.few), λ i h. subst (λ (z : ℕ). byte s (c + 4 + z + i) < 32) (sym ek) (F.slots i (omega arith)))
+-- the slots that were given, as the code has them
+module _ {s : List ℕ} {c d : ℕ} (C : Came s c d) where
+  abbrev pub given : List ℕ
+  given = take (c + 4 + byte s (c + 2) + byte s (c + 3) - (c + 4 + byte s (c + 2))) (drop (c + 4 + byte s (c + 2)) s)
+
+  given_is : given ≡ up_to (c + 4 + byte s (c + 2)) (byte s (c + 3)) (byte s)
+  given_is = slice_is s (c + 4 + byte s (c + 2)) (byte s (c + 3)) C.fits
+
+  given_length : length given ≡ byte s (c + 3)
+  given_length = ap length given_is ∙ length_up_to (byte s) (c + 4 + byte s (c + 2)) (byte s (c + 3))
+
+  pub given_fits : (length given ≤ 16) × ((i : ℕ) → i < length given → byte given i < 32)
+  given_fits = (
+    omega (arith, given_length, C.few),
+    λ i h. let l : i < byte s (c + 3) = omega (arith, given_length, h) in
+        let e : byte given i ≡ byte s (c + 4 + byte s (c + 2) + i) = ap (λ (xs : List ℕ). byte xs i) given_is ∙ get_d_up_to (byte s) (c + 4 + byte s (c + 2)) (byte s (c + 3)) i 0 l in
+        let k = C.slots i l in omega (arith, e, k),
+  )
+
+  pub handed_is : (f : Frame) (χ : rules.Frame) → handed_back f 0 given (length given) χ ≡ handed_back f 0 (up_to (c + 4 + byte s (c + 2)) (byte s (c + 3)) (byte s)) (byte s (c + 3)) χ
+  handed_is f χ = ap₂ (λ (xs : List ℕ) (m : ℕ). handed_back f 0 xs m χ) given_is given_length
+
+-- what the code has in hand is the rules' return
+module _ {s : List ℕ} {j : Job} (Q : Steady s j) (n : j.top.n ≡ 0) (d : 0 < j.depth) where
+  pub gives_back : (i : Job) → i ≡ leaving j (frame_at j.below (j.depth - 1)) → (φ : Slots) → slots_of φ ≡ handed_back j.top 0 (given (came Q n d)) (length (given (came Q n d))) (slots_of i.top.slots)
+      → Returns s j (with_top i (with_slots i.top φ)) j.top.call
+  gives_back i e φ b =
+      let k : frame_at j.below (j.depth - 1) ≡ i.top = sym (ap (λ (z : Job). z.top) e) in
+      subst (λ (z : Job). Returns s j (with_top z (with_slots z.top φ)) j.top.call) (sym e)
+      (λ p J R v is_free P St. returned s p J j St n d R v is_free φ (b ∙ ap (λ (z : Frame). handed_back j.top 0 (given (came Q n d)) (length (given (came Q n d))) (slots_of z.slots)) (sym k) ∙ handed_is (came Q n d) j.top (slots_of (frame_at j.below (j.depth - 1)).slots)))

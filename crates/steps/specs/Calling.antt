@@ -1,6 +1,7 @@
 -- What a call asks and what a return gives back, in the code's terms: the call's locations and slots as lists.
-use Rattle.std.specs.Prelude.{Bool, List, map, ◌≡◌, ℕ, eqb, take}
-use Rattle.answers.specs.Check.{Check, ok, refused, refusal, ◌>>=◌, need}
+use Rattle.std.specs.Prelude.{Bool, List, map, ◌≡◌, ℕ, eqb, take, Result}
+use Rattle.answers.specs.declared.Fault.{Fault}
+use Rattle.answers.specs.Check.{Check, ◌>>=◌, need}
 use Rattle.rules.specs.declared.place.Location.{Location}
 use Rattle.rules.specs.Basics.{up_to, without, set_all}
 use Rattle.rules.specs.Region.{Region, free_in}
@@ -12,15 +13,9 @@ use Rattle.sets.specs.declared.LocationSet.{LocationSet}
 use Rattle.device.specs.Reader.{Owned}
 use Rattle.steps.specs.declared.slots.Slots.{Slots}
 use Rattle.steps.specs.declared.frames.Frame.{Frame}
-use Rattle.steps.specs.declared.asks.Asked.{Asked}
-use Rattle.steps.specs.declared.asks.Asked.TheVariants.{Granted, Refused}
+use Rattle.steps.specs.Said.{said_at, itself}
 use Rattle.steps.specs.State.{place_of, slots_of, location_at, empty_frame}
 use Rattle.steps.specs.Performing.{Maps}
-
--- what a call at the offset o asks: granted, or the reason
-abbrev pub asked_said : Asked → ℕ → Check (Unit {0})
-asked_said Granted o = ok tt
-asked_said (Refused n) o = refused (refusal n o)
 
 -- the first k places of a call
 unfoldable pub given : List Location → ℕ → List (Place device)
@@ -33,13 +28,13 @@ numbers ls = map (λ l. l.no) ls
 unfoldable pub argument_at : Slots → ℕ → Location → ℕ → Check (Unit {0})
 argument_at φ x l o = need_qubit (slot (slots_of φ) x) o >>= λ k. need (eqb k.no l.0) 16 o
 
-abbrev pub Arguments : Slots → List ℕ → List (Place device) → Asked → Type 0
-Arguments φ xs ls r = (d : Side) (W : Setting d device Bool) (o : ℕ) → asked_said r o ≡ arguments_at W o (slots_of φ) xs ls
+abbrev pub Arguments : Slots → List ℕ → List (Place device) → Result (Unit {0}) Fault → Type 0
+Arguments φ xs ls r = (d : Side) (W : Setting d device Bool) (o : ℕ) → said_at itself r o ≡ arguments_at W o (slots_of φ) xs ls
 
-abbrev pub Callable : Slots → List ℕ → List (Place device) → LocationSet → List ℕ → Asked → Type 0
+abbrev pub Callable : Slots → List ℕ → List (Place device) → LocationSet → List ℕ → Result (Unit {0}) Fault → Type 0
 Callable φ xs ls owned map r =
     (d : Side) (σ : Actual d) (R : Region) (fs : List Function) (v : Bool) (occupancy : List ℕ) → Owned R owned → Maps map occupancy → (o : ℕ)
-    → asked_said r o ≡ callable (floor R fs v (free_in R occupancy) σ) o (slots_of φ) ls xs
+    → said_at itself r o ≡ callable (floor R fs v (free_in R occupancy) σ) o (slots_of φ) ls xs
 
 -- the callee's frame with nothing to come yet
 pub record Enters (places : List Location) (m at : ℕ) (f : Frame) : Type 0 where

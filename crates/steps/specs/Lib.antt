@@ -1,6 +1,7 @@
 pub mod Applying
 pub mod Calling
 pub mod Performing
+pub mod Said
 pub mod Standing
 pub mod State
 pub mod Stepping

@@ -1,6 +1,5 @@
 -- A job's state as the code has it: what its slots are in the rules' terms, and what the methods do.
 use Rattle.std.specs.Prelude.{Bool, List, [], map, ℕ, ◌+◌, ◌-◌, eqb, get_or, set, replicate}
-use Rattle.answers.specs.Check.{Check, ok, refused, refusal}
 use Rattle.rules.specs.declared.place.Location.{Location}
 use Rattle.rules.specs.Basics.{chosen}
 use Rattle.rules.specs.Syntax.{device, Place, location}
@@ -8,11 +7,6 @@ use Rattle.rules.specs.Slots as rules
 use Rattle.rules.specs.Slots.{unbound, qubit, bool, ref}
 use Rattle.steps.specs.declared.slots.Slot.{Slot}
 use Rattle.steps.specs.declared.slots.Slot.TheVariants.{Unbound, Qubit, Bool as Boolean, Reference}
-use Rattle.steps.specs.declared.slots.Cell.{Cell}
-use Rattle.steps.specs.declared.slots.Placed.{Placed}
-use Rattle.steps.specs.declared.slots.Placed.TheVariants.{At, Nowhere}
-use Rattle.steps.specs.declared.slots.Value.{Value}
-use Rattle.steps.specs.declared.slots.Value.TheVariants.{Of, Missing}
 use Rattle.steps.specs.declared.slots.Slots.{Slots}
 use Rattle.steps.specs.declared.frames.Range.{Range}
 use Rattle.steps.specs.declared.frames.Frame.{Frame}
@@ -28,16 +22,7 @@ slot_of (Boolean b) = bool b
 slot_of (Reference b) = ref b
 
 unfoldable pub slots_of : Slots → List (rules.Slot device Bool)
-slots_of φ = map (λ (c : Cell). slot_of c.slot) φ.cells
-
--- what a read of a slot says: its qubit, its bool or its reference's bool, or 11
-abbrev pub placed_said : Placed → ℕ → Check (Place device)
-placed_said (At l) o = ok (place_of l)
-placed_said Nowhere o = refused (refusal 11 o)
-
-abbrev pub value_said : Value → ℕ → Check Bool
-value_said (Of b) o = ok b
-value_said Missing o = refused (refusal 11 o)
+slots_of φ = map slot_of φ.slots
 
 abbrev pub location_at : List Location → ℕ → Location
 location_at ls i = get_or ls i (record { 0 = 0 })
@@ -73,7 +58,7 @@ unfoldable pub pushed : Frame → ℕ → ℕ → Frame
 pushed f a e = chosen (eqb a e) f (with_ranges f (set f.ranges f.n (range a e)) (f.n + 1))
 
 abbrev pub no_frame : Frame
-no_frame = record { slots = record { cells = [] }; ranges = []; n = 0; places = []; call = 0 }
+no_frame = record { slots = record { slots = [] }; ranges = []; n = 0; places = []; call = 0 }
 
 abbrev pub frame_at : List Frame → ℕ → Frame
 frame_at fs i = get_or fs i no_frame

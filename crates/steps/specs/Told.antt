@@ -1,6 +1,7 @@
 -- What a step tells and does, in the document's terms.
-use Rattle.std.specs.Prelude.{ℕ}
-use Rattle.answers.specs.Check.{Check, ok, refused, refusal}
+use Rattle.std.specs.Prelude.{ℕ, Result, Ok, Err}
+use Rattle.answers.specs.declared.Fault.{Fault}
+use Rattle.answers.specs.Check.{number_of}
 use Rattle.rules.specs.Syntax.{device}
 use Rattle.rules.specs.Slots as slots
 use Rattle.rules.specs.Slots.{quiet, takes, gives, merges}
@@ -8,18 +9,21 @@ use Rattle.rules.specs.Machine as machine
 use Rattle.steps.specs.declared.Act.{Act}
 use Rattle.steps.specs.declared.Act.TheVariants.{Quiet, Takes, Gives}
 use Rattle.steps.specs.declared.Record.{Record}
-use Rattle.steps.specs.declared.operations.Told.{Told}
-use Rattle.steps.specs.declared.operations.Told.TheVariants.{Moved, Stuck}
+use Rattle.steps.specs.declared.Effect.{Effect}
+use Rattle.steps.specs.declared.Stepped.{Stepped}
 
--- an operation at the offset o moved, with the edges of a merge's route, or is stuck for a reason
-abbrev pub told_said : Told → ℕ → Check ℕ
-told_said (Moved e) o = ok e
-told_said (Stuck n) o = refused (refusal n o)
+-- the item at the offset o moved: 0 and its edges; or it is stuck: its reason's number and 0
+abbrev pub told : Result Effect Fault → ℕ → Stepped
+told (Ok e) o = record { «record» = record { code = 0; edges = e.edges; offset = o }; act = e.act }
+told (Err reason) o = record { «record» = record { code = number_of reason; edges = 0; offset = o }; act = Quiet }
 
--- its record: 0 and the edges, or the reason and 0
-abbrev pub told_record : Told → ℕ → Record
-told_record (Moved e) o = record { code = 0; edges = e; offset = o }
-told_record (Stuck n) o = record { code = n; edges = 0; offset = o }
+-- the job is at its end
+abbrev pub finished : Stepped
+finished = record { «record» = record { code = 1; edges = 0; offset = 65535 }; act = Quiet }
+
+-- a move with no edges that does nothing to the map
+abbrev pub silent : Effect
+silent = record { edges = 0; act = Quiet }
 
 -- the act as the code has it: how a location was prepared does not show on the map, nor does a merge
 abbrev pub act_of : slots.Act device → Act

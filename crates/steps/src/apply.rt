@@ -2,7 +2,6 @@
 ghost use Rattle.steps.specs.Applying.{Applies};
 
 use crate::Act;
-use rules::bytes::wide;
 
 // A location that is taken holds the job's number, one that is given back holds 0.
 pub fn apply(act: Act, job: u8, map: &mut [u8; 256])
@@ -10,11 +9,7 @@ pub fn apply(act: Act, job: u8, map: &mut [u8; 256])
 {
     match act {
         Act::Quiet => {}
-        Act::Takes(l) => {
-            map[wide(l.0)] = job;
-        }
-        Act::Gives(l) => {
-            map[wide(l.0)] = 0;
-        }
+        Act::Takes(l) => map[l.0 as usize] = job,
+        Act::Gives(l) => map[l.0 as usize] = 0,
     }
 }

@@ -1,180 +1,100 @@
 // What a call asks, in order: that its locations are inside the region, that no location and no slot is given twice, that each argument is a qubit at
 // its location, and that the other locations are free.
-ghost use Rattle.std.specs.Prelude.{◌&&◌, ◌≡◌, ℕ, ◌+◌, ◌≤◌, ◌<◌, eqb, length, get_or, drop};
-ghost use Rattle.rules.specs.Basics.{byte, up_to, all, distinct};
+ghost use Rattle.std.specs.Prelude.{map, ◌&&◌, ◌≡◌, ℕ, ◌≤◌, ◌<◌, eqb, length, get_or};
+ghost use Rattle.std.specs.List.{list_all};
+ghost use Rattle.rules.specs.Basics.{byte};
 ghost use Rattle.sets.specs.Sets.{has};
-ghost use Rattle.steps.specs.State.{location_at, located_in};
-ghost use Rattle.steps.specs.Calling.{asked_said, given, numbers, argument_at, Arguments, Callable};
+ghost use Rattle.steps.specs.Said.{said_at, itself};
+ghost use Rattle.steps.specs.State.{place_of, location_at, located_in};
+ghost use Rattle.steps.specs.Calling.{argument_at, Arguments, Callable};
 
+use crate::floor::Floor;
 use crate::job::Job;
-use crate::kinds::{byte_of, operand};
-use crate::region::{is_free, is_inside};
-use crate::slots::{Placed, Slots};
-use rules::bytes::wide;
-use rules::place::Location;
-use sets::LocationSet;
+use crate::slots::Slots;
+use answers::Fault;
+use rules::place::{Location, SlotNumber};
+use sets::bytes::no_repeat;
 
-// What a call asks is granted, or refused with the reason.
-#[derive(Clone, Copy)]
-pub enum Asked {
-    Granted,
-    Refused(u8),
-}
-
-// The locations that a call's place bytes name, from a position on.
-pub fn actuals(s: &[u8], p: usize, k: usize, job: Job) -> [Location; 16]
-    requires { (p + k ≤ length s.now) × (k ≤ 16) × (0 < job.depth → (i : ℕ) → i < k → byte s.now (p + i) < 16) }
-    ensures { (length result ≡ 16) × ((i : ℕ) → i < k → location_at result i ≡ located_in job (byte s.now (p + i))) }
+// The locations that a call's place bytes name.
+pub fn actuals(bytes: &[u8], job: &Job) -> [Location; 16]
+    requires { (length bytes.now ≤ 16) × (0 < job.now.depth → (i : ℕ) → i < length bytes.now → byte bytes.now i < 16) }
+    ensures { (i : ℕ) → i < length bytes.now → location_at result i ≡ located_in job.now (byte bytes.now i) }
 {
-    let none = Location(0);
-    let mut places = [none; 16];
-    let mut i: usize = 0;
-    while i < k {
-        places[i] = job.located(byte_of(s, p, i));
-        i += 1;
+    let mut places = [Location(0); 16];
+    for i in 0..bytes.len() {
+        places[i] = job.located(bytes[i]);
     }
     places
 }
 
-pub fn all_inside(owned: LocationSet, places: [Location; 16], k: usize) -> bool
-    requires { (length places ≡ 16) × (k ≤ 16) }
-    ensures { result ≡ all (λ l. has owned l.no) (given places k) }
+pub fn all_inside(floor: &Floor<'_>, places: &[Location]) -> bool
+    ensures { result ≡ list_all (λ l. has floor.now.owned l.0) places.now }
 {
-    let mut i: usize = 0;
-    while i < k {
-        if !is_inside(owned, places[i]) {
-            return false;
-        }
-        i += 1;
-    }
-    true
+    places.iter().all(|l| floor.is_inside(*l))
 }
 
-// No location twice: from the last to the first, with the set of those after it.
-pub fn no_location_twice(places: [Location; 16], k: usize) -> bool
-    requires { (length places ≡ 16) × (k ≤ 16) }
-    ensures { result ≡ distinct (numbers (given places k)) }
+pub fn all_free(floor: &Floor<'_>, places: &[Location]) -> bool
+    ensures { result ≡ list_all (λ l. has floor.now.owned l.0 && eqb (get_or floor.now.map.now l.0 0) 0) places.now }
 {
-    let mut seen = LocationSet::empty();
-    let mut i = k;
-    while 0 < i {
-        i -= 1;
-        let l = places[i];
-        let x = wide(l.0);
-        if seen.contains(x) {
-            return false;
-        }
-        seen = seen.add(x);
-    }
-    true
+    places.iter().all(|l| floor.is_free(*l))
 }
 
-pub fn no_slot_twice(s: &[u8], p: usize, m: usize) -> bool
-    requires { p + m ≤ length s.now }
-    ensures { result ≡ distinct (up_to p m (byte s.now)) }
+// The numbers of at most 16 locations.
+fn numbers(places: &[Location]) -> [u8; 16]
+    requires { length places.now ≤ 16 }
+    ensures { (i : ℕ) → i < length places.now → get_or result i 0 ≡ (location_at places.now i).0 }
 {
-    let mut seen = LocationSet::empty();
-    let mut i = m;
-    while 0 < i {
-        i -= 1;
-        let x = operand(s, p, i);
-        if seen.contains(x) {
-            return false;
-        }
-        seen = seen.add(x);
+    let mut numbers = [0; 16];
+    for i in 0..places.len() {
+        numbers[i] = places[i].0;
     }
-    true
+    numbers
 }
 
 // One argument is a qubit at its location.
-fn argument(slots: Slots, x: usize, l: Location) -> Asked
-    requires { x < 32 }
-    ensures { (o : ℕ) → asked_said result o ≡ argument_at slots x l o }
+fn argument(slots: &Slots, x: SlotNumber, l: Location) -> Result<(), Fault>
+    ensures { (o : ℕ) → said_at itself result o ≡ argument_at slots.now x l o }
 {
-    match slots.qubit(x) {
-        Placed::At(k) => {
-            if k.0 == l.0 {
-                Asked::Granted
-            } else {
-                Asked::Refused(16)
-            }
-        }
-        Placed::Nowhere => Asked::Refused(11),
+    let k = slots.qubit(x)?;
+    if k != l {
+        return Err(Fault::Elsewhere);
     }
+    Ok(())
 }
 
 // Each argument in turn.
-pub fn arguments(
-    s: &[u8],
-    p: usize,
-    m: usize,
-    k: usize,
-    places: [Location; 16],
-    slots: Slots,
-) -> Asked
-    requires { (length places ≡ 16) × (k ≤ 16) × (m ≤ k) × (p + m ≤ length s.now) × ((i : ℕ) → i < m → byte s.now (p + i) < 32) }
-    ensures { Arguments slots (up_to p m (byte s.now)) (given places k) result }
+pub fn arguments(slots: &Slots, given: &[u8], places: &[Location]) -> Result<(), Fault>
+    requires { (length given.now ≤ length places.now) × ((i : ℕ) → i < length given.now → byte given.now i < 32) }
+    ensures { Arguments slots.now given.now (map place_of places.now) result }
 {
-    let mut i: usize = 0;
-    while i < m {
-        let a = argument(slots, operand(s, p, i), places[i]);
-        if let Asked::Refused(n) = a {
-            return Asked::Refused(n);
-        }
-        i += 1;
+    for i in 0..given.len() {
+        argument(slots, SlotNumber::known(given[i]), places[i])?;
     }
-    Asked::Granted
+    Ok(())
 }
 
-pub fn all_free(
-    owned: LocationSet,
-    map: &[u8; 256],
-    places: [Location; 16],
-    m: usize,
-    k: usize,
-) -> bool
-    requires { (length places ≡ 16) × (k ≤ 16) × (m ≤ k) }
-    ensures { result ≡ all (λ l. has owned l.no && eqb (get_or map.now l.no 0) 0) (drop m (given places k)) }
-{
-    let mut i = m;
-    while i < k {
-        if !is_free(owned, map, places[i]) {
-            return false;
-        }
-        i += 1;
-    }
-    true
-}
-
-// All that a call asks, its k locations being known and its m argument slots standing at a position.
+// All that a call asks, its locations being known: the first of them are its arguments', which are given in slots.
 pub fn callable(
-    s: &[u8],
-    p: usize,
-    m: usize,
-    k: usize,
-    places: [Location; 16],
-    slots: Slots,
-    owned: LocationSet,
-    map: &[u8; 256],
-) -> Asked
-    requires { (length places ≡ 16) × (k ≤ 16) × (m ≤ k) × (p + m ≤ length s.now) × ((i : ℕ) → i < m → byte s.now (p + i) < 32) }
-    ensures { Callable slots (up_to p m (byte s.now)) (given places k) owned map.now result }
+    slots: &Slots,
+    given: &[u8],
+    places: &[Location],
+    floor: &Floor<'_>,
+) -> Result<(), Fault>
+    requires { (length given.now ≤ length places.now) × (length places.now ≤ 16) × ((i : ℕ) → i < length given.now → byte given.now i < 32) }
+    ensures { Callable slots.now given.now (map place_of places.now) floor.now.owned floor.now.map.now result }
 {
-    if !all_inside(owned, places, k) {
-        return Asked::Refused(13);
+    if !all_inside(floor, places) {
+        return Err(Fault::Outside);
     }
-    if !no_location_twice(places, k) {
-        return Asked::Refused(15);
+    if !no_repeat(&numbers(places)[..places.len()]) {
+        return Err(Fault::Twice);
     }
-    if !no_slot_twice(s, p, m) {
-        return Asked::Refused(15);
+    if !no_repeat(given) {
+        return Err(Fault::Twice);
     }
-    let a = arguments(s, p, m, k, places, slots);
-    if let Asked::Refused(n) = a {
-        return Asked::Refused(n);
+    arguments(slots, given, places)?;
+    if !all_free(floor, &places[given.len()..]) {
+        return Err(Fault::Taken);
     }
-    if !all_free(owned, map, places, m, k) {
-        return Asked::Refused(14);
-    }
-    Asked::Granted
+    Ok(())
 }

@@ -1,53 +1,52 @@
 // A call: what it asks, and the callee's frame on top.
-ghost use Rattle.std.specs.Prelude.{◌≡◌, ◌≤◌, ◌<◌, length};
+ghost use Rattle.std.specs.Prelude.{◌≡◌, ◌≤◌, ◌<◌};
 ghost use Rattle.rules.specs.Basics.{byte};
-ghost use Rattle.steps.specs.State.{here_of};
 ghost use Rattle.steps.specs.Calling.{Enters};
-ghost use Rattle.steps.specs.Stepping.{Ready, Calls};
+ghost use Rattle.steps.specs.Stepping.{Ready, Comes, Calls};
 
-use crate::Stepped;
-use crate::asks::{Asked, actuals, callable};
-use crate::blocks::block_end;
+use crate::Effect;
+use crate::asks::{actuals, callable};
+use crate::floor::Floor;
 use crate::frames::Frame;
 use crate::job::Job;
-use crate::kinds::operand;
 use crate::slots::Slots;
+use answers::Fault;
 use program::functions::FunctionTable;
-use rules::place::Location;
-use sets::LocationSet;
+use rules::place::{Location, SlotNumber};
+use rules::positions::block_end;
 
 // The callee's frame with nothing to come yet: argument i is a qubit in slot i at location i.
-pub fn callee(places: [Location; 16], m: usize, at: usize) -> Frame
-    requires { (length places ≡ 16) × (m ≤ 16) × (at < 65536) }
+pub fn callee(places: [Location; 16], m: u8, at: usize) -> Frame
+    requires { (m ≤ 16) × (at < 65536) }
     ensures { Enters places m at result }
 {
     let mut slots = Slots::empty();
-    let mut i: usize = 0;
-    while i < m {
-        slots = slots.occupy(i, places[i]);
-        i += 1;
+    for i in 0..m {
+        slots = slots.occupy(SlotNumber::known(i), places[i as usize]);
     }
     Frame::new(slots, places, at)
 }
 
-pub fn call(s: &[u8], t: FunctionTable, owned: LocationSet, map: &[u8; 256], job: Job) -> Stepped
-    requires { Ready s.now t job × (0 < job.top.n) × (byte s.now (here_of job.top) ≡ 12) }
-    ensures { Calls s.now t owned map.now job result }
+pub fn call(
+    s: &[u8],
+    t: &FunctionTable,
+    at: usize,
+    floor: &Floor<'_>,
+    job: &mut Job,
+) -> Result<Effect, Fault>
+    requires { Ready s.now t.now job.old × Comes s.now job.old at × (byte s.now at ≡ 12) }
+    ensures { Calls s.now t.now at floor.now.owned floor.now.map.now job.old job.new result }
 {
-    let f = job.top;
-    let at = f.here();
-    let k = operand(s, at, 2);
-    let m = operand(s, at, 3);
-    let places = actuals(s, at + 4, k, job);
-    let slots = f.slots;
-    let p = at + 4 + k;
-    let asked = callable(s, p, m, k, places, slots, owned, map);
-    if let Asked::Refused(n) = asked {
-        return Stepped::stuck(job, n, at);
-    }
-    let g = operand(s, at, 1);
-    let b = t.bodies[g];
-    let e = block_end(s, b);
-    let inner = callee(places, m, at).push(b + 2, e);
-    Stepped::moved(job.enter(f.advance(p + m), inner), at)
+    let k = s[at + 2] as usize;
+    let m = s[at + 3] as usize;
+    let slots_at = at + 4 + k;
+    let end = slots_at + m;
+    let places = actuals(&s[at + 4..slots_at], job);
+    callable(&job.top.slots, &s[slots_at..end], &places[..k], floor)?;
+    let body = t.head(s[at + 1]).body;
+    let mut inner = callee(places, s[at + 3], at);
+    inner.push(body + 2, block_end(s, body));
+    job.top.advance(end);
+    job.enter(inner);
+    Ok(Effect::QUIET)
 }

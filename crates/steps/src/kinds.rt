@@ -1,105 +1,73 @@
-// The operation to come, by its byte.
-ghost use Rattle.std.specs.Prelude.{◌≡◌, ◌+◌, ◌≤◌, ◌<◌, length};
+// The operation to come, by its kind.
+ghost use Rattle.std.specs.Prelude.{◌≡◌, ◌<◌, length};
 ghost use Rattle.rules.specs.Basics.{byte};
-ghost use Rattle.steps.specs.State.{here_of};
+ghost use Rattle.rules.specs.Kinds.{byte_of};
 ghost use Rattle.steps.specs.Performing.{Operable, Operates};
-ghost use Rattle.steps.specs.Stepping.{Steady, NoBlock, Acts};
+ghost use Rattle.steps.specs.Stepping.{Comes, NoBlock, Acts};
 
-use crate::Stepped;
+use crate::Effect;
+use crate::floor::Floor;
 use crate::job::Job;
 use crate::merge::merge;
 use crate::operations::{
-    Performed, Told, constant, free, gate, get_reference, init, measure, new_reference,
-    set_reference,
+    Performed, constant, free, gate, get_reference, init, measure, new_reference, set_reference,
 };
-use rules::bytes::wide;
-use rules::statements::fixed_size;
-use sets::LocationSet;
+use answers::Fault;
+use rules::place::SlotNumber;
+use rules::statements::Kind;
 
-// Byte number `i` of the statement at a position.
-pub fn byte_of(s: &[u8], at: usize, i: usize) -> u8
-    requires { at + i < length s.now }
-    ensures { result ≡ byte s.now (at + i) }
+// The slot that the byte at a position names.
+pub fn slot(s: &[u8], at: usize) -> SlotNumber
+    requires { (at < length s.now) × (byte s.now at < 32) }
+    ensures { result ≡ byte s.now at }
 {
-    s[at + i]
-}
-
-// The same as a number to reckon with.
-pub fn operand(s: &[u8], at: usize, i: usize) -> usize
-    requires { at + i < length s.now }
-    ensures { (result ≡ byte s.now (at + i)) × (result < 256) }
-{
-    wide(byte_of(s, at, i))
+    SlotNumber::known(s[at])
 }
 
 pub fn operate(
     s: &[u8],
     at: usize,
-    rows: &[u64; 1024],
-    owned: LocationSet,
-    map: &[u8; 256],
-    job: Job,
+    floor: &Floor<'_>,
+    job: &Job,
     outcome: bool,
-) -> Performed
-    requires { Operable s.now at job }
-    ensures { Operates s.now at job rows.now owned map.now outcome result }
+) -> Result<Performed, Fault>
+    requires { Operable s.now at job.now }
+    ensures { Operates s.now at job.now floor.now.rows.now floor.now.owned floor.now.map.now outcome result }
 {
-    let f = job.top;
-    let slots = f.slots;
-    let b = byte_of(s, at, 0);
-    match b {
-        1..=2 => init(
-            slots,
-            operand(s, at, 1),
-            job.located(byte_of(s, at, 2)),
-            owned,
-            map,
-        ),
-        3 => free(slots, operand(s, at, 1)),
-        4 => gate(slots, operand(s, at, 2)),
-        5 => measure(slots, operand(s, at, 1), operand(s, at, 3), outcome),
-        6 => merge(
-            slots,
-            operand(s, at, 1),
-            operand(s, at, 3),
-            operand(s, at, 5),
-            rows,
-            owned,
-            map,
-            outcome,
-        ),
-        7 => new_reference(slots, operand(s, at, 1), operand(s, at, 2)),
-        8 => get_reference(slots, operand(s, at, 1), operand(s, at, 2)),
-        9 => set_reference(slots, operand(s, at, 1), operand(s, at, 2)),
-        _ => constant(slots, operand(s, at, 1), byte_of(s, at, 2) == 1),
+    let slots = &job.top.slots;
+    match Kind::known(s[at]) {
+        Kind::Init | Kind::Magic => init(slots, slot(s, at + 1), job.located(s[at + 2]), floor),
+        Kind::Free => free(slots, slot(s, at + 1)),
+        Kind::Gate => gate(slots, slot(s, at + 2)),
+        Kind::Measure => measure(slots, slot(s, at + 1), slot(s, at + 3), outcome),
+        Kind::Merge => {
+            let (y, x, z) = (slot(s, at + 1), slot(s, at + 3), slot(s, at + 5));
+            merge(slots, y, x, z, floor, outcome)
+        }
+        Kind::Ref => new_reference(slots, slot(s, at + 1), slot(s, at + 2)),
+        Kind::Get => get_reference(slots, slot(s, at + 1), slot(s, at + 2)),
+        Kind::Set => set_reference(slots, slot(s, at + 1), slot(s, at + 2)),
+        // of those left only a bool is an operation
+        _ => constant(slots, slot(s, at + 1), s[at + 2] == 1),
     }
 }
 
 // The operation to come as a step: where it moved, it is passed.
 pub fn operation(
     s: &[u8],
-    rows: &[u64; 1024],
-    owned: LocationSet,
-    map: &[u8; 256],
-    job: Job,
+    at: usize,
+    floor: &Floor<'_>,
+    job: &mut Job,
     outcome: bool,
-) -> Stepped
-    requires { Steady s.now job × (0 < job.top.n) × NoBlock (byte s.now (here_of job.top)) }
-    ensures { Acts s.now rows.now owned map.now outcome job result }
+) -> Result<Effect, Fault>
+    requires { Comes s.now job.old at × NoBlock (byte s.now at) }
+    ensures { Acts s.now at floor.now.rows.now floor.now.owned floor.now.map.now outcome job.old job.new result }
 {
-    let f = job.top;
-    let at = f.here();
-    let o = operate(s, at, rows, owned, map, job, outcome);
-    let told = o.told;
-    let slots = o.slots;
-    let act = o.act;
-    match told {
-        Told::Stuck(n) => Stepped::stuck(job, n, at),
-        Told::Moved(e) => {
-            let g = f
-                .advance(at + fixed_size(byte_of(s, at, 0)))
-                .with_slots(slots);
-            Stepped::performed(job.with_top(g), e, act, at)
-        }
-    }
+    let done = operate(s, at, floor, job, outcome)?;
+    job.top.advance(at + Kind::known(s[at]).size());
+    job.top.slots = done.slots;
+    Ok(Effect {
+        edges: done.edges,
+        act: done.act,
+    })
 }

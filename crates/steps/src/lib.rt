@@ -2,10 +2,9 @@
 #![tactic(auto)]
 
 ghost use Rattle.std.specs.Prelude.{◌≡◌, ◌<◌};
-ghost use Rattle.steps.specs.Stepping.{stuck_at, moved_at};
+ghost use Rattle.steps.specs.Told.{told, finished};
 
-use frames::narrow;
-use job::Job;
+use answers::Fault;
 use rules::place::Location;
 
 pub mod apply;
@@ -13,12 +12,12 @@ pub mod asks;
 pub mod back;
 pub mod blocks;
 pub mod call;
+pub mod floor;
 pub mod frames;
 pub mod job;
 pub mod kinds;
 pub mod merge;
 pub mod operations;
-pub mod region;
 pub mod slots;
 pub mod step;
 
@@ -30,7 +29,22 @@ pub enum Act {
     Gives(Location),
 }
 
-// What a step tells: 0 moved, 1 finished or the reason; the edges of a moved merge; the item's offset.
+// What a step that moved does outside its job: the edges of a merge, and what it does to the map.
+#[derive(Clone, Copy)]
+pub struct Effect {
+    pub edges: u8,
+    pub act: Act,
+}
+
+impl Effect {
+    pub const QUIET: Effect = Effect {
+        edges: 0,
+        act: Act::Quiet,
+    };
+}
+
+// What a step tells: 0 moved, 1 finished or the reason; the edges of a moved merge; the item's offset. The code is the byte of the record as the
+// calls for C have it, `record_bytes` of the rules.
 #[derive(Clone, Copy)]
 pub struct Record {
     pub code: u8,
@@ -38,52 +52,55 @@ pub struct Record {
     pub offset: u16,
 }
 
-// A step: the job after it, what it tells, and what it does to the map.
+// A step taken: what it tells, and what it does to the map.
 #[derive(Clone, Copy)]
 pub struct Stepped {
-    pub job: Job,
     pub record: Record,
     pub act: Act,
 }
 
 impl Stepped {
-    // Stuck, or finished: nothing changes.
-    pub fn stuck(job: Job, code: u8, at: usize) -> Self
-        requires { at < 65536 }
-        ensures { result ≡ stuck_at job code at }
+    const MOVED: u8 = 0;
+
+    const FINISHED: u8 = 1;
+
+    // The job is at its end: nothing changes, and there is no item.
+    pub fn finished() -> Self
+        ensures { result ≡ finished }
     {
         Stepped {
-            job: job,
             record: Record {
-                code: code,
+                code: Stepped::FINISHED,
                 edges: 0,
-                offset: narrow(at),
+                offset: 0xFFFF,
             },
             act: Act::Quiet,
         }
     }
 
-    // Moved, with a merge's edges and what it does to the map.
-    pub fn performed(job: Job, edges: u8, act: Act, at: usize) -> Self
+    // The item at an offset moved, or it is stuck for a reason, and nothing changes.
+    pub fn told(done: Result<Effect, Fault>, at: usize) -> Self
         requires { at < 65536 }
-        ensures { result ≡ moved_at job edges act at }
+        ensures { result ≡ told done at }
     {
-        Stepped {
-            job: job,
-            record: Record {
-                code: 0,
-                edges: edges,
-                offset: narrow(at),
+        let offset = at as u16;
+        match done {
+            Ok(effect) => Stepped {
+                record: Record {
+                    code: Stepped::MOVED,
+                    edges: effect.edges,
+                    offset,
+                },
+                act: effect.act,
             },
-            act: act,
+            Err(reason) => Stepped {
+                record: Record {
+                    code: reason.number(),
+                    edges: 0,
+                    offset,
+                },
+                act: Act::Quiet,
+            },
         }
-    }
-
-    // Moved, with no edges and nothing done to the map.
-    pub fn moved(job: Job, at: usize) -> Self
-        requires { at < 65536 }
-        ensures { result ≡ moved_at job 0 Act.Quiet at }
-    {
-        Stepped::performed(job, 0, Act::Quiet, at)
     }
 }

@@ -1,11 +1,14 @@
-// The slots of a frame, by value: each unbound, a qubit at a location, a bool, or a reference to a bool.
-ghost use Rattle.std.specs.Prelude.{◌≡◌, ℕ, ◌<◌, set, replicate};
+// The slots of a frame: each unbound, a qubit at a location, a bool, or a reference to a bool.
+ghost use Rattle.std.specs.Prelude.{◌≡◌, ℕ, set, replicate};
+ghost use Rattle.answers.specs.Check.{need};
 ghost use Rattle.rules.specs.Slots.{unbound, qubit, slot, need_qubit, need_bool, need_ref, holds_no_qubit, is_qubit_at};
-ghost use Rattle.steps.specs.State.{place_of, slot_of, slots_of, placed_said, value_said};
+ghost use Rattle.steps.specs.Said.{said_at, itself};
+ghost use Rattle.steps.specs.State.{place_of, slot_of, slots_of};
 
-use rules::place::Location;
+use answers::Fault;
+use rules::place::{Location, SlotNumber};
 
-#[derive(Clone, Copy)]
+#[derive(Clone, Copy, Debug, PartialEq, Eq)]
 pub enum Slot {
     Unbound,
     Qubit(Location),
@@ -14,27 +17,8 @@ pub enum Slot {
 }
 
 #[derive(Clone, Copy)]
-pub struct Cell {
-    pub slot: Slot,
-}
-
-#[derive(Clone, Copy)]
 pub struct Slots {
-    pub cells: [Cell; 32],
-}
-
-// Where the qubit of a slot is, if it holds one.
-#[derive(Clone, Copy)]
-pub enum Placed {
-    At(Location),
-    Nowhere,
-}
-
-// The bool of a slot or of its reference, if it holds one.
-#[derive(Clone, Copy)]
-pub enum Value {
-    Of(bool),
-    Missing,
+    pub slots: [Slot; 32],
 }
 
 impl Slots {
@@ -42,107 +26,80 @@ impl Slots {
     pub fn empty() -> Self
         ensures { slots_of result ≡ replicate 32 unbound }
     {
-        let c = Cell {
-            slot: Slot::Unbound,
-        };
-        Slots { cells: [c; 32] }
+        Slots {
+            slots: [Slot::Unbound; 32],
+        }
     }
 
     // What a slot holds.
-    pub fn held(self, x: usize) -> Slot
-        requires { x < 32 }
-        ensures { slot_of result ≡ slot (slots_of self) x }
+    pub fn held(&self, x: SlotNumber) -> Slot
+        ensures { slot_of result ≡ slot (slots_of self.now) x }
     {
-        let c = self.cells[x];
-        c.slot
+        self.slots[x.index()]
     }
 
-    pub fn qubit(self, x: usize) -> Placed
-        requires { x < 32 }
-        ensures { (o : ℕ) → placed_said result o ≡ need_qubit (slot (slots_of self) x) o }
+    // Where the qubit of a slot is.
+    pub fn qubit(&self, x: SlotNumber) -> Result<Location, Fault>
+        ensures { (o : ℕ) → said_at place_of result o ≡ need_qubit (slot (slots_of self.now) x) o }
     {
-        let v = self.held(x);
-        match v {
-            Slot::Unbound => Placed::Nowhere,
-            Slot::Qubit(l) => Placed::At(l),
-            Slot::Bool(_) => Placed::Nowhere,
-            Slot::Reference(_) => Placed::Nowhere,
+        match self.held(x) {
+            Slot::Qubit(l) => Ok(l),
+            _ => Err(Fault::NotHeld),
         }
     }
 
-    pub fn boolean(self, x: usize) -> Value
-        requires { x < 32 }
-        ensures { (o : ℕ) → value_said result o ≡ need_bool (slot (slots_of self) x) o }
+    pub fn boolean(&self, x: SlotNumber) -> Result<bool, Fault>
+        ensures { (o : ℕ) → said_at itself result o ≡ need_bool (slot (slots_of self.now) x) o }
     {
-        let v = self.held(x);
-        match v {
-            Slot::Unbound => Value::Missing,
-            Slot::Qubit(_) => Value::Missing,
-            Slot::Bool(b) => Value::Of(b),
-            Slot::Reference(_) => Value::Missing,
+        match self.held(x) {
+            Slot::Bool(b) => Ok(b),
+            _ => Err(Fault::NotHeld),
         }
     }
 
-    pub fn reference(self, x: usize) -> Value
-        requires { x < 32 }
-        ensures { (o : ℕ) → value_said result o ≡ need_ref (slot (slots_of self) x) o }
+    // The bool of a slot's reference.
+    pub fn reference(&self, x: SlotNumber) -> Result<bool, Fault>
+        ensures { (o : ℕ) → said_at itself result o ≡ need_ref (slot (slots_of self.now) x) o }
     {
-        let v = self.held(x);
-        match v {
-            Slot::Unbound => Value::Missing,
-            Slot::Qubit(_) => Value::Missing,
-            Slot::Bool(_) => Value::Missing,
-            Slot::Reference(b) => Value::Of(b),
+        match self.held(x) {
+            Slot::Reference(b) => Ok(b),
+            _ => Err(Fault::NotHeld),
         }
     }
 
-    // Whether a slot may be bound: it is no qubit.
-    pub fn may_bind(self, x: usize) -> bool
-        requires { x < 32 }
-        ensures { result ≡ holds_no_qubit (slot (slots_of self) x) }
+    // A slot may be bound unless it is a qubit.
+    pub fn may_bind(&self, x: SlotNumber) -> Result<(), Fault>
+        ensures { (o : ℕ) → said_at itself result o ≡ need (holds_no_qubit (slot (slots_of self.now) x)) 12 o }
     {
-        let v = self.held(x);
-        match v {
-            Slot::Unbound => true,
-            Slot::Qubit(_) => false,
-            Slot::Bool(_) => true,
-            Slot::Reference(_) => true,
+        match self.held(x) {
+            Slot::Qubit(_) => Err(Fault::Bound),
+            _ => Ok(()),
         }
     }
 
     // Whether a slot is a qubit at a location.
-    pub fn holds_at(self, x: usize, l: Location) -> bool
-        requires { x < 32 }
-        ensures { result ≡ is_qubit_at (slot (slots_of self) x) (place_of l) }
+    pub fn holds_at(&self, x: SlotNumber, l: Location) -> bool
+        ensures { result ≡ is_qubit_at (slot (slots_of self.now) x) (place_of l) }
     {
-        let v = self.held(x);
-        match v {
-            Slot::Unbound => false,
-            Slot::Qubit(k) => k.0 == l.0,
-            Slot::Bool(_) => false,
-            Slot::Reference(_) => false,
-        }
+        self.held(x) == Slot::Qubit(l)
     }
 
-    pub fn bind(mut self, x: usize, v: Slot) -> Self
-        requires { x < 32 }
+    pub fn bind(mut self, x: SlotNumber, v: Slot) -> Self
         ensures { slots_of result ≡ set (slots_of self) x (slot_of v) }
     {
-        self.cells[x] = Cell { slot: v };
+        self.slots[x.index()] = v;
         self
     }
 
     // The slot is a qubit at a location.
-    pub fn occupy(mut self, x: usize, l: Location) -> Self
-        requires { x < 32 }
+    pub fn occupy(self, x: SlotNumber, l: Location) -> Self
         ensures { slots_of result ≡ set (slots_of self) x (qubit (place_of l)) }
     {
         self.bind(x, Slot::Qubit(l))
     }
 
     // The slot is unbound.
-    pub fn release(mut self, x: usize) -> Self
-        requires { x < 32 }
+    pub fn release(self, x: SlotNumber) -> Self
         ensures { slots_of result ≡ set (slots_of self) x unbound }
     {
         self.bind(x, Slot::Unbound)

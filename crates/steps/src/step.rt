@@ -1,57 +1,68 @@
 // One step of a job over its program's bytes: which item is to come decides the step.
-ghost use Rattle.steps.specs.Stepping.{Begins, Starts, Ready, Steps};
+ghost use Rattle.steps.specs.Stepping.{Begins, Starts, Ready, Comes, Goes, Steps};
 
-use crate::Stepped;
 use crate::back::give_back;
-use crate::blocks::{block_end, branch, repeat};
+use crate::blocks::{branch, repeat};
 use crate::call::call;
+use crate::floor::Floor;
 use crate::frames::Frame;
 use crate::job::Job;
-use crate::kinds::{byte_of, operation};
+use crate::kinds::operation;
 use crate::slots::Slots;
+use crate::{Effect, Stepped};
+use answers::Fault;
 use program::functions::FunctionTable;
 use rules::place::Location;
-use sets::LocationSet;
+use rules::positions::block_end;
+use rules::statements::Kind;
 
 // A job that has taken no step: main's statements are to come, and no slot is bound.
 pub fn start(s: &[u8], main: usize) -> Job
     requires { Begins s.now main }
     ensures { Starts s.now main result }
 {
-    let none = Location(0);
-    let f = Frame::new(Slots::empty(), [none; 16], 0);
+    let mut top = Frame::new(Slots::empty(), [Location(0); 16], 0);
+    let below = [top; 15];
+    top.push(main + 2, block_end(s, main));
     Job {
-        top: f.push(main + 2, block_end(s, main)),
-        below: [f; 15],
+        top,
+        below,
         depth: 0,
     }
 }
 
-// A frame at its end is main's, and the job is finished, or a callee's, and returns; else the first byte of the statement to come decides.
-pub fn step(
+// The statement to come, by its kind.
+fn go_on(
     s: &[u8],
-    t: FunctionTable,
-    rows: &[u64; 1024],
-    owned: LocationSet,
-    map: &[u8; 256],
-    job: Job,
+    t: &FunctionTable,
+    at: usize,
+    floor: &Floor<'_>,
+    job: &mut Job,
     outcome: bool,
-) -> Stepped
-    requires { Ready s.now t job }
-    ensures { Steps s.now t rows.now owned map.now outcome job result }
+) -> Result<Effect, Fault>
+    requires { Ready s.now t.now job.old × Comes s.now job.old at }
+    ensures { Goes s.now t.now at floor.now.rows.now floor.now.owned floor.now.map.now outcome job.old job.new result }
 {
-    let f = job.top;
-    if f.n == 0 {
+    match Kind::known(s[at]) {
+        Kind::If => branch(s, at, job),
+        Kind::While => repeat(s, at, job),
+        Kind::Call => call(s, t, at, floor, job),
+        _ => operation(s, at, floor, job, outcome),
+    }
+}
+
+// A frame at its end is main's, and the job is finished, or a callee's, and returns; else the statement to come decides.
+pub fn step(s: &[u8], t: &FunctionTable, floor: &Floor<'_>, job: &mut Job, outcome: bool) -> Stepped
+    requires { Ready s.now t.now job.old }
+    ensures { Steps s.now t.now floor.now.rows.now floor.now.owned floor.now.map.now outcome job.old job.new result }
+{
+    if job.top.n == 0 {
         if job.depth == 0 {
-            return Stepped::stuck(job, 1, 0xFFFF);
+            return Stepped::finished();
         }
-        return give_back(s, job);
+        let at = give_back(s, job) as usize;
+        return Stepped::told(Ok(Effect::QUIET), at);
     }
-    let b = byte_of(s, f.here(), 0);
-    match b {
-        10 => branch(s, job),
-        11 => repeat(s, job),
-        12 => call(s, t, owned, map, job),
-        _ => operation(s, rows, owned, map, job, outcome),
-    }
+    let at = job.top.here();
+    Stepped::told(go_on(s, t, at, floor, job, outcome), at)
 }

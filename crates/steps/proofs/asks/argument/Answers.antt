@@ -1,12 +1,15 @@
 -- A law for each exit.
-use Rattle.steps.proofs.Asking.{argument_11, argument_16, argument_fine}
+use mathlib.Core.Bool.{not}
+use mathlib.Core.Path.{ap, ◌∙◌}
+use Rattle.steps.proofs.Passed.{passed_as}
+use Rattle.steps.proofs.Asking.{turned, argument_stops, argument_elsewhere, argument_there}
 use Rattle.steps.proofs.asks.argument.Goals as goal
 
-pub returns-then-k-l : goal.returns-then-k-l
-returns-then-k-l c = argument_fine _ _ _ _ c.qubit.ensures _ c.in-At.is c.if-k-l.true
+pub returns-in_err-k : goal.returns-in_err-k
+returns-in_err-k c = argument_stops _ _ _ _ _ (passed_as _ c.from_residual.ensures.1) c.in_err-k.ensures
 
-pub returns-else-k-l : goal.returns-else-k-l
-returns-else-k-l c = argument_16 _ _ _ _ c.qubit.ensures _ c.in-At.is c.if-k-l.false
+pub returns-then-ne : goal.returns-then-ne
+returns-then-ne c = argument_elsewhere _ _ _ _ c.in_ok-k.ensures (turned _ _ c.ne.ensures ∙ ap not c.if-ne.true)
 
-pub returns-in-Nowhere : goal.returns-in-Nowhere
-returns-in-Nowhere c = argument_11 _ _ _ _ c.qubit.ensures c.in-Nowhere.is
+pub returns : goal.returns
+returns c = argument_there _ _ _ _ c.in_ok-k.ensures (turned _ _ c.ne.ensures ∙ ap not c.if-ne.false)

@@ -1,19 +1,40 @@
 -- The call that the frame came by says what is given back.
 use native.Mathlib.Omega.{arith}
-use Rattle.steps.proofs.Returning.{returns_there, gave_fits, gives_back}
+use Rattle.steps.proofs.Returning.{came, given_fits, gives_back}
 use Rattle.steps.proofs.back.give_back.Goals as goal
 
-pub operand-k-requires : goal.operand-k-requires
-operand-k-requires c = let f = returns_there c.requires.0 c.requires.1 c.requires.2 _ c.wide-o.ensures.0 in omega (arith, f.fits)
+pub overflow_cast-at : goal.overflow_cast-at
+overflow_cast-at c = let f = came c.requires.0 c.requires.1 c.requires.2 in omega (arith, f.fits, f.size)
 
-pub operand-m-requires : goal.operand-m-requires
-operand-m-requires c = let f = returns_there c.requires.0 c.requires.1 c.requires.2 _ c.wide-o.ensures.0 in omega (arith, f.fits)
+pub overflow_add-slots_at : goal.overflow_add-slots_at
+overflow_add-slots_at c = let f = came c.requires.0 c.requires.1 c.requires.2 in omega (arith, f.fits, f.size)
 
-pub caller-caller-requires : goal.caller-caller-requires
-caller-caller-requires c = let f = returns_there c.requires.0 c.requires.1 c.requires.2 _ c.wide-o.ensures.0 in (c.requires.2, f.deep)
+pub overflow_add-slots_at-2 : goal.overflow_add-slots_at-2
+overflow_add-slots_at-2 c = let f = came c.requires.0 c.requires.1 c.requires.2 in omega (arith, f.fits, f.size)
 
-pub hand_back-slots-requires : goal.hand_back-slots-requires
-hand_back-slots-requires c = gave_fits (returns_there c.requires.0 c.requires.1 c.requires.2 _ c.wide-o.ensures.0) _ _ c.operand-k.ensures.0 c.operand-m.ensures.0
+pub bounds-s-at : goal.bounds-s-at
+bounds-s-at c = let f = came c.requires.0 c.requires.1 c.requires.2 in omega (arith, f.fits, f.size)
+
+pub overflow_add-slots_at-3 : goal.overflow_add-slots_at-3
+overflow_add-slots_at-3 c = let f = came c.requires.0 c.requires.1 c.requires.2 in omega (arith, f.fits, f.size)
+
+pub overflow_add-given : goal.overflow_add-given
+overflow_add-given c = let f = came c.requires.0 c.requires.1 c.requires.2 in omega (arith, f.fits, f.size)
+
+pub bounds-s-at-2 : goal.bounds-s-at-2
+bounds-s-at-2 c = let f = came c.requires.0 c.requires.1 c.requires.2 in omega (arith, f.fits, f.size)
+
+pub overflow_add-given-2 : goal.overflow_add-given-2
+overflow_add-given-2 c = let f = came c.requires.0 c.requires.1 c.requires.2 in omega (arith, f.fits, f.size)
+
+pub slice_bounds-given-end : goal.slice_bounds-given-end
+slice_bounds-given-end c = let f = came c.requires.0 c.requires.1 c.requires.2 in omega (arith, f.fits, f.size)
+
+pub leave-requires : goal.leave-requires
+leave-requires c = let f = came c.requires.0 c.requires.1 c.requires.2 in (c.requires.2, f.deep)
+
+pub hand_back-job-requires : goal.hand_back-job-requires
+hand_back-job-requires c = given_fits (came c.requires.0 c.requires.1 c.requires.2)
 
 pub returns : goal.returns
-returns c = λ p J R v is_free P S. gives_back c.args.s.now p J _ S c.requires.1 c.requires.2 R v is_free _ _ _ _ _ _ _ _ c.wide-o.ensures.0 c.operand-k.ensures.0 c.operand-m.ensures.0 c.caller-caller.ensures c.hand_back-slots.ensures c.with_slots.ensures c.return_to_caller.ensures c.moved.ensures
+returns c = gives_back c.requires.0 c.requires.1 c.requires.2 _ c.leave.ensures _ c.hand_back-job.ensures

@@ -1,46 +1,26 @@
--- A law for each exit.
-use mathlib.Core.Path.{ap, ◌∙◌}
+-- A law for each exit; what is asked follows from the while that stands there.
 use native.Mathlib.Omega.{arith}
-use Rattle.rules.specs.Basics.{byte}
-use Rattle.steps.proofs.Coming.{next, room_there}
-use Rattle.steps.proofs.Branching.{while_there, while_11, while_ends, while_goes}
+use Rattle.steps.proofs.Passed.{passed_as}
+use Rattle.steps.proofs.Branching.{while_there, repeat_stuck, repeat_goes, repeat_ends}
 use Rattle.steps.proofs.blocks.repeat.Goals as goal
 
-pub here-at-requires : goal.here-at-requires
-here-at-requires c = (c.requires.1, room_there c.requires.0)
+pub slot-requires : goal.slot-requires
+slot-requires c = let f = while_there c.requires.0 c.requires.1 in (omega (arith, f.fits), f.slot)
 
-pub operand-requires : goal.operand-requires
-operand-requires c = let f = while_there c.requires.0 c.requires.1 _ c.here-at.ensures c.requires.2 in omega (arith, f.fits)
+pub returns-in_err-b : goal.returns-in_err-b
+returns-in_err-b c = repeat_stuck c.requires.0 _ c.slot.ensures _ _ (passed_as _ c.from_residual.ensures.1) c.requires.1 c.in_err-b.ensures
 
-pub reference-requires : goal.reference-requires
-reference-requires c = let f = while_there c.requires.0 c.requires.1 _ c.here-at.ensures c.requires.2 in omega (arith, f.slot, c.operand.ensures.0)
-
-pub stuck-requires : goal.stuck-requires
-stuck-requires c = let f = while_there c.requires.0 c.requires.1 _ c.here-at.ensures c.requires.2 in omega (arith, f.fits, f.size)
-
-pub overflow_add-a : goal.overflow_add-a
-overflow_add-a c = let f = while_there c.requires.0 c.requires.1 _ c.here-at.ensures c.requires.2 in omega (arith, f.fits, f.size)
-
-pub block_end-p-requires : goal.block_end-p-requires
-block_end-p-requires c = let f = while_there c.requires.0 c.requires.1 _ c.here-at.ensures c.requires.2 in (omega (arith, f.fits), f.size)
+pub block_end-end-requires : goal.block_end-end-requires
+block_end-end-requires c = let f = while_there c.requires.0 c.requires.1 in (omega (arith, f.fits), f.size)
 
 pub push-requires : goal.push-requires
-push-requires c = let f = while_there c.requires.0 c.requires.1 _ c.here-at.ensures c.requires.2 in (f.room, omega (arith, f.fits, f.size), omega (arith, f.fits, f.size, c.block_end-p.ensures))
-
-pub moved-requires : goal.moved-requires
-moved-requires c = let f = while_there c.requires.0 c.requires.1 _ c.here-at.ensures c.requires.2 in omega (arith, f.fits, f.size)
+push-requires c = let f = while_there c.requires.0 c.requires.1 in (f.room, omega (arith, f.fits, f.size), omega (arith, f.fits, f.size, c.block_end-end.ensures))
 
 pub advance-requires : goal.advance-requires
-advance-requires c = let f = while_there c.requires.0 c.requires.1 _ c.here-at.ensures c.requires.2 in (c.requires.1, room_there c.requires.0, omega (arith, f.fits, f.size, c.block_end-p.ensures))
-
-pub moved-requires-else-b : goal.moved-requires-else-b
-moved-requires-else-b c = let f = while_there c.requires.0 c.requires.1 _ c.here-at.ensures c.requires.2 in omega (arith, f.fits, f.size)
-
-pub returns-in-Missing : goal.returns-in-Missing
-returns-in-Missing c = λ p J R v is_free P S. while_11 _ p J _ _ (next _ p J _ _ P S c.requires.1 c.here-at.ensures) S R v is_free _ (ap (byte c.args.s.now) c.here-at.ensures ∙ c.requires.2) _ c.operand.ensures.0 _ c.reference.ensures c.in-Missing.is c.stuck.ensures
+advance-requires c = let f = while_there c.requires.0 c.requires.1 in (f.some, omega (arith, f.room), omega (arith, f.fits, f.size, c.block_end-end.ensures))
 
 pub returns-then-b : goal.returns-then-b
-returns-then-b c = λ p J R v is_free P S. while_goes _ p J _ _ (next _ p J _ _ P S c.requires.1 c.here-at.ensures) S R v is_free _ (ap (byte c.args.s.now) c.here-at.ensures ∙ c.requires.2) _ c.operand.ensures.0 _ c.reference.ensures _ c.in-Of.is _ c.block_end-p.ensures _ _ c.with_top.ensures c.moved.ensures c.if-b.true c.push.ensures
+returns-then-b c = repeat_goes c.requires.0 _ c.slot.ensures _ c.requires.1 c.in_ok-b.ensures _ c.block_end-end.ensures _ c.if-b.true c.push.ensures
 
 pub returns-else-b : goal.returns-else-b
-returns-else-b c = λ p J R v is_free P S. while_ends _ p J _ _ (next _ p J _ _ P S c.requires.1 c.here-at.ensures) S R v is_free _ (ap (byte c.args.s.now) c.here-at.ensures ∙ c.requires.2) _ c.operand.ensures.0 _ c.reference.ensures _ c.in-Of.is _ c.block_end-p.ensures _ _ c.with_top-else-b.ensures c.moved-else-b.ensures c.if-b.false c.advance.ensures
+returns-else-b c = repeat_ends c.requires.0 _ c.slot.ensures _ c.requires.1 c.in_ok-b.ensures _ c.block_end-end.ensures _ c.if-b.false c.advance.ensures

@@ -1,9 +1,12 @@
 -- A law for each exit.
-use Rattle.steps.proofs.Merging.{join_21, join_moves}
+use mathlib.Core.Path.{refl, ap, ◌∙◌}
+use Rattle.std.specs.Prelude.{Err}
+use Rattle.steps.proofs.Passed.{passed_as}
+use Rattle.steps.proofs.Merging.{reason_is, join_stops, join_goes}
 use Rattle.steps.proofs.merge.join.Goals as goal
 
-pub returns-then-edges-eq0 : goal.returns-then-edges-eq0
-returns-then-edges-eq0 c = join_21 _ _ _ _ _ _ _ c.args.map.now _ _ c.free_in-free.ensures _ _ _ c.wide.ensures.0 c.wide-2.ensures.0 c.distance-edges.ensures.value c.if-edges-eq0.true c.stuck.ensures
+pub returns-in_err-edges : goal.returns-in_err-edges
+returns-in_err-edges c = join_stops _ _ _ _ _ _ _ c.args.floor.now.map.now _ _ c.free.ensures _ c.distance.ensures c.in_err-edges.ensures.ok_part (passed_as _ c.from_residual.ensures.1 ∙ ap Err (reason_is _ _ _ c.in_err-edges.ensures.ok_part c.in_err-edges.ensures.value))
 
 pub returns : goal.returns
-returns c = join_moves _ _ _ _ _ _ _ c.args.map.now _ _ c.free_in-free.ensures _ _ _ c.wide.ensures.0 c.wide-2.ensures.0 c.distance-edges.ensures.value _ c.if-edges-eq0.false c.bind.ensures c.moved_along.ensures
+returns c = join_goes _ _ _ _ _ _ _ c.args.floor.now.map.now _ _ c.free.ensures _ c.distance.ensures _ _ c.in_ok-edges.ensures.ok_part c.bind.ensures refl

@@ -1,9 +1,12 @@
 -- A law for each exit.
-use Rattle.steps.proofs.Perform.{constant_12, constant_moves}
+use mathlib.Core.Path.{ap}
+use Rattle.std.specs.Prelude.{Ok}
+use Rattle.steps.proofs.Passed.{passed_as}
+use Rattle.steps.proofs.Perform.{constant_unbound, constant_goes}
 use Rattle.steps.proofs.operations.constant.Goals as goal
 
-pub returns-then-not-may_bind : goal.returns-then-not-may_bind
-returns-then-not-may_bind c = constant_12 _ _ _ _ c.may_bind.ensures c.if-not-may_bind.true c.stuck.ensures _
+pub returns-in_err-may_bind : goal.returns-in_err-may_bind
+returns-in_err-may_bind c = constant_unbound _ _ _ (passed_as _ c.from_residual.ensures.1) _ c.in_err-may_bind.ensures _
 
 pub returns : goal.returns
-returns c = constant_moves _ _ _ _ c.may_bind.ensures c.if-not-may_bind.false _ _ c.bind.ensures c.moved.ensures
+returns c = constant_goes _ _ _ (ap Ok c.new.ensures) _ c.in_ok-may_bind.ensures _ c.bind.ensures

@@ -1,9 +1,12 @@
 -- A law for each exit.
-use Rattle.steps.proofs.Perform.{free_11, free_moves}
+use mathlib.Core.Path.{ap}
+use Rattle.std.specs.Prelude.{Ok}
+use Rattle.steps.proofs.Passed.{passed_as}
+use Rattle.steps.proofs.Perform.{free_stops, free_goes}
 use Rattle.steps.proofs.operations.free.Goals as goal
 
-pub returns-in-At : goal.returns-in-At
-returns-in-At c = free_moves _ _ _ _ c.qubit.ensures _ _ c.in-At.is c.release.ensures c.moved.ensures
+pub returns-in_err-l : goal.returns-in_err-l
+returns-in_err-l c = free_stops _ _ _ (passed_as _ c.from_residual.ensures.1) _ c.in_err-l.ensures
 
-pub returns-in-Nowhere : goal.returns-in-Nowhere
-returns-in-Nowhere c = free_11 _ _ _ _ c.qubit.ensures c.in-Nowhere.is c.stuck.ensures
+pub returns : goal.returns
+returns c = free_goes _ _ _ _ _ c.in_ok-l.ensures c.release.ensures (ap Ok c.new.ensures)

@@ -1,12 +1,15 @@
 -- A law for each exit.
-use Rattle.steps.proofs.Perform.{measure_12, measure_11, measure_moves}
+use mathlib.Core.Path.{ap}
+use Rattle.std.specs.Prelude.{Ok}
+use Rattle.steps.proofs.Passed.{passed_as}
+use Rattle.steps.proofs.Perform.{measure_unbound, measure_stops, measure_goes}
 use Rattle.steps.proofs.operations.measure.Goals as goal
 
-pub returns-then-not-may_bind : goal.returns-then-not-may_bind
-returns-then-not-may_bind c = measure_12 _ _ _ _ c.may_bind.ensures c.if-not-may_bind.true c.stuck.ensures _ _
+pub returns-in_err-may_bind : goal.returns-in_err-may_bind
+returns-in_err-may_bind c = measure_unbound _ _ _ (passed_as _ c.from_residual.ensures.1) _ c.in_err-may_bind.ensures _ _
 
-pub returns-in-At : goal.returns-in-At
-returns-in-At c = measure_moves _ _ _ _ c.may_bind.ensures c.if-not-may_bind.false _ _ c.qubit.ensures _ _ _ c.in-At.is c.bind.ensures c.moved.ensures
+pub returns-in_err-qubit : goal.returns-in_err-qubit
+returns-in_err-qubit c = measure_stops _ _ _ (passed_as _ c.from_residual-in_err-qubit.ensures.1) _ c.in_ok-may_bind.ensures _ c.in_err-qubit.ensures _
 
-pub returns-in-Nowhere : goal.returns-in-Nowhere
-returns-in-Nowhere c = measure_11 _ _ _ _ c.may_bind.ensures c.if-not-may_bind.false _ _ c.qubit.ensures c.in-Nowhere.is c.stuck-in-Nowhere.ensures _
+pub returns : goal.returns
+returns c = measure_goes _ _ _ (ap Ok c.new.ensures) _ c.in_ok-may_bind.ensures _ _ _ c.in_ok-qubit.ensures c.bind.ensures

@@ -1,12 +1,15 @@
 -- A law for each exit.
-use Rattle.steps.proofs.Perform.{new_12, new_11, new_moves}
+use mathlib.Core.Path.{ap}
+use Rattle.std.specs.Prelude.{Ok}
+use Rattle.steps.proofs.Passed.{passed_as}
+use Rattle.steps.proofs.Perform.{new_unbound, new_stops, new_goes}
 use Rattle.steps.proofs.operations.new_reference.Goals as goal
 
-pub returns-then-not-may_bind : goal.returns-then-not-may_bind
-returns-then-not-may_bind c = new_12 _ _ _ _ c.may_bind.ensures c.if-not-may_bind.true c.stuck.ensures _
+pub returns-in_err-may_bind : goal.returns-in_err-may_bind
+returns-in_err-may_bind c = new_unbound _ _ _ (passed_as _ c.from_residual.ensures.1) _ c.in_err-may_bind.ensures _
 
-pub returns-in-Of : goal.returns-in-Of
-returns-in-Of c = new_moves _ _ _ _ c.may_bind.ensures c.if-not-may_bind.false _ _ c.boolean.ensures _ _ c.in-Of.is c.bind.ensures c.moved.ensures
+pub returns-in_err-b : goal.returns-in_err-b
+returns-in_err-b c = new_stops _ _ _ (passed_as _ c.from_residual-in_err-b.ensures.1) _ c.in_ok-may_bind.ensures _ c.in_err-b.ensures
 
-pub returns-in-Missing : goal.returns-in-Missing
-returns-in-Missing c = new_11 _ _ _ _ c.may_bind.ensures c.if-not-may_bind.false _ _ c.boolean.ensures c.in-Missing.is c.stuck-in-Missing.ensures
+pub returns : goal.returns
+returns c = new_goes _ _ _ (ap Ok c.new.ensures) _ c.in_ok-may_bind.ensures _ _ c.in_ok-b.ensures c.bind.ensures

@@ -1,12 +1,15 @@
 -- A law for each exit.
-use Rattle.steps.proofs.Perform.{set_no_reference, set_no_bool, set_moves}
+use mathlib.Core.Path.{ap}
+use Rattle.std.specs.Prelude.{Ok}
+use Rattle.steps.proofs.Passed.{passed_as}
+use Rattle.steps.proofs.Perform.{set_no_reference, set_no_bool, set_goes}
 use Rattle.steps.proofs.operations.set_reference.Goals as goal
 
-pub returns-in-Of-boolean : goal.returns-in-Of-boolean
-returns-in-Of-boolean c = set_moves _ _ _ _ _ c.reference.ensures _ c.in-Of.is _ c.boolean.ensures _ _ c.in-Of-boolean.is c.bind.ensures c.moved.ensures
+pub returns-in_err-reference : goal.returns-in_err-reference
+returns-in_err-reference c = set_no_reference _ _ _ (passed_as _ c.from_residual.ensures.1) _ _ c.in_err-reference.ensures
 
-pub returns-in-Missing-boolean : goal.returns-in-Missing-boolean
-returns-in-Missing-boolean c = set_no_bool _ _ _ _ _ c.reference.ensures _ c.in-Of.is _ c.boolean.ensures c.in-Missing-boolean.is c.stuck.ensures
+pub returns-in_err-b : goal.returns-in_err-b
+returns-in_err-b c = set_no_bool _ _ _ (passed_as _ c.from_residual-in_err-b.ensures.1) _ _ _ c.in_ok-reference.ensures c.in_err-b.ensures
 
-pub returns-in-Missing : goal.returns-in-Missing
-returns-in-Missing c = set_no_reference _ _ _ _ _ c.reference.ensures c.in-Missing.is c.stuck-in-Missing.ensures
+pub returns : goal.returns
+returns c = set_goes _ _ _ (ap Ok c.new.ensures) _ _ _ _ c.in_ok-reference.ensures c.in_ok-b.ensures c.bind.ensures

@@ -2,8 +2,8 @@
 use Rattle.steps.proofs.Cells.{pushed_none, pushed_one}
 use Rattle.steps.proofs.frames.Frame.push.Goals as goal
 
-pub returns-then-a-e : goal.returns-then-a-e
-returns-then-a-e c = pushed_none _ _ _ c.if-a-e.true
+pub returns-then-at-end : goal.returns-then-at-end
+returns-then-at-end c = pushed_one _ _ _ c.if-at-end.true
 
-pub returns-else-a-e : goal.returns-else-a-e
-returns-else-a-e c = pushed_one _ _ _ _ _ c.narrow-b.ensures c.narrow-f.ensures c.if-a-e.false
+pub returns-else-at-end : goal.returns-else-at-end
+returns-else-at-end c = pushed_none _ _ _ c.if-at-end.false

@@ -1,10 +1,6 @@
 -- By the test for main.
-use native.Mathlib.Omega.{arith}
 use Rattle.steps.proofs.Cells.{located_main, located_call}
 use Rattle.steps.proofs.job.Job.located.Goals as goal
-
-pub locate-requires : goal.locate-requires
-locate-requires c = c.requires (omega (arith, c.if-self-eq0.false))
 
 pub returns-then-self-eq0 : goal.returns-then-self-eq0
 returns-then-self-eq0 c = located_main _ _ c.if-self-eq0.true

@@ -1,4 +1,4 @@
--- Thirty-two unbound cells are thirty-two unbound slots.
+-- Thirty-two unbound slots of the code are thirty-two of the rules.
 use mathlib.Core.Path.{refl}
 use Rattle.steps.specs.State.{slots_of}
 use Rattle.steps.proofs.slots.Slots.empty.Goals as goal

@@ -35,7 +35,7 @@ pub enum Part {
     Main,
 }
 
-// Up to where the file's bytes go, and how many more it will have at least: a due else and main each have a length word.
+// What a listing has said so far. Which program the numbers mean is a clause of the reader's functions and no invariant here: `fresh` means none yet.
 #[derive(Clone, Copy)]
 pub struct Standing {
     pub part: Part,
@@ -44,8 +44,8 @@ pub struct Standing {
     pub callees: u8, // how many of the functions the block being read may call
     pub depth: usize,
     pub blocks: [Open; 8], // by depth, the outermost first
-    pub used: u16,
-    pub owed: u16,
+    pub used: u16, // up to where the file's bytes go
+    pub owed: u16, // how many more it will have at least: a due else and main each have a length word
 }
 
 impl Standing {

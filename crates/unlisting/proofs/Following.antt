@@ -179,17 +179,7 @@ module _ (t : Text) (out₀ : List ℕ) where
         → (o : List ℕ) → Promised (Err r) o
     refused_last after R r q o = promised_no (length t) (line_starts after R) r q o
 
-    -- a line that was taken is whole, so that the next one begins further on
-    pub line_on : (s : Standing) (after : List ℕ) → ReadsAny line.text.now at line.end line.stop c out (Ok s) after → at < line.stop
-    unfolding LineAs
-    line_on s after R = go (ltb end (length t)) refl
-      where
-        go : (w : Bool) → ltb end (length t) ≡ w → at < stop
-        go true w = omega (arith, ltb-true end stop (S.whole ∙ w))
-        go false w =
-            let T : TookLine (hears_one false (lines σ) words) out₀ s after = is _ after R false w in
-            absurd (starts_took (starts_one (lines σ) words) T.program (sym (hears_started (lines σ) words) ∙ T.is))
-
+    -- a line that was taken leads to the next state
     pub line_took : (s : Standing) (after : List ℕ) → ReadsAny line.text.now at line.end line.stop c out (Ok s) after → Followed line.stop s after
     unfolding LineAs Stands
     line_took s after R = go (ltb end (length t)) refl

@@ -147,10 +147,6 @@ module _ (t : Text) (at end stop : ℕ) (from : Standing) (entry : List ℕ) whe
                 ∙ ap (λ (b : List ℕ). sets D 6 (outside I.blocks ++ (I.block.before ++ b))) (append-nil (sized p.bytes));
           }
 
-  -- the numbers mean a program
-  pub now_means : (c : Standing) (out : List ℕ) → Reaches c out → (p : Sofar) × Means from p → (p : Sofar) × Means c p
-  now_means c out R P = ((R P.0 P.1).program, (R P.0 P.1).means)
-
   -- outside blocks
   pub line_top : (c : Standing) (out : List ℕ) → Reaches c out → c.depth ≡ 0 → (r : Result Standing Unread) (after : List ℕ)
       → ReadsLine t at end stop tops_of c out r after → AnyLine r after

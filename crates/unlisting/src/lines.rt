@@ -148,6 +148,7 @@ fn next_line(line: &Line, at: usize, from: &Standing, out: &mut [u8]) -> Result<
     ensures { in_line ReadsLine line.now at lines_of from.now out.old result out.new }
 {
     let mut c = *from;
+    // no range counts this loop: each block that ends leaves the depth one less
     while 0 < c.depth {
         match line.indent(at, c.depth, c.statement_lives()) {
             Ok(at) => return statement_line(line, at, &c, out),
@@ -184,6 +185,7 @@ pub fn finish(from: &Standing, out: &mut [u8]) -> bool
         return false;
     }
     let mut c = *from;
+    // no range counts this loop: each block that ends leaves the depth one less
     while 0 < c.depth {
         if c.blocks[c.depth - 1].due {
             return false;

@@ -1,5 +1,5 @@
 use Rattle.std.proofs.Common.{arith}
-use Rattle.unlisting.proofs.Following.{followed_none, refused_line, refused_last, line_on, line_took, refused_end, end_yes}
+use Rattle.unlisting.proofs.Following.{followed_none, refused_line, refused_last, line_took, refused_end, end_yes}
 use Rattle.unlisting.proofs.read_lines.Goals as goal
 
 pub loop-at-init : goal.loop-at-init
@@ -21,21 +21,12 @@ returns-in-Err-Begun c =
     (rw c.in-Err-Begun.field-0-is at c.in-Err-Begun.ensures) _ c.no_line-in-Err-Begun.ensures _ in
     record { answer = none.0; bytes = none.1 }
 
-pub loop-at-smaller : goal.loop-at-smaller
-loop-at-smaller c =
-    let is = c.line_at-line.ensures in
-    let further = line_on _ _ _ _ _ c.loop-at.invariant.1 c.loop-at-test.true c.line_at-line.result is.text is.from is.end is.stop _ _ c.in-Ok.ensures in
-    omega (arith, is.stop.within)
-
 pub loop-at-preserved : goal.loop-at-preserved
 loop-at-preserved c =
     let is = c.line_at-line.ensures in (
       is.stop.within,
       line_took _ _ _ _ _ c.loop-at.invariant.1 c.loop-at-test.true c.line_at-line.result is.text is.from is.end is.stop _ _ c.in-Ok.ensures,
     )
-
-pub finish-requires : goal.finish-requires
-finish-requires c = (c.loop-at.invariant.1.state, c.loop-at.invariant.1.stands)
 
 pub returns-then-finish : goal.returns-then-finish
 returns-then-finish c =

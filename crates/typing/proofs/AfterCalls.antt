@@ -1,80 +1,62 @@
 -- The environment after a call, argument by argument from the last on: those from i on that the callee ended without are gone.
 use mathlib.Core.Bool.{Bool, true, false}
 use mathlib.Core.List.{List, ◌∷◌, map}
-use mathlib.Core.Path.{◌≡◌, refl, sym, ap, subst, ◌∙◌}
+use mathlib.Core.Path.{◌≡◌, sym, subst, ◌∙◌}
 use native.Mathlib.Omega.{arith}
-use Prim.Native.Nat.{ℕ, ◌+◌, ◌-◌, ◌*◌, ◌≤◌, ◌<◌}
-use lib.ListN.{set}
-use Rattle.rules.specs.Basics.{up_to, without, set_all, byte}
-use Rattle.rules.specs.Syntax.{Side, Place, param}
+use Prim.Native.Nat.{ℕ, zero, suc, ◌-◌, ◌≤◌}
+use lib.ListN.{get_or, set, length, drop}
+use lib.Seq.{drop-cons}
+use Rattle.rules.specs.Basics.{up_to, without, set_all}
+use Rattle.rules.specs.Syntax.{Side, param}
 use Rattle.rules.specs.Slots.{unbound, slot, is_qubit_at}
 use Rattle.rules.specs.Typing.{Env as Environment, Signature, after_call}
-use Rattle.sets.specs.Sets.{has}
 use Rattle.typing.specs.declared.env.Env.{Env}
-use Rattle.typing.specs.declared.endings.Endings.{Endings}
 use Rattle.typing.specs.Stands.{EnvIs}
-use Rattle.typing.specs.Calls.{places_at, slots_at, Ends}
-use Rattle.typing.proofs.Lists.{up_to_cons, up_to_nil, up_to_same}
+use Rattle.typing.specs.Calls.{places}
 
-module _ {d : Side} (Γ : Environment d) (st : ℕ → Bool) (b : ℕ → ℕ) (xs ls m k : ℕ) where
-  abbrev place : ℕ → Place d
-  place j = record { no = b j }
+module _ {d : Side} (Γ : Environment d) (g : Signature) (xs ls : List ℕ) where
+  abbrev pub stays_at : ℕ → Bool
+  stays_at i = is_qubit_at (slot g.ends.slots i) (param i)
+
+  abbrev stays : ℕ → List Bool
+  stays i = up_to i (length xs - i) stays_at
 
   -- after the arguments from i on
   abbrev pub After : ℕ → Environment d
   After i = record {
-    slots = set_all unbound (without (up_to i (m - i) st) (up_to (xs + i) (m - i) b)) Γ.slots;
-    free = set_all true (map (λ l. l.no) (without (up_to i (m - i) st) (up_to (ls + i) (k - i) place))) Γ.free;
+    slots = set_all unbound (without (stays i) (drop i xs)) Γ.slots;
+    free = set_all true (map (λ l. l.no) (without (stays i) (places d (drop i ls)))) Γ.free;
   }
 
-  after_none : After m ≡ Γ
-  after_none = rw (up_to_nil st m (m - m) (omega arith))
+  pub after_none : {n : ℕ} {e : Env} → EnvIs n e Γ → EnvIs n e (After (length xs))
+  after_none {n} {e} is = let none : length xs - length xs ≡ 0 = omega arith in subst (λ (k : ℕ). EnvIs n e (with_stays (up_to (length xs) k stays_at))) (sym none) is
+    where
+      with_stays : List Bool → Environment d
+      with_stays bs = record {
+        slots = set_all unbound (without bs (drop (length xs) xs)) Γ.slots;
+        free = set_all true (map (λ l. l.no) (without bs (places d (drop (length xs) ls)))) Γ.free;
+      }
 
-  pub start_after : {n : ℕ} {e : Env} → EnvIs n e Γ → EnvIs n e (After m)
-  start_after {n} {e} is = subst (λ (Δ : Environment d). EnvIs n e Δ) (sym after_none) is
+  module _ (k i : ℕ) (q : suc k ≡ i) (l : i ≤ length xs) (u : length xs ≤ length ls) where
+    stays_one : stays k ≡ stays_at k ∷ stays i
+    stays_one = let r : length xs - k ≡ suc (length xs - i) = omega arith in rw (r, q)
 
-  module _ (i : ℕ) (l : 0 < i) (h : i ≤ m) (u : m ≤ k) where
-    stays_one : up_to (i - 1) (m - (i - 1)) st ≡ st (i - 1) ∷ up_to i (m - i) st
-    stays_one = up_to_cons st (i - 1) i (m - (i - 1)) (m - i) (omega arith) (omega arith)
+    slots_one : drop k xs ≡ get_or xs k 0 ∷ drop i xs
+    slots_one = drop-cons xs k 0 (omega arith) ∙ rw q
 
-    slots_one : up_to (xs + (i - 1)) (m - (i - 1)) b ≡ b (xs + (i - 1)) ∷ up_to (xs + i) (m - i) b
-    slots_one = up_to_cons b (xs + (i - 1)) (xs + i) (m - (i - 1)) (m - i) (omega arith) (omega arith)
+    places_one : drop k ls ≡ get_or ls k 0 ∷ drop i ls
+    places_one = drop-cons ls k 0 (omega arith) ∙ rw q
 
-    places_one : up_to (ls + (i - 1)) (k - (i - 1)) place ≡ place (ls + (i - 1)) ∷ up_to (ls + i) (k - i) place
-    places_one = up_to_cons place (ls + (i - 1)) (ls + i) (k - (i - 1)) (k - i) (omega arith) (omega arith)
+    pub after_stay : {n : ℕ} {e : Env} → stays_at k ≡ true → EnvIs n e (After i) → EnvIs n e (After k)
+    after_stay h is = rw (stays_one, slots_one, places_one, h) is
 
-    after_stay : st (i - 1) ≡ true → After (i - 1) ≡ After i
-    after_stay e = rw (stays_one, slots_one, places_one, e)
+    pub after_lose : {n : ℕ} {e : Env} → stays_at k ≡ false
+        → EnvIs n e (record { slots = set (After i).slots (get_or xs k 0) unbound; free = set (After i).free (get_or ls k 0) true }) → EnvIs n e (After k)
+    after_lose h is = rw (stays_one, slots_one, places_one, h) is
 
-    after_lose : st (i - 1) ≡ false → After (i - 1) ≡ record { slots = set (After i).slots (b (xs + (i - 1))) unbound; free = set (After i).free (b (ls + (i - 1))) true }
-    after_lose e = rw (stays_one, slots_one, places_one, e)
+  from_first : {n : ℕ} {e : Env} → g.m ≡ length xs → EnvIs n e (After 0) → EnvIs n e (after_call g (places d ls) xs Γ)
+  from_first q is = let all : g.m ≡ length xs - 0 = omega arith in rw all is
 
-    -- one argument more, which stays or is lost
-    pub one_after : {n : ℕ} {r : Env} {stays : Bool} {x p : ℕ} → stays ≡ st (i - 1) → x ≡ b (xs + (i - 1)) → p ≡ b (ls + (i - 1)) → (stays ≡ true → EnvIs n r (After i))
-        → (stays ≡ false → EnvIs n r (record { slots = set (After i).slots x unbound; free = set (After i).free p true })) → EnvIs n r (After (i - 1))
-    one_after {n} {r} {stays} {x} {p} e f g stay lose = go (st (i - 1)) refl
-      where
-        go : (t : Bool) → st (i - 1) ≡ t → EnvIs n r (After (i - 1))
-        go true q = subst (λ (Δ : Environment d). EnvIs n r Δ) (sym (after_stay q)) (stay (e ∙ q))
-        go false q = subst (λ (Δ : Environment d). EnvIs n r Δ) (sym (after_lose q)) (rw (sym f, sym g) (lose (e ∙ q)))
-
--- after all arguments of the call at `at`
-module _ {d : Side} (Γ : Environment d) (g : Signature) (s : List ℕ) (at k m i : ℕ) (e : k ≡ byte s (at + 2)) (f : m ≡ byte s (at + 3)) (h : g.m ≡ byte s (at + 3)) (l : i ≤ 0) where
-  abbrev pub kept_at : ℕ → Bool
-  kept_at j = is_qubit_at (slot g.ends.slots j) (param j)
-
-  all_after : After Γ kept_at (byte s) (at + 4 + k) (at + 4) m k i ≡ after_call g (places_at d s at) (slots_at s at) Γ
-  all_after =
-      rw
-      (up_to_same kept_at i 0 (m - i) g.m (omega arith) (omega arith), up_to_same (byte s) (at + 4 + k + i) (at + 4 + byte s (at + 2)) (m - i) (byte s (at + 3)) (omega arith) (omega arith), up_to_same {A = Place d} (λ j. record { no = byte s j }) (at + 4 + i) (at + 4) (k - i) (byte s (at + 2)) (omega arith) (omega arith))
-
-  pub end_after : {n : ℕ} {r : Env} → EnvIs n r (After Γ kept_at (byte s) (at + 4 + k) (at + 4) m k i) → EnvIs n r (after_call g (places_at d s at) (slots_at s at) Γ)
-  end_after {n} {r} is = subst (λ (Δ : Environment d). EnvIs n r Δ) all_after is
-
--- what the code knows of one argument
-module _ {s : List ℕ} {endings : Endings} {at n : ℕ} {g : Signature} (h : Ends s endings at n g) where
-  pub kept_of : {f m i : ℕ} {stays : Bool} → f ≡ byte s (at + 1) → m ≡ byte s (at + 3) → i < m → stays ≡ has endings.kept (8 * f + i) → stays ≡ is_qubit_at (slot g.ends.slots i) (param i)
-  kept_of {i = i} e q l k = k ∙ ap (λ (j : ℕ). has endings.kept (8 * j + i)) e ∙ h.kept i (omega arith)
-
-  pub lost_place : {k i p : ℕ} → k ≡ byte s (at + 2) → i < k → p ≡ byte s (at + 4 + i) → p < n
-  lost_place {i = i} e l q = let w = h.within i (omega arith) in omega (arith, w, q)
+  pub after_all : {n i : ℕ} {e : Env} → g.m ≡ length xs → i ≤ 0 → EnvIs n e (After i) → EnvIs n e (after_call g (places d ls) xs Γ)
+  after_all {i = zero} q l is = from_first q is
+  after_all {i = suc i} q l is = absurd (omega arith)

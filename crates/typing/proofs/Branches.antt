@@ -1,62 +1,38 @@
 -- An if and a while: the cases of their blocks, and their answers from those of the blocks.
+use mathlib.Core.Bool.{Bool, true, false}
 use mathlib.Core.List.{List}
-use mathlib.Core.Path.{◌≡◌, refl, sym, ap, subst, ◌∙◌}
+use mathlib.Core.Path.{◌≡◌, refl, sym, subst, ◌∙◌}
 use native.Mathlib.Omega.{arith}
 use Prim.Native.Nat.{ℕ, ◌+◌, ◌≤◌, ◌<◌}
 use lib.ListN.{length}
+use Rattle.std.specs.Prelude.{Result, Ok, Err}
 use Rattle.answers.specs.declared.Refusal.{Refusal}
-use Rattle.answers.specs.Check.{Check, ◌>>◌}
-use Rattle.program.specs.declared.blocks.Past.TheVariants.{At, Refused}
+use Rattle.answers.specs.Check.{ok, refused, refusal}
 use Rattle.program.specs.In.{BlockIn}
 use Rattle.program.proofs.In.{statement_view, block_in}
 use Rattle.rules.specs.Basics.{byte}
 use Rattle.rules.specs.Syntax.{Side, if, while, Block}
-use Rattle.rules.specs.Slots.{unbound, qubit, bool, ref, slot, need_bool, need_ref}
-use Rattle.rules.specs.Typing.{Kind, Typed, kind_number, type_statement}
-use Rattle.sets.specs.declared.LocationSet.{LocationSet}
+use Rattle.rules.specs.Slots.{slot, need_bool, need_ref}
+use Rattle.rules.specs.Typing.{Env as Environment, same_env, type_block, type_statement}
+use Rattle.typing.specs.declared.body.Body.{Body}
 use Rattle.typing.specs.declared.env.Env.{Env}
-use Rattle.typing.specs.declared.env.Outcome.{Outcome}
-use Rattle.typing.specs.declared.endings.Endings.{Endings}
-use Rattle.typing.specs.Stands.{Answers}
-use Rattle.typing.specs.Cases.{BlockCase, BlockTyped, StatementCase, Joined, Again}
-use Rattle.typing.proofs.Checks.{refuse, stopped}
-use Rattle.typing.proofs.OneStatement.{answered}
-use Rattle.typing.proofs.Outcomes.{passed, stays_refused, goes_on}
+use Rattle.typing.specs.declared.env.Typed.{Typed}
+use Rattle.typing.specs.Stands.{EnvIs, Answers}
+use Rattle.typing.specs.Cases.{BlockCase, BlockTyped, StatementCase}
+use Rattle.typing.proofs.Answering.{Passed, passed, refused_is, answered}
+use Rattle.typing.proofs.Rows.{first_gives, first_refused, then_gives, then_refused, need_yes, need_no, accepts, refuses, refuses_as}
 use Rattle.typing.proofs.Views.{AIf, AWhile, shape_at}
 
--- the slot that is tested
-module _ {d : Side} {n p : ℕ} {r : Outcome} (o : ℕ) (m : Check (Typed d)) {k : ℕ} where
-  bool_yes : (v : Kind d) → k ≡ kind_number v → k ≡ 1 → Answers n p m r → Answers n p (need_bool v o >> m) r
-  unfolding ◌>>◌
-  bool_yes unbound e h a = absurd (omega arith)
-  bool_yes (qubit l) e h a = absurd (omega arith)
-  bool_yes (bool b) e h a = a
-  bool_yes (ref b) e h a = absurd (omega arith)
+-- the test of two environments, for every two that they stand for
+abbrev pub Same : Env → Env → Bool → Type 0
+Same a b t = (d : Side) (n : ℕ) (Γ Δ : Environment d) → EnvIs n a Γ → EnvIs n b Δ → t ≡ same_env Γ Δ
 
-  bool_no : {w : Env} (v : Kind d) → k ≡ kind_number v → (k ≡ 1 → ⊥) → r ≡ stopped 11 o w → Answers n p (need_bool v o >> m) r
-  unfolding ◌>>◌
-  bool_no unbound e h q = refuse q
-  bool_no (qubit l) e h q = refuse q
-  bool_no (bool b) e h q = absurd (h e)
-  bool_no (ref b) e h q = refuse q
+module _ {body : Body} {env : Env} {at : ℕ} (t : StatementCase body env at) where
+  abbrev s : List ℕ
+  s = body.bytes.now
 
-  ref_yes : (v : Kind d) → k ≡ kind_number v → k ≡ 2 → Answers n p m r → Answers n p (need_ref v o >> m) r
-  unfolding ◌>>◌
-  ref_yes unbound e h a = absurd (omega arith)
-  ref_yes (qubit l) e h a = absurd (omega arith)
-  ref_yes (bool b) e h a = absurd (omega arith)
-  ref_yes (ref b) e h a = a
-
-  ref_no : {w : Env} (v : Kind d) → k ≡ kind_number v → (k ≡ 2 → ⊥) → r ≡ stopped 11 o w → Answers n p (need_ref v o >> m) r
-  unfolding ◌>>◌
-  ref_no unbound e h q = refuse q
-  ref_no (qubit l) e h q = refuse q
-  ref_no (bool b) e h q = refuse q
-  ref_no (ref b) e h q = absurd (h e)
-
-module _ {s : List ℕ} {e : Endings} {inside : LocationSet} {env : Env} {at : ℕ} (t : StatementCase s e inside env at) where
   -- a block of the statement, typed with what the statement is typed with
-  abbrev inner : (j : ℕ) (x : Block t.side) (q : ℕ) → BlockIn s t.scope t.depths j x q → BlockCase s e inside env j
+  abbrev inner : (j : ℕ) (x : Block t.side) (q : ℕ) → BlockIn s t.scope t.depths j x q → BlockCase body env j
   inner j x q h = record {
     side = t.side;
     scope = t.scope;
@@ -72,55 +48,86 @@ module _ {s : List ℕ} {e : Endings} {inside : LocationSet} {env : Env} {at : �
     is = t.is;
   }
 
+  abbrev Typed_as : Result Typed Refusal → Type 0
+  Typed_as r = Answers t.places t.next (type_statement t.context t.entry t.it) r
+
   module _ (b : byte s at ≡ 10) where
     pub an_if : AIf s t.scope t.depths at t.it t.next
     an_if = shape_at 10 (statement_view t.stands) b
 
-    abbrev pub then_case : BlockCase s e inside env (at + 2)
+    abbrev pub then_case : BlockCase body env (at + 2)
     then_case = inner (at + 2) an_if.0 an_if.2 an_if.5
 
-    module _ {x : ℕ} (f : x ≡ byte s (at + 1)) {k : ℕ} (kind : k ≡ kind_number (slot t.entry.slots x)) where
-      kind_there : k ≡ kind_number (slot t.entry.slots (byte s (at + 1)))
-      kind_there = kind ∙ ap (λ (y : ℕ). kind_number (slot t.entry.slots y)) f
+    if_is : {r : Result Typed Refusal} → Answers t.places t.next (type_statement t.context t.entry (if at (byte s (at + 1)) an_if.0 an_if.1)) r → Typed_as r
+    if_is a = answered t (if at (byte s (at + 1)) an_if.0 an_if.1) a an_if.7 refl
 
-      pub if_no : {w : Env} {r : Outcome} → (k ≡ 1 → ⊥) → r ≡ stopped 11 at w → Answers t.places t.next (type_statement t.context t.entry t.it) r
-      if_no h q = answered t (if at (byte s (at + 1)) an_if.0 an_if.1) (bool_no at _ (slot t.entry.slots (byte s (at + 1))) kind_there h q) an_if.7 refl
+    pub if_no : {z : Refusal} {r : Result Typed Refusal} → refused z ≡ need_bool (slot t.entry.slots (byte s (at + 1))) at → r ≡ Err z → Typed_as r
+    if_no e q = if_is (refuses (then_refused _ e) q)
 
-      module _ (h : k ≡ 1) {first : Outcome} (a : BlockTyped s e inside env (at + 2) first) where
-        pub if_stops : {z : Refusal} → first.answer ≡ Refused z → Answers t.places t.next (type_statement t.context t.entry t.it) first
-        if_stops q = answered t (if at (byte s (at + 1)) an_if.0 an_if.1) (bool_yes at _ (slot t.entry.slots (byte s (at + 1))) kind_there h (stays_refused _ (a then_case) q)) an_if.7 refl
+    module _ (e : ok tt ≡ need_bool (slot t.entry.slots (byte s (at + 1))) at) where
+      pub if_stops : {z : Refusal} {r : Result Typed Refusal} → BlockTyped body env (at + 2) (Err z) → r ≡ Err z → Typed_as r
+      if_stops a q = if_is (refuses (then_gives e (first_refused _ (refused_is (a then_case)))) q)
 
-        module _ {j : ℕ} (q : first.answer ≡ At j) where
-          abbrev pub else_case : BlockCase s e inside env j
-          else_case = inner j an_if.1 t.next (subst (λ (i : ℕ). BlockIn s t.scope t.depths i an_if.1 t.next) (sym (passed (a then_case) q).here) an_if.6)
+      module _ {first : Typed} (a : BlockTyped body env (at + 2) (Ok first)) where
+        abbrev u : Passed t.places an_if.2 (type_block t.context t.entry an_if.0) first
+        u = passed (a then_case)
 
-          pub middle_moves : (at + 2 < j) × (j ≤ length s)
-          middle_moves =
-              let u = (passed (a then_case) q).here in
-              let k = block_in an_if.5 in
-              (omega (arith, u, k.4), omega (arith, u, k.5))
+        abbrev pub else_case : BlockCase body env first.next
+        else_case = inner first.next an_if.1 t.next (subst (λ (i : ℕ). BlockIn s t.scope t.depths i an_if.1 t.next) (sym u.here) an_if.6)
 
-          pub if_joins : {second r : Outcome} → BlockTyped s e inside env j second → Joined first.env second at r → Answers t.places t.next (type_statement t.context t.entry t.it) r
-          if_joins c g =
-              let u = passed (a then_case) q in
-              answered t (if at (byte s (at + 1)) an_if.0 an_if.1)
-              (bool_yes at _ (slot t.entry.slots (byte s (at + 1))) kind_there h (goes_on _ u.gives (g t.side t.places t.next u.typed _ _ u.is (c else_case)))) an_if.7 refl
+        pub middle_moves : (at + 2 < first.next) × (first.next ≤ length s)
+        middle_moves = let k = block_in an_if.5 in (omega (arith, u.here, k.4), omega (arith, u.here, k.5))
+
+        pub else_stops : {z : Refusal} {r : Result Typed Refusal} → BlockTyped body env first.next (Err z) → r ≡ Err z → Typed_as r
+        else_stops c q =
+            if_is (refuses (then_gives e (first_gives _ u.gives (first_refused _ (refused_is (c else_case))))) q)
+
+        module _ {second : Typed} (c : BlockTyped body env first.next (Ok second)) {same : Bool} (h : Same first.env second.env same) where
+          abbrev v : Passed t.places t.next (type_block t.context t.entry an_if.1) second
+          v = passed (c else_case)
+
+          pub if_differs : {z : Refusal} → z ≡ refusal 18 at → same ≡ false → Typed_as (Err z)
+          if_differs q k =
+              if_is
+              (refuses_as
+              (then_gives e (first_gives _ u.gives (first_gives _ v.gives (then_refused _ (need_no 18 at q (sym (h t.side t.places _ _ u.is v.is) ∙ k)))))))
+
+          pub if_joins : {r : Typed} → r.next ≡ second.next → r.env ≡ first.env → same ≡ true → Typed_as (Ok r)
+          if_joins {r} p q k =
+              if_is
+              (accepts
+              (then_gives e (first_gives _ u.gives (first_gives _ v.gives (then_gives (need_yes 18 at (sym (h t.side t.places _ _ u.is v.is) ∙ k)) refl))))
+              (p ∙ v.here) (subst (λ (w : Env). EnvIs t.places w u.typed.env) (sym q) u.is))
 
   module _ (b : byte s at ≡ 11) where
     pub a_while : AWhile s t.scope t.depths at t.it t.next
     a_while = shape_at 11 (statement_view t.stands) b
 
-    abbrev pub body_case : BlockCase s e inside env (at + 2)
+    abbrev pub body_case : BlockCase body env (at + 2)
     body_case = inner (at + 2) a_while.0 t.next a_while.3
 
-    module _ {x : ℕ} (f : x ≡ byte s (at + 1)) {k : ℕ} (kind : k ≡ kind_number (slot t.entry.slots x)) where
-      reference_there : k ≡ kind_number (slot t.entry.slots (byte s (at + 1)))
-      reference_there = kind ∙ ap (λ (y : ℕ). kind_number (slot t.entry.slots y)) f
+    while_is : {r : Result Typed Refusal} → Answers t.places t.next (type_statement t.context t.entry (while at (byte s (at + 1)) a_while.0)) r → Typed_as r
+    while_is a = answered t (while at (byte s (at + 1)) a_while.0) a a_while.4 refl
 
-      pub while_no : {w : Env} {r : Outcome} → (k ≡ 2 → ⊥) → r ≡ stopped 11 at w → Answers t.places t.next (type_statement t.context t.entry t.it) r
-      while_no h q = answered t (while at (byte s (at + 1)) a_while.0) (ref_no at _ (slot t.entry.slots (byte s (at + 1))) reference_there h q) a_while.4 refl
+    pub while_no : {z : Refusal} {r : Result Typed Refusal} → refused z ≡ need_ref (slot t.entry.slots (byte s (at + 1))) at → r ≡ Err z → Typed_as r
+    while_no e q = while_is (refuses (then_refused _ e) q)
 
-      pub while_again : {body r : Outcome} → k ≡ 2 → BlockTyped s e inside env (at + 2) body → Again env body at r → Answers t.places t.next (type_statement t.context t.entry t.it) r
-      while_again h a g =
-          answered t (while at (byte s (at + 1)) a_while.0)
-          (ref_yes at _ (slot t.entry.slots (byte s (at + 1))) reference_there h (g t.side t.places t.next t.entry _ _ t.is (a body_case))) a_while.4 refl
+    module _ (e : ok tt ≡ need_ref (slot t.entry.slots (byte s (at + 1))) at) where
+      pub while_stops : {z : Refusal} {r : Result Typed Refusal} → BlockTyped body env (at + 2) (Err z) → r ≡ Err z → Typed_as r
+      while_stops a q = while_is (refuses (then_gives e (first_refused _ (refused_is (a body_case)))) q)
+
+      module _ {inside : Typed} (a : BlockTyped body env (at + 2) (Ok inside)) {same : Bool} (h : Same inside.env env same) where
+        abbrev w : Passed t.places t.next (type_block t.context t.entry a_while.0) inside
+        w = passed (a body_case)
+
+        pub while_changes : {z : Refusal} → z ≡ refusal 19 at → same ≡ false → Typed_as (Err z)
+        while_changes q k =
+            while_is
+            (refuses_as
+            (then_gives e (first_gives _ w.gives (then_refused _ (need_no 19 at q (sym (h t.side t.places _ _ w.is t.is) ∙ k))))))
+
+        pub while_again : {r : Typed} → r.next ≡ inside.next → r.env ≡ env → same ≡ true → Typed_as (Ok r)
+        while_again {r} p q k =
+            while_is
+            (accepts (then_gives e (first_gives _ w.gives (then_gives (need_yes 19 at (sym (h t.side t.places _ _ w.is t.is) ∙ k)) refl)))
+            (p ∙ w.here) (subst (λ (x : Env). EnvIs t.places x t.entry) (sym q) t.is))

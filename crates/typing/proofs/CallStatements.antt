@@ -1,27 +1,32 @@
 -- A call statement: what reading saw to, and its answer from what the call asked and from the environment after it.
 use mathlib.Core.Bool.{Bool, true, false, ◌&&◌, false≢true}
-use mathlib.Core.List.{List}
-use mathlib.Core.Path.{◌≡◌, refl, sym, subst, ◌∙◌}
+use mathlib.Core.List.{List, [], ◌∷◌}
+use mathlib.Core.Path.{◌≡◌, refl, sym, ap, ◌∙◌}
 use native.Mathlib.Omega.{arith}
-use Prim.Native.Nat.{ℕ, zero, suc, ◌+◌, ◌<◌}
+use Prim.Native.Nat.{ℕ, zero, suc, ◌+◌, ◌*◌, ◌≤◌, ◌<◌}
+use lib.ListN.{get_or, length}
+use Rattle.std.specs.Prelude.{Result, Ok, Err}
 use Rattle.answers.specs.declared.Refusal.{Refusal}
-use Rattle.answers.specs.Check.{Check, ok, refused, ◌>>◌}
+use Rattle.answers.specs.Check.{Check, ok, refused}
 use Rattle.answers.proofs.Laws.{holds_then, holds_need, holds_map, holds_any, holds_at}
-use Rattle.program.specs.declared.blocks.Past.TheVariants.{Refused}
 use Rattle.program.proofs.In.{statement_view}
-use Rattle.rules.specs.Basics.{all, up_to, byte}
-use Rattle.rules.specs.Syntax.{Side, Place, call}
+use Rattle.rules.specs.Basics.{all, byte}
+use Rattle.rules.specs.Syntax.{Side, Place, Statement, call}
 use Rattle.rules.specs.Slots.{callable}
 use Rattle.rules.specs.Typing.{Env as Environment, Signature, signature, Context, kinds, after_call, type_statement}
-use Rattle.sets.specs.declared.LocationSet.{LocationSet}
+use Rattle.rules.proofs.Basics.{get_d_up_to}
+use Rattle.sets.specs.Sets.{has}
+use Rattle.typing.specs.declared.body.Body.{Body}
+use Rattle.typing.specs.declared.calls.Call.{Call}
 use Rattle.typing.specs.declared.env.Env.{Env}
-use Rattle.typing.specs.declared.env.Outcome.{Outcome}
-use Rattle.typing.specs.declared.endings.Endings.{Endings}
+use Rattle.typing.specs.declared.env.Typed.{Typed}
 use Rattle.typing.specs.Stands.{EnvIs, Answers}
 use Rattle.typing.specs.Cases.{StatementCase}
-use Rattle.typing.specs.Calls.{places_at, slots_at, CallAt, Ends}
-use Rattle.typing.proofs.Checks.{accept, refuse, gone}
-use Rattle.typing.proofs.OneStatement.{answered}
+use Rattle.typing.specs.Calls.{places, CallAt, CallIs, Callable, Ends}
+use Rattle.typing.proofs.Answering.{answered}
+use Rattle.typing.proofs.CallLists.{places_up_to}
+use Rattle.typing.proofs.Lists.{length_up_to}
+use Rattle.typing.proofs.Rows.{then_gives, then_refused, accepts, refuses}
 use Rattle.typing.proofs.Views.{ACall, shape_at}
 
 and_first : (a b : Bool) → (a && b) ≡ true → a ≡ true
@@ -33,45 +38,84 @@ and_second true b h = h
 and_second false b h = absurd (false≢true h)
 
 -- a test that passes at all of a row passes at each
-all_at : {A : Type 0} (t : A → Bool) (f : ℕ → A) (p n i : ℕ) → all t (up_to p n f) ≡ true → i < n → t (f (p + i)) ≡ true
-all_at t f p zero i h l = absurd (omega arith)
-all_at t f p (suc n) zero h l = subst (λ (j : ℕ). t (f j) ≡ true) (omega arith) (and_first (t (f p)) _ h)
-all_at t f p (suc n) (suc i) h l = subst (λ (j : ℕ). t (f j) ≡ true) (omega arith) (all_at t f (suc p) n i (and_second (t (f p)) _ h) (omega arith))
+all_at : {d : Side} (t : Place d → Bool) (ls : List ℕ) (i : ℕ) → all t (places d ls) ≡ true → i < length ls → t (record { no = get_or ls i 0 }) ≡ true
+all_at t [] i h l = absurd (omega arith)
+all_at t (l ∷ ls) zero h m = and_first (t (record { no = l })) _ h
+all_at t (l ∷ ls) (suc i) h m = all_at t ls i (and_second (t (record { no = l })) _ h) (omega arith)
 
 -- a call that asks no more has its locations inside
 inside_all : {d : Side} (C : Context d) (Γ : Environment d) (o : ℕ) (ls : List (Place d)) (xs : List ℕ) → ok tt ≡ callable (kinds C Γ) o Γ.slots ls xs → all C.inside ls ≡ true
 inside_all C Γ o ls xs e = holds_at (holds_then (holds_need (all C.inside ls) 13 o) λ u h. holds_map (λ v k. h) (holds_any _)) (sym e)
 
-module _ {s : List ℕ} {e : Endings} {inside : LocationSet} {env : Env} {at : ℕ} (t : StatementCase s e inside env at) (b : byte s at ≡ 12) where
-  shape : ACall s t.scope t.depths at t.it t.next
+module _ {body : Body} {env : Env} {at : ℕ} (t : StatementCase body env at) (b : byte body.bytes.now at ≡ 12) where
+  abbrev s : List ℕ
+  s = body.bytes.now
+
+  pub shape : ACall s t.scope t.depths at t.it t.next
   shape = shape_at 12 (statement_view t.stands) b
 
   pub call_at : CallAt s at
   call_at =
       let h = shape in
       let m = t.knows.most (byte s (at + 1)) h.callee in
-      record { fits = h.fits; callee = omega (arith, h.callee, t.knows.few); most = omega (arith, m.0, h.m); less = omega (arith, m.1, h.m, h.k); slots = h.slots }
+      record { fits = h.fits; callee = omega (arith, h.callee, t.knows.few); most = omega (arith, m.0, h.m); fewer = omega (arith, m.1, h.m, h.k); slots = h.slots }
 
-  abbrev callee : Signature
-  callee = signature t.context.functions (byte s (at + 1))
+  module _ {c : Call} (is : CallIs s at c) where
+    places_long : length c.places.now ≡ byte s (at + 2)
+    places_long = ap (λ (ls : List ℕ). length ls) is.places ∙ length_up_to (at + 4) (byte s (at + 2)) (byte s)
 
-  abbrev asks : Check (Unit {0})
-  asks = callable (kinds t.context t.entry) at t.entry.slots (places_at t.side s at) (slots_at s at)
+    slots_long : length c.slots.now ≡ byte s (at + 3)
+    slots_long = ap (λ (ls : List ℕ). length ls) is.slots ∙ length_up_to (at + 4 + byte s (at + 2)) (byte s (at + 3)) (byte s)
 
-  ends : ok tt ≡ asks → Ends s e at t.places callee
-  ends q =
-      let h = shape in
-      record {
-        same = t.knows.same (byte s (at + 1)) h.callee ∙ sym h.m;
-        kept = λ i l. t.knows.kept (byte s (at + 1)) i h.callee (omega (arith, h.m));
-        within = λ i l. t.within.few _ (sym (t.within.same (record { no = byte s (at + 4 + i) })) ∙ all_at t.context.inside (λ j. record { no = byte s j }) (at + 4) (byte s (at + 2)) i (inside_all t.context t.entry at (places_at t.side s at) (slots_at s at) q) l);
-      }
+    slot_in : (i : ℕ) → i < byte s (at + 3) → get_or c.slots.now i 0 ≡ byte s (at + 4 + byte s (at + 2) + i)
+    slot_in i h = ap (λ (ls : List ℕ). get_or ls i 0) is.slots ∙ get_d_up_to (at + 4 + byte s (at + 2)) (byte s (at + 3)) i (byte s) 0 h
 
-  pub call_refused : {z : Refusal} {w : Env} {r : Outcome} → refused z ≡ asks → r ≡ record { answer = Refused z; env = w } → Answers t.places t.next (type_statement t.context t.entry t.it) r
-  unfolding ◌>>◌
-  call_refused q y = answered t (call at (byte s (at + 1)) (places_at t.side s at) (slots_at s at)) (rw (sym q) (refuse y)) shape.is refl
+    place_in : (i : ℕ) → i < byte s (at + 2) → get_or c.places.now i 0 ≡ byte s (at + 4 + i)
+    place_in i h = ap (λ (ls : List ℕ). get_or ls i 0) is.places ∙ get_d_up_to (at + 4) (byte s (at + 2)) i (byte s) 0 h
 
-  pub call_goes : {w : Env} {r : Outcome} {k m : ℕ} → ok tt ≡ asks → k ≡ byte s (at + 2) → m ≡ byte s (at + 3) → (Ends s e at t.places callee → EnvIs t.places w (after_call callee (places_at t.side s at) (slots_at s at) t.entry))
-      → r ≡ gone (at + 4 + k + m) w → Answers t.places t.next (type_statement t.context t.entry t.it) r
-  unfolding ◌>>◌
-  call_goes {k = k} {m} q i j is y = answered t {next = at + 4 + k + m} (call at (byte s (at + 1)) (places_at t.side s at) (slots_at s at)) (rw (sym q) (accept (is (ends q)) y)) shape.is (rw (i, j) shape.next)
+    pub call_fits : at + 4 + length c.places.now + length c.slots.now ≤ length s
+    call_fits = omega (arith, places_long, slots_long, shape.fits)
+
+    pub may_call : Callable c
+    may_call =
+        let h = call_at in
+        record {
+          callee = omega (arith, is.callee, h.callee);
+          most = omega (arith, slots_long, h.most);
+          fewer = omega (arith, slots_long, places_long, h.fewer);
+          slots = λ i l. let m : i < byte s (at + 3) = omega (arith, slots_long) in omega (arith, slot_in i m, h.slots i m);
+        }
+
+    -- the statement in the call's own lists
+    abbrev callee : Signature
+    callee = signature t.context.functions (byte s (at + 1))
+
+    abbrev asks : Check (Unit {0})
+    asks = callable (kinds t.context t.entry) at t.entry.slots (places t.side c.places.now) c.slots.now
+
+    abbrev pub it : Statement t.side
+    it = call at (byte s (at + 1)) (places t.side c.places.now) c.slots.now
+
+    it_is : t.it ≡ it
+    it_is = shape.is ∙ rw (is.places, is.slots, places_up_to t.side s (at + 4) (byte s (at + 2)))
+
+    next_is : t.next ≡ at + 4 + length c.places.now + length c.slots.now
+    next_is = omega (arith, shape.next, places_long, slots_long)
+
+    -- a call that asks no more has its locations inside
+    ends : ok tt ≡ asks → Ends c body.endings t.places callee
+    ends q =
+        let h = shape in
+        record {
+          same = t.knows.same (byte s (at + 1)) h.callee ∙ sym h.m ∙ sym slots_long;
+          kept = λ i l. ap (λ (f : ℕ). has body.endings.kept (8 * f + i)) is.callee ∙ t.knows.kept (byte s (at + 1)) i h.callee (omega (arith, h.m, slots_long));
+          within = λ i l. t.within.few _ (sym (t.within.same (record { no = get_or c.places.now i 0 })) ∙ all_at t.context.inside c.places.now i (inside_all t.context t.entry at (places t.side c.places.now) c.slots.now q) l);
+        }
+
+    pub call_refused : {z : Refusal} {r : Result Typed Refusal} → refused z ≡ asks → r ≡ Err z → Answers t.places t.next (type_statement t.context t.entry t.it) r
+    call_refused q y = answered t it (refuses (then_refused _ q) y) it_is next_is
+
+    pub call_goes : {r : Typed} → ok tt ≡ asks
+        → (Ends c body.endings t.places callee → EnvIs t.places r.env (after_call callee (places t.side c.places.now) c.slots.now t.entry))
+        → r.next ≡ at + 4 + length c.places.now + length c.slots.now → Answers t.places t.next (type_statement t.context t.entry t.it) (Ok r)
+    call_goes q after n = answered t it (accepts (then_gives q refl) n (after (ends q))) it_is next_is

@@ -16,7 +16,6 @@ use Rattle.rules.specs.Typing.{Kind, entry}
 use Rattle.sets.specs.declared.LocationSet.{LocationSet}
 use Rattle.sets.specs.Sets.{has}
 use Rattle.typing.specs.declared.slots.Slot.TheVariants.{Unbound, Qubit}
-use Rattle.typing.specs.declared.slots.Cell.{Cell}
 use Rattle.typing.specs.declared.env.Env.{Env}
 use Rattle.typing.specs.Stands.{kind_of, slot_of, bound, EnvIs}
 use Rattle.typing.proofs.Lists.{length_up_to, get_d_up_to_zero}
@@ -26,48 +25,38 @@ module _ (s : LocationSet) where
   pub first_none : ((y : ℕ) → has s y ≡ false) → (y : ℕ) → has s y ≡ ltb y 0
   first_none h y = h y ∙ sym (le-ltb y 0 (omega arith))
 
-  pub first_one : (r : LocationSet) (i : ℕ) {w : ℕ} → ((y : ℕ) → has s y ≡ ltb y i) → w ≡ i → ((y : ℕ) → has r y ≡ (eqb y w || has s y)) → (y : ℕ) → has r y ≡ ltb y (i + 1)
-  first_one r i {w} h e a y = a y ∙ ap (λ (b : Bool). eqb y w || b) (h y) ∙ go (ℕ_discrete y w) (dec_lt y i)
+  pub first_one : (r : LocationSet) (i : ℕ) → ((y : ℕ) → has s y ≡ ltb y i) → ((y : ℕ) → has r y ≡ (eqb y i || has s y)) → (y : ℕ) → has r y ≡ ltb y (i + 1)
+  first_one r i h a y = a y ∙ ap (λ (b : Bool). eqb y i || b) (h y) ∙ go (ℕ_discrete y i) (dec_lt y i)
     where
-      go : Dec (y ≡ w) → Dec (y < i) → (eqb y w || ltb y i) ≡ ltb y (i + 1)
-      go (yes q) l = rw (eq-eqb y w q, lt-ltb y (i + 1) (omega arith))
-      go (no q) (yes l) = rw (ne_eqb y w q, lt-ltb y i l, lt-ltb y (i + 1) (omega arith))
-      go (no q) (no l) = rw (ne_eqb y w q, le-ltb y i (omega arith), le-ltb y (i + 1) (omega arith))
-
-  pub first_all : (i k : ℕ) → ((y : ℕ) → has s y ≡ ltb y i) → i ≤ k → k ≤ i → (y : ℕ) → has s y ≡ ltb y k
-  first_all i k h l m y = h y ∙ ap (ltb y) (omega arith)
+      go : Dec (y ≡ i) → Dec (y < i) → (eqb y i || ltb y i) ≡ ltb y (i + 1)
+      go (yes q) l = rw (eq-eqb y i q, lt-ltb y (i + 1) (omega arith))
+      go (no q) (yes l) = rw (ne_eqb y i q, lt-ltb y i l, lt-ltb y (i + 1) (omega arith))
+      go (no q) (no l) = rw (ne_eqb y i q, le-ltb y i (omega arith), le-ltb y (i + 1) (omega arith))
 
 -- the slots below i hold the arguments, the others nothing
 pub record Entering (free : LocationSet) (i : ℕ) (e : Env) : Type 0 where
-  pub cells : length e.cells ≡ 32
+  pub count : length e.slots ≡ 32
   pub places : e.free ≡ free
   pub arguments : (x : ℕ) → x < i → slot_of e x ≡ Qubit x
   pub others : (x : ℕ) → i ≤ x → x < 32 → slot_of e x ≡ Unbound
 
-pub entering_none : {free : LocationSet} {e : Env} → e.cells ≡ replicate 32 (record { slot = Unbound }) → e.free ≡ free → Entering free 0 e
-entering_none {e = e} h q = record {
-  cells = ap (λ (cs : List Cell). length cs) h;
-  places = q;
-  arguments = λ x l. absurd (omega arith);
-  others = λ x l k. ap (λ (cs : List Cell). (get_or cs x (record { slot = Unbound })).slot) h ∙ ap (λ (c : Cell). c.slot) (get_or-replicate 32 x (record { slot = Unbound }) (record { slot = Unbound }) k);
-}
+pub entering_none : {free : LocationSet} {e : Env} → e ≡ record { slots = replicate 32 Unbound; free = free } → Entering e.free 0 e
+entering_none h = rw h (record { count = refl; places = refl; arguments = λ x l. absurd (omega arith); others = λ x l k. get_or-replicate 32 x Unbound Unbound k })
 
-pub entering_one : {free : LocationSet} {i w : ℕ} {e b : Env} → i < 32 → Entering free i e → w ≡ i → b ≡ bound e w (Qubit i) → Entering free (i + 1) b
-entering_one {free} {i} {w} {e} {b} l r q s = record {
-  cells = ap (λ (a : Env). length a.cells) s ∙ length-set e.cells w (record { slot = Qubit i }) ∙ r.cells;
+pub entering_one : {free : LocationSet} {i : ℕ} {e b : Env} → i < 32 → Entering free i e → b ≡ bound e i (Qubit i) → Entering free (i + 1) b
+entering_one {free} {i} {e} {b} l r s = record {
+  count = ap (λ (a : Env). length a.slots) s ∙ length-set e.slots i (Qubit i) ∙ r.count;
   places = ap (λ (a : Env). a.free) s ∙ r.places;
   arguments = λ x k. below x k (ℕ_discrete x i);
   others = λ x k m. other x (omega arith) ∙ r.others x (omega arith) m;
 }
   where
-    other : (x : ℕ) → (x ≡ w → ⊥) → slot_of b x ≡ slot_of e x
-    other x h = ap (λ (a : Env). slot_of a x) s ∙ ap (λ (c : Cell). c.slot) (get_or-set_other e.cells w x (record { slot = Qubit i }) (record { slot = Unbound }) h)
+    other : (x : ℕ) → (x ≡ i → ⊥) → slot_of b x ≡ slot_of e x
+    other x h = ap (λ (a : Env). slot_of a x) s ∙ get_or-set_other e.slots i x (Qubit i) Unbound h
 
     below : (x : ℕ) → x < i + 1 → Dec (x ≡ i) → slot_of b x ≡ Qubit x
-    below x k (yes h) =
-        ap (slot_of b) (h ∙ sym q) ∙ ap (λ (a : Env). slot_of a w) s
-        ∙ ap (λ (c : Cell). c.slot) (get_or-set_same e.cells w (record { slot = Qubit i }) (record { slot = Unbound }) (omega (arith, r.cells))) ∙ ap Qubit (sym h)
-    below x k (no h) = other x (λ z. h (omega arith)) ∙ r.arguments x (omega arith)
+    below x k (yes h) = rw h (ap (λ (a : Env). slot_of a i) s ∙ get_or-set_same e.slots i (Qubit i) Unbound (omega (arith, r.count)))
+    below x k (no h) = other x h ∙ r.arguments x (omega arith)
 
 -- the slots of the rules: the arguments, then nothing
 arguments_first : (ls : List (Place parameter)) (n x : ℕ) → x < length ls → slot (map {B = Kind parameter} qubit ls ++ replicate n unbound) x ≡ qubit (get_or ls x (record { no = 0 }))
@@ -107,9 +96,9 @@ places_at m k y h = go (dec_lt y m) (dec_lt y k)
     go (no l) (yes d) = rw (le-ltb y m (omega arith), lt-ltb y k d) (places_mid m (k - m) y (omega arith) (omega arith))
     go (no l) (no d) = rw (le-ltb y k (omega arith)) (get_or-eq_default (replicate m false ++ replicate (k - m) true) false (omega (arith, places_length m (k - m))))
 
-pub entering_all : {free : LocationSet} {i k m : ℕ} {e : Env} (g : Function) → g.k ≡ k → g.m ≡ m → m ≤ 8 → m ≤ k → i ≤ m → m ≤ i → Entering free i e → ((y : ℕ) → has free y ≡ (ltb y k && not (ltb y m))) → EnvIs k e (entry g)
-entering_all {free} {i} {k} {m} {e} g p q h l a b r f = record {
-  cells = r.cells;
+pub entering_all : {free : LocationSet} {i k m : ℕ} {e : Env} (g : Function) → g.k ≡ k → g.m ≡ m → m ≤ 8 → m ≤ k → i ≡ m → Entering free i e → ((y : ℕ) → has free y ≡ (ltb y k && not (ltb y m))) → EnvIs k e (entry g)
+entering_all {free} {i} {k} {m} {e} g p q h l a r f = record {
+  count = r.count;
   long = long_is;
   wide = places_length g.m (g.k - g.m) ∙ omega arith;
   slots = λ x n. slot_is x n (dec_lt x i);

@@ -1,52 +1,65 @@
--- Two environments are equal where every slot has the same kind and every place is free in both or in neither: the code asks slot by slot, and
+-- Two environments are equal where every slot has the same kind and every place is free in both or in neither: the code compares the slots, and asks
 -- of the places whether one is in one set alone. A place that is in one alone is a place of the body, since beyond them both lists say no.
-use mathlib.Core.Bool.{Bool, true, false, not, ◌&&◌, ◌||◌, beq, true≢false, false≢true}
+use mathlib.Core.Bool.{Bool, true, false, not, beq, false≢true}
+use mathlib.Core.List.{List, [], ◌∷◌, map}
 use mathlib.Core.Path.{◌≡◌, refl, sym, ap, ◌∙◌}
-use native.Mathlib.Decide.{dec_lt}
+use native.Mathlib.Decide.{ℕ_discrete, dec_lt}
 use native.Mathlib.Omega.{arith}
-use Prim.Native.Nat.{ℕ, ◌≤◌, ◌<◌}
+use Prim.Native.Nat.{ℕ, ◌+◌, ◌<◌}
 use borrow.Author.Tests.{eq-eqb, ne_eqb}
+use lib.Dec.{eqb}
 use lib.ListN.{get_or, get_or-eq_default}
+use lib.Pointwise.{pointwise}
 use Rattle.rules.specs.Basics.{same_list}
 use Rattle.rules.specs.Syntax.{Side}
-use Rattle.rules.specs.Slots.{unbound, slot}
-use Rattle.rules.specs.Typing.{Env as Environment, kind_number, same_kind, same_env}
-use Rattle.sets.specs.declared.LocationSet.{LocationSet}
+use Rattle.rules.specs.Typing.{Env as Environment, same_kind, same_env}
 use Rattle.sets.specs.Sets.{has}
+use Rattle.typing.specs.declared.slots.Slot.{Slot}
+use Rattle.typing.specs.declared.slots.Slot.TheVariants.{Unbound, Qubit, Bool as ABool, Reference}
 use Rattle.typing.specs.declared.env.Env.{Env}
-use Rattle.typing.specs.Stands.{EnvIs}
+use Rattle.typing.specs.contracts.slots.SlotPartialEq.TheImpl.{eq-value}
+use Rattle.typing.specs.Stands.{kind_of, EnvIs}
+use Rattle.typing.proofs.SlotLists.{slots_are}
 use Rattle.typing.proofs.Lists.{same_yes, same_no}
 
--- the places, as sets
-only : (a b : Bool) → ((a && not b) || (b && not a)) ≡ false → a ≡ b
-only true true h = refl
-only true false h = absurd (true≢false h)
-only false true h = absurd (true≢false h)
-only false false h = refl
+abbrev pub same : Slot → Slot → Bool
+same = eq-value.it
 
-alone : (a b : Bool) → ((a && not b) || (b && not a)) ≡ true → a ≡ not b
-alone true true h = sym h
-alone true false h = refl
-alone false true h = refl
-alone false false h = absurd (false≢true h)
+-- the derived equality of slots is that of their kinds
+moved : (a b : ℕ) → eqb a b ≡ eqb (3 + a) (3 + b)
+moved a b = go (ℕ_discrete a b)
+  where
+    go : Dec (a ≡ b) → eqb a b ≡ eqb (3 + a) (3 + b)
+    go (yes e) = rw (eq-eqb a b e, eq-eqb (3 + a) (3 + b) (omega arith))
+    go (no e) = rw (ne_eqb a b e, ne_eqb (3 + a) (3 + b) (λ q. e (omega arith)))
 
-module _ (a b c d e : LocationSet) (p : (y : ℕ) → has c y ≡ (has a y && not (has b y))) (q : (y : ℕ) → has d y ≡ (has b y && not (has a y))) (r : (y : ℕ) → has e y ≡ (has c y || has d y)) where
-  in_one : (y : ℕ) → has e y ≡ ((has a y && not (has b y)) || (has b y && not (has a y)))
-  in_one y = r y ∙ rw (p y, q y)
+same_slot : (d : Side) (v w : Slot) → same v w ≡ same_kind (kind_of d v) (kind_of d w)
+same_slot d Unbound Unbound = refl
+same_slot d Unbound (Qubit l) = sym (ne_eqb 0 (3 + l) (λ e. absurd (omega arith)))
+same_slot d Unbound ABool = refl
+same_slot d Unbound Reference = refl
+same_slot d (Qubit k) Unbound = sym (ne_eqb (3 + k) 0 (λ e. absurd (omega arith)))
+same_slot d (Qubit k) (Qubit l) = moved k l
+same_slot d (Qubit k) ABool = sym (ne_eqb (3 + k) 1 (λ e. absurd (omega arith)))
+same_slot d (Qubit k) Reference = sym (ne_eqb (3 + k) 2 (λ e. absurd (omega arith)))
+same_slot d ABool Unbound = refl
+same_slot d ABool (Qubit l) = sym (ne_eqb 1 (3 + l) (λ e. absurd (omega arith)))
+same_slot d ABool ABool = refl
+same_slot d ABool Reference = refl
+same_slot d Reference Unbound = refl
+same_slot d Reference (Qubit l) = sym (ne_eqb 2 (3 + l) (λ e. absurd (omega arith)))
+same_slot d Reference ABool = refl
+same_slot d Reference Reference = refl
 
-  pub places_same : ((y : ℕ) → has e y ≡ false) → (y : ℕ) → has a y ≡ has b y
-  places_same h y = only (has a y) (has b y) (sym (in_one y) ∙ h y)
+same_slots : (d : Side) (vs ws : List Slot) → pointwise same vs ws ≡ same_list same_kind (map (kind_of d) vs) (map (kind_of d) ws)
+same_slots d [] [] = refl
+same_slots d [] (w ∷ ws) = refl
+same_slots d (v ∷ vs) [] = refl
+same_slots d (v ∷ vs) (w ∷ ws) = rw (same_slot d v w, same_slots d vs ws)
 
-  pub places_other : ((y : ℕ) × (has e y ≡ true)) → (y : ℕ) × (has a y ≡ not (has b y))
-  places_other h = (h.0, alone (has a h.0) (has b h.0) (sym (in_one h.0) ∙ h.1))
-
--- slots
 module _ {d : Side} {n : ℕ} {a b : Env} {Γ Δ : Environment d} (is : EnvIs n a Γ) (too : EnvIs n b Δ) where
-  pub slots_same : (x : ℕ) → 32 ≤ x → ((k : ℕ) → k < x → kind_number (slot Γ.slots k) ≡ kind_number (slot Δ.slots k)) → true ≡ same_list same_kind Γ.slots Δ.slots
-  slots_same x l h = sym (same_yes same_kind unbound Γ.slots Δ.slots (is.long ∙ sym too.long) (λ k m. eq-eqb _ _ (h k (omega (arith, is.long)))))
-
-  pub slots_other : (x : ℕ) → x < 32 → (kind_number (slot Γ.slots x) ≡ kind_number (slot Δ.slots x) → ⊥) → false ≡ same_list same_kind Γ.slots Δ.slots
-  slots_other x l h = sym (same_no same_kind unbound Γ.slots Δ.slots (is.long ∙ sym too.long) x (omega (arith, is.long)) (ne_eqb _ _ h))
+  slots_same : pointwise same a.slots b.slots ≡ same_list same_kind Γ.slots Δ.slots
+  slots_same = rw (slots_are is, slots_are too) (same_slots d a.slots b.slots)
 
   -- the lists of places
   beq_same : (s t : Bool) → s ≡ t → beq s t ≡ true
@@ -73,12 +86,13 @@ module _ {d : Side} {n : ℕ} {a b : Env} {Γ Δ : Environment d} (is : EnvIs n 
       let e : get_or Γ.free y false ≡ not (get_or Δ.free y false) = is.free y ∙ h ∙ ap not (sym (too.free y)) in
       same_no beq false Γ.free Δ.free (is.wide ∙ sym too.wide) y (omega (arith, among y e (dec_lt y n), is.wide)) (beq_other _ _ e)
 
-  pub env_other_slots : {t : Bool} → t ≡ same_list same_kind Γ.slots Δ.slots → t ≡ false → false ≡ same_env Γ Δ
-  unfolding same_env
-  env_other_slots e h = let f : same_list same_kind Γ.slots Δ.slots ≡ false = sym e ∙ h in rw f
+  module _ {t : Bool} (e : t ≡ pointwise same a.slots b.slots) where
+    pub env_other_slots : t ≡ false → t ≡ same_env Γ Δ
+    unfolding same_env
+    env_other_slots h = let f : same_list same_kind Γ.slots Δ.slots ≡ false = sym slots_same ∙ sym e ∙ h in h ∙ rw f
 
-  pub env_same : {t u : Bool} → t ≡ same_list same_kind Γ.slots Δ.slots → t ≡ true → (u ≡ true → (y : ℕ) → has a.free y ≡ has b.free y)
-      → (u ≡ false → (y : ℕ) × (has a.free y ≡ not (has b.free y))) → u ≡ same_env Γ Δ
-  unfolding same_env
-  env_same {u = true} e h s o = let f : same_list same_kind Γ.slots Δ.slots ≡ true = sym e ∙ h in rw (f, free_same (s refl))
-  env_same {u = false} e h s o = let f : same_list same_kind Γ.slots Δ.slots ≡ true = sym e ∙ h in rw (f, free_other (o refl).0 (o refl).1)
+    pub env_same : {u : Bool} → t ≡ true → (u ≡ true → (y : ℕ) → has a.free y ≡ has b.free y)
+        → (u ≡ false → (y : ℕ) × (has a.free y ≡ not (has b.free y))) → u ≡ same_env Γ Δ
+    unfolding same_env
+    env_same {u = true} h s o = let f : same_list same_kind Γ.slots Δ.slots ≡ true = sym slots_same ∙ sym e ∙ h in rw (f, free_same (s refl))
+    env_same {u = false} h s o = let f : same_list same_kind Γ.slots Δ.slots ≡ true = sym slots_same ∙ sym e ∙ h in rw (f, free_other (o refl).0 (o refl).1)

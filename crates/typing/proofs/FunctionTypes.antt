@@ -12,22 +12,23 @@ use lib.Dec.{ltb}
 use lib.ListN.{length, take, drop, drop_of_length-le}
 use lib.Seq.{get_or-take, length-take-le, drop-cons}
 use Rattle.answers.specs.declared.Refusal.{Refusal}
-use Rattle.answers.specs.declared.ReadAnswer.TheVariants.{Readable, Refused as NotReadable}
-use Rattle.answers.specs.Check.{◌>>=◌}
-use Rattle.program.specs.declared.blocks.Past.TheVariants.{At, Refused}
+use Rattle.answers.specs.Check.{Check}
+use Rattle.std.proofs.Common.{Bor}
+use Rattle.std.specs.Prelude.{Result, Ok, Err}
 use Rattle.program.specs.In.{BlockIn, ProgramIn, offset_of, scope_of, main_scope}
 use Rattle.rules.specs.Syntax.{parameter, param, block, done, Function, function, Program}
 use Rattle.rules.specs.Slots.{slot, is_qubit_at}
-use Rattle.rules.specs.Typing.{Typed, Signature, signature, entry, body_context, signature_of, type_functions}
+use Rattle.rules.specs.Typing.{Typed as TypedBlock, Signature, signature, entry, body_context, signature_of, type_block, type_functions}
 use Rattle.sets.specs.declared.LocationSet.{LocationSet}
 use Rattle.sets.specs.Sets.{has}
 use Rattle.typing.specs.declared.env.Env.{Env}
-use Rattle.typing.specs.declared.env.Outcome.{Outcome}
+use Rattle.typing.specs.declared.env.Typed.{Typed}
 use Rattle.typing.specs.declared.endings.Endings.{Endings}
 use Rattle.typing.specs.Stands.{EnvIs, Knows}
 use Rattle.typing.specs.Cases.{BlockCase, BlockTyped}
-use Rattle.typing.specs.Functions.{Remembers, Learns, learns, refuses}
-use Rattle.typing.proofs.Outcomes.{passed, refused_is}
+use Rattle.typing.specs.Functions.{Remembers, Learns, learns, stops}
+use Rattle.typing.proofs.Answering.{Passed, passed, refused_is}
+use Rattle.typing.proofs.Rows.{first_gives, first_refused}
 
 pub record Upto (fs : List Function) (f : ℕ) (e : Endings) : Type 0 where
   pub gs : List Signature
@@ -40,7 +41,7 @@ pub record Upto (fs : List Function) (f : ℕ) (e : Endings) : Type 0 where
 pub upto_none : (fs : List Function) {e : Endings} → ((y : ℕ) → has e.kept y ≡ false) → Upto fs 0 e
 upto_none fs h = record { gs = []; long = refl; so = refl; same = λ j l. absurd (omega arith); kept = λ j i l k. absurd (omega arith); none = λ y l. h y }
 
-module _ {s : List ℕ} {p : Program} (P : ProgramIn s p) {f : ℕ} {e : Endings} (u : Upto p.functions f e) where
+module _ (bytes : Bor (List ℕ)) {p : Program} (P : ProgramIn bytes.now p) {f : ℕ} {e : Endings} (u : Upto p.functions f e) where
   -- what a body knows that may call the first f
   known : (places : ℕ) (before : List Function) → length before ≡ f → f ≤ length p.functions → ((h : ℕ) → h < f → function before h ≡ function p.functions h)
       → Knows e (record { places = places; earlier = before }) u.gs
@@ -65,9 +66,9 @@ module _ {s : List ℕ} {p : Program} (P : ProgramIn s p) {f : ℕ} {e : Endings
     pub known_body : Knows e (scope_of p.functions f) u.gs
     known_body = known it.k (take f p.functions) (length-take-le f p.functions (omega arith)) (omega arith) (λ h n. get_or-take f p.functions h _ n)
 
-    module _ {k m at : ℕ} {inside : LocationSet} {env : Env} (q : k ≡ it.k) (w : m ≡ it.m) (o : at ≡ offset_of it.body) (first : (y : ℕ) → has inside y ≡ ltb y k)
-        (entered : (g : Function) → g.k ≡ k → g.m ≡ m → EnvIs k env (entry g)) where
-      abbrev pub body_case : BlockCase s e inside env at
+    module _ {k m at : ℕ} (q : k ≡ it.k) (w : m ≡ it.m) (o : at ≡ offset_of it.body) (inside : LocationSet) (first : (y : ℕ) → has inside y ≡ ltb y k)
+        {env : Env} (entered : (g : Function) → g.k ≡ k → g.m ≡ m → EnvIs k env (entry g)) where
+      abbrev pub body_case : BlockCase (record { bytes = bytes; endings = e; inside = inside }) env at
       body_case = record {
         side = parameter;
         scope = scope_of p.functions f;
@@ -77,21 +78,27 @@ module _ {s : List ℕ} {p : Program} (P : ProgramIn s p) {f : ℕ} {e : Endings
         places = k;
         context = body_context u.gs it;
         entry = entry it;
-        stands = subst (λ (i : ℕ). BlockIn s (scope_of p.functions f) 8 i it.body (P.body f l).0) (sym o) (P.body f l).1;
+        stands = subst (λ (i : ℕ). BlockIn bytes.now (scope_of p.functions f) 8 i it.body (P.body f l).0) (sym o) (P.body f l).1;
         within = record { same = λ x. ap (ltb x.no) (sym q) ∙ sym (first x.no); few = λ x h. ltb-true x k (sym (first x) ∙ h) };
         knows = known_body;
         is = entered it (sym q) (sym w);
       }
 
-      module _ {r : Outcome} (a : BlockTyped s e inside env at r) where
-        pub function_refused : {z : Refusal} → r.answer ≡ Refused z → Learns p.functions (type_functions [] p.functions) (record { answer = NotReadable z; endings = e })
-        unfolding ◌>>=◌
-        function_refused h = rw (next_one, refused_is (a body_case) h) refuses
+      abbrev typing : Check (TypedBlock parameter)
+      typing = type_block (body_context u.gs it) (entry it) it.body
 
-        module _ {j n : ℕ} (h : r.answer ≡ At j) (v : n ≡ it.m) {after : Endings} (g : Remembers e f n r.env after) where
-          abbrev typed : Typed parameter
-          typed = (passed (a body_case) h).typed
+      pub function_refused : {z : Refusal} {r : Result Endings Refusal} → BlockTyped (record { bytes = bytes; endings = e; inside = inside }) env at (Err z) → r ≡ Err z
+          → Learns p.functions (type_functions [] p.functions) r
+      function_refused a h = stops (next_one ∙ sym (first_refused _ (refused_is (a body_case)))) h
 
+      module _ {r : Typed} (a : BlockTyped (record { bytes = bytes; endings = e; inside = inside }) env at (Ok r)) where
+        abbrev past : Passed k (P.body f l).0 typing r
+        past = passed (a body_case)
+
+        abbrev typed : TypedBlock parameter
+        typed = past.typed
+
+        module _ {after : Endings} (g : Remembers e f m r.env after) where
           abbrev one_more : List Signature
           one_more = signature_of it typed ∷ u.gs
 
@@ -102,8 +109,7 @@ module _ {s : List ℕ} {p : Program} (P : ProgramIn s p) {f : ℕ} {e : Endings
           lower_is i c = rw (ne_eqb i (length u.gs) (λ z. absurd (omega (arith, z, u.long))))
 
           so_next : type_functions [] p.functions ≡ type_functions one_more (drop (f + 1) p.functions)
-          unfolding ◌>>=◌
-          so_next = next_one ∙ rw (passed (a body_case) h).gives (ap (λ (i : ℕ). type_functions one_more (drop i p.functions)) (sym (add-one f)))
+          so_next = next_one ∙ sym (first_gives _ past.gives (ap (λ (i : ℕ). type_functions one_more (drop i p.functions)) (add-one f)))
 
           same_next : (i : ℕ) → i < f + 1 → Dec (i ≡ f) → (signature one_more i).m ≡ (function p.functions i).m
           same_next i z (yes c) = subst (λ (i' : ℕ). (signature one_more i').m ≡ (function p.functions i').m) (sym c) (ap (λ (x : Signature). x.m) last_is)
@@ -114,7 +120,7 @@ module _ {s : List ℕ} {p : Program} (P : ProgramIn s p) {f : ℕ} {e : Endings
 
           kept_last : (i : ℕ) → i < it.m → has after.kept (8 * f + i) ≡ is_qubit_at (slot typed.env.slots i) (param i)
           kept_last i c =
-              g.its k typed.env (passed (a body_case) h).is i (omega arith)
+              g.its k typed.env past.is i (omega arith)
               ∙ ap (λ (b : Bool). is_qubit_at (slot typed.env.slots i) (param i) || b) (u.none (8 * f + i) (omega arith))
               ∙ or-false _
 
@@ -133,8 +139,8 @@ module _ {s : List ℕ} {p : Program} (P : ProgramIn s p) {f : ℕ} {e : Endings
             so = so_next;
             same = λ i c. same_next i c (ℕ_discrete i f);
             kept = λ j i c b. kept_next j i c b (ℕ_discrete j f);
-            none = λ y c. g.higher y (omega (arith, most, v)) ∙ u.none y (omega arith);
+            none = λ y c. g.higher y (omega (arith, most, w)) ∙ u.none y (omega arith);
           }
 
-  pub upto_all : length p.functions ≤ f → f ≤ length p.functions → Learns p.functions (type_functions [] p.functions) (record { answer = Readable; endings = e })
-  upto_all l k = rw (u.so, drop_of_length-le p.functions l) (learns (known_main (omega arith)))
+  pub upto_all : length p.functions ≤ f → f ≤ length p.functions → {r : Result Endings Refusal} → r ≡ Ok e → Learns p.functions (type_functions [] p.functions) r
+  upto_all l k h = learns (u.so ∙ rw (drop_of_length-le p.functions l)) h (known_main (omega arith))

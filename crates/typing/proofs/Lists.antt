@@ -5,7 +5,7 @@ use mathlib.Core.Path.{◌≡◌, refl, sym, ap, ◌∙◌}
 use native.Mathlib.Decide.{ℕ_discrete}
 use native.Mathlib.Nat.{zero-add}
 use native.Mathlib.Omega.{arith}
-use Prim.Native.Nat.{ℕ, zero, suc, ◌+◌, ◌-◌, ◌≤◌, ◌<◌}
+use Prim.Native.Nat.{ℕ, zero, suc, ◌+◌, ◌≤◌, ◌<◌}
 use lib.ListN.{get_or, length}
 use Rattle.rules.specs.Basics.{all, same_list, up_to}
 use Rattle.rules.proofs.Basics.{get_d_up_to}
@@ -50,27 +50,3 @@ module _ {A : Type 0} where
     same_no (v ∷ vs) [] e k l h = absurd (omega arith)
     same_no (v ∷ vs) (w ∷ ws) e zero l h = rw h
     same_no (v ∷ vs) (w ∷ ws) e (suc k) l h = and_no (f v w) _ (same_no vs ws (omega arith) k (omega arith) h)
-
-  -- the first of a row, and the row of none
-  pub up_to_cons : (f : ℕ → A) (a b m n : ℕ) → m ≡ suc n → suc a ≡ b → up_to a m f ≡ f a ∷ up_to b n f
-  up_to_cons f a b m n e q = rw (e, sym q)
-
-  pub up_to_nil : (f : ℕ → A) (a m : ℕ) → m ≡ 0 → up_to a m f ≡ []
-  up_to_nil f a m e = rw e
-
-  pub up_to_same : (f : ℕ → A) (a b m n : ℕ) → a ≡ b → m ≡ n → up_to a m f ≡ up_to b n f
-  up_to_same f a b m n e q = rw (e, q)
-
--- A row of bytes gone through from its start: what is left to be tested.
-module _ (g : ℕ → Bool) (f : ℕ → ℕ) (p n : ℕ) where
-  pub all_start : all g (up_to p n f) ≡ all g (up_to (p + 0) (n - 0) f)
-  all_start = ap (all g) (up_to_same f p (p + 0) n (n - 0) (omega arith) (omega arith))
-
-  pub all_next : (i : ℕ) → i < n → g (f (p + i)) ≡ true → all g (up_to (p + i) (n - i) f) ≡ all g (up_to (p + (i + 1)) (n - (i + 1)) f)
-  all_next i h k = rw (up_to_cons f (p + i) (p + (i + 1)) (n - i) (n - (i + 1)) (omega arith) (omega arith), k)
-
-  pub all_stop : (i : ℕ) → i < n → g (f (p + i)) ≡ false → all g (up_to (p + i) (n - i) f) ≡ false
-  all_stop i h k = rw (up_to_cons f (p + i) (p + (i + 1)) (n - i) (n - (i + 1)) (omega arith) (omega arith), k)
-
-  pub all_end : (i : ℕ) → n ≤ i → all g (up_to (p + i) (n - i) f) ≡ true
-  all_end i h = rw (up_to_nil f (p + i) (n - i) (omega arith))

@@ -7,12 +7,11 @@ use native.Mathlib.Decide.{dec_lt}
 use native.Mathlib.Omega.{arith}
 use Prim.Native.Nat.{ℕ, ◌<◌}
 use lib.ListN.{get_or, length, replicate, get_or-replicate, get_or-eq_default}
+use Rattle.std.proofs.Common.{Bor}
+use Rattle.std.specs.Prelude.{Ok, Err}
 use Rattle.answers.specs.declared.Refusal.{Refusal}
-use Rattle.answers.specs.declared.ReadAnswer.{ReadAnswer}
-use Rattle.answers.specs.declared.ReadAnswer.TheVariants.{Readable, Refused as NotReadable}
 use Rattle.answers.specs.Check.{Check, ok, refused, ◌>>=◌}
 use Rattle.device.specs.Reader.{Owned}
-use Rattle.program.specs.declared.blocks.Past.TheVariants.{At, Refused}
 use Rattle.program.specs.In.{BlockIn, ProgramIn, offset_of, main_scope}
 use Rattle.rules.specs.Basics.{up_to}
 use Rattle.rules.specs.Region.{Region}
@@ -23,37 +22,29 @@ use Rattle.sets.specs.declared.LocationSet.{LocationSet}
 use Rattle.sets.specs.Sets.{has}
 use Rattle.sets.proofs.SetLaws.{high_off}
 use Rattle.typing.specs.declared.slots.Slot.TheVariants.{Unbound}
-use Rattle.typing.specs.declared.slots.Cell.{Cell}
 use Rattle.typing.specs.declared.env.Env.{Env}
-use Rattle.typing.specs.declared.env.Outcome.{Outcome}
-use Rattle.typing.specs.declared.functions.Learnt.{Learnt}
-use Rattle.typing.specs.Stands.{kind_of, slot_of, EnvIs, Knows}
+use Rattle.typing.specs.declared.env.Typed.{Typed}
+use Rattle.typing.specs.declared.endings.Endings.{Endings}
+use Rattle.typing.specs.Stands.{kind_of, EnvIs, Knows}
 use Rattle.typing.specs.Cases.{in_block, BlockCase, StatementsTyped}
-use Rattle.typing.specs.Functions.{Learns, learns, refuses, typing}
+use Rattle.typing.specs.Functions.{Learns, learns, stops, typing}
 use Rattle.typing.proofs.Lists.{length_up_to, get_d_up_to_zero}
 use Rattle.typing.proofs.LiveSlots.{live_of, live_narrowed}
-use Rattle.typing.proofs.Outcomes.{passed, refused_is}
+use Rattle.typing.proofs.Answering.{passed, refused_is}
 
 -- what was learnt
-pub record Knew (fs : List Function) (m : Check (List Signature)) (r : Learnt) : Type 0 where
+pub record Knew (fs : List Function) (m : Check (List Signature)) (e : Endings) : Type 0 where
   pub gs : List Signature
-  pub gives : m ≡ ok gs
-  pub knows : Knows r.endings (main_scope fs) gs
+  pub gives : ok gs ≡ m
+  pub knows : Knows e (main_scope fs) gs
 
-apart : {z : Refusal} {X : Type 0} → Readable ≡ NotReadable z → X
-apart e = let k : ◌≡◌ {A = ℕ} 0 1 = cc in absurd (omega arith)
+pub knew : {fs : List Function} {m : Check (List Signature)} {e : Endings} → Learns fs m (Ok e) → Knew fs m e
+knew {fs} {e = e} (learns {gs = gs} {e = f} h k n) = let same : e ≡ f = cc in record { gs = gs; gives = sym h; knows = subst (λ (x : Endings). Knows x (main_scope fs) gs) (sym same) n }
+knew (stops h k) = let z : ◌≡◌ {A = ℕ} 0 1 = cc in absurd (omega arith)
 
-pub knew : {fs : List Function} {m : Check (List Signature)} {r : Learnt} → Learns fs m r → r.answer ≡ Readable → Knew fs m r
-knew (learns {gs = gs} h) e = record { gs = gs; gives = refl; knows = h }
-knew refuses e = apart (sym e)
-
-not_learnt : {fs : List Function} {m : Check (List Signature)} {r : Learnt} {z : Refusal} → Learns fs m r → r.answer ≡ NotReadable z → m ≡ refused z
-not_learnt (learns h) e = apart e
-not_learnt (refuses {z = w}) e = ap back e
-  where
-    back : ReadAnswer → Check (List Signature)
-    back Readable = refused w
-    back (NotReadable y) = refused y
+not_learnt : {fs : List Function} {m : Check (List Signature)} {z : Refusal} → Learns fs m (Err z) → refused z ≡ m
+not_learnt (learns h k n) = let y : ◌≡◌ {A = ℕ} 0 1 = cc in absurd (omega arith)
+not_learnt {z = z} (stops {z = y} h k) = let same : z ≡ y = cc in ap refused same ∙ sym h
 
 -- a set of locations is some region's
 pub some_region : LocationSet → Region
@@ -81,56 +72,47 @@ module _ {owned : LocationSet} {R : Region} (own : Owned R owned) where
       go (yes k) = k
       go (no k) = absurd (true≢false (sym h ∙ own.owned l ∙ get_or-eq_default R.owned false (omega arith)))
 
-  pub start_is : {env : Env} → env.cells ≡ replicate 32 (record { slot = Unbound }) → env.free ≡ owned
-      → EnvIs (length R.owned) env (start R.owned)
-  start_is {env} c f = record {
-    cells = ap (λ (cs : List Cell). length cs) c;
+  pub start_is : {env : Env} → env ≡ record { slots = replicate 32 Unbound; free = owned } → EnvIs (length R.owned) env (start R.owned)
+  start_is h = rw h (record {
+    count = refl;
     long = refl;
     wide = refl;
-    slots = λ x l. get_or-replicate {A = Kind device} 32 x unbound unbound l ∙ ap (kind_of device) (sym (none x l));
-    there = λ x j l q. let e = none x l in let z : ◌≡◌ {A = ℕ} 0 1 = cc in absurd (omega arith);
-    free = λ l. sym (own.owned l) ∙ ap (λ s. has s l) (sym f);
-  }
-    where
-      none : (x : ℕ) → x < 32 → slot_of env x ≡ Unbound
-      none x l =
-          let empty : Cell = record { slot = Unbound } in
-          ap (λ (cs : List Cell). (get_or cs x empty).slot) c ∙ ap (λ (d : Cell). d.slot) (get_or-replicate 32 x empty empty l)
+    slots = λ x l. get_or-replicate {A = Kind device} 32 x unbound unbound l ∙ ap (kind_of device) (sym (get_or-replicate 32 x Unbound Unbound l));
+    there = λ x j l q. let e = get_or-replicate 32 x Unbound Unbound l in let z : ◌≡◌ {A = ℕ} 0 1 = cc in absurd (omega arith);
+    free = λ l. sym (own.owned l);
+  })
 
-  module _ {s : List ℕ} {p : Program} (P : ProgramIn s p) {r : Learnt} (k : Knew p.functions (type_functions [] p.functions) r)
-      {env : Env} {main : ℕ} (c : env.cells ≡ replicate 32 (record { slot = Unbound })) (f : env.free ≡ owned)
-      (o : main ≡ offset_of p.main) where
-    abbrev pub main_case : BlockCase s r.endings owned env main
+  module _ (bytes : Bor (List ℕ)) {p : Program} (P : ProgramIn bytes.now p) {e : Endings} (k : Knew p.functions (type_functions [] p.functions) e)
+      {env : Env} (s : env ≡ record { slots = replicate 32 Unbound; free = owned }) {main : ℕ} (o : main ≡ offset_of p.main) where
+    abbrev pub main_case : BlockCase (record { bytes = bytes; endings = e; inside = owned }) env main
     main_case = record {
       side = device;
       scope = main_scope p.functions;
       depths = 8;
       it = p.main;
-      next = length s;
+      next = length bytes.now;
       places = length R.owned;
       context = main_context R.owned k.gs;
       entry = start R.owned;
-      stands = subst (λ (i : ℕ). BlockIn s (main_scope p.functions) 8 i p.main (length s)) (sym o) P.main;
+      stands = subst (λ (i : ℕ). BlockIn bytes.now (main_scope p.functions) 8 i p.main (length bytes.now)) (sym o) P.main;
       within = record { same = λ l. sym (own.owned l.no); few = owned_low };
       knows = k.knows;
-      is = start_is c f;
+      is = start_is s;
     }
 
-    module _ {t : Outcome} (a : StatementsTyped s r.endings owned env main t) where
-      -- what the code counts before the closing is what main's closed environment has
-      pub main_typed : {q n : ℕ} → t.answer ≡ At q
-          → ((d : Side) (i : ℕ) (Γ : Environment d) → EnvIs i t.env Γ → n ≡ live_of Γ.slots) → ok n ≡ typing R.owned p
-      unfolding ◌>>=◌
-      main_typed h c =
-          let u = passed (a main_case) h in
-          let same = live_narrowed (start R.owned).slots u.typed.env.slots u.is.long in
-          rw (k.gives, main_closed _ _ p.main, u.gives) (ap ok (c device _ u.typed.env u.is ∙ sym same))
+    -- what the code counts before the closing is what main's closed environment has
+    pub main_typed : {r : Typed} → StatementsTyped (record { bytes = bytes; endings = e; inside = owned }) env main (Ok r) → {n : ℕ}
+        → ((d : Side) (i : ℕ) (Γ : Environment d) → EnvIs i r.env Γ → n ≡ live_of Γ.slots) → ok n ≡ typing R.owned p
+    unfolding ◌>>=◌
+    main_typed a c =
+        let u = passed (a main_case) in
+        let same = live_narrowed (start R.owned).slots u.typed.env.slots u.is.long in
+        rw (sym k.gives, main_closed (main_context R.owned k.gs) (start R.owned) p.main, sym u.gives) (ap ok (c device _ u.typed.env u.is ∙ sym same))
 
-      pub main_refused : {z : Refusal} → t.answer ≡ Refused z → refused z ≡ typing R.owned p
-      unfolding ◌>>=◌
-      main_refused h = rw (k.gives, main_closed _ _ p.main, refused_is (a main_case) h)
+    pub main_refused : {z : Refusal} → StatementsTyped (record { bytes = bytes; endings = e; inside = owned }) env main (Err z) → refused z ≡ typing R.owned p
+    unfolding ◌>>=◌
+    main_refused a = rw (sym k.gives, main_closed (main_context R.owned k.gs) (start R.owned) p.main, sym (refused_is (a main_case)))
 
-pub functions_refused : (R : Region) (p : Program) {r : Learnt} {z : Refusal} → Learns p.functions (type_functions [] p.functions) r
-    → r.answer ≡ NotReadable z → refused z ≡ typing R.owned p
+pub functions_refused : (R : Region) (p : Program) {z : Refusal} → Learns p.functions (type_functions [] p.functions) (Err z) → refused z ≡ typing R.owned p
 unfolding ◌>>=◌
-functions_refused R p h e = rw (not_learnt h e)
+functions_refused R p h = rw (sym (not_learnt h))

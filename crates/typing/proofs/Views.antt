@@ -1,14 +1,16 @@
 -- A statement by its byte. `View` says what the byte is by an equation; here the byte picks what is known, so that the arm of a match on it, or
 -- a function for one kind, has its statement, its operands' bounds and where it ends.
 use mathlib.Core.List.{List, [], ◌∷◌}
-use mathlib.Core.Path.{◌≡◌, refl, sym, subst}
-use native.Mathlib.Decide.{ℕ_discrete}
-use native.Mathlib.Omega.{arith}
+use mathlib.Core.Logic.{◌⊎◌, inl, inr}
+use mathlib.Core.Path.{◌≡◌, refl, sym, ap, subst, ◌∙◌}
 use Prim.Native.Nat.{ℕ, ◌+◌, ◌≤◌, ◌<◌}
 use lib.Dec.{eqb}
 use lib.ListN.{get_or, length}
+use Rattle.rules.specs.declared.statements.Kind.{Kind}
+use Rattle.rules.specs.declared.statements.Kind.TheVariants.{Init, Magic}
 use Rattle.rules.specs.Basics.{up_to, byte}
 use Rattle.rules.specs.Syntax.{Side, Preparation, plain, magic, init, free, gate, measure, merge, new_ref, get_ref, set_ref, constant, Statement, op, if, while, call, Block, function}
+use Rattle.rules.specs.Kinds.{byte_of}
 use Rattle.rules.specs.Program.{Scope}
 use Rattle.program.specs.In.{BlockIn, View, is_init, is_magic, is_free, is_gate, is_measure, is_merge, is_new, is_get, is_set, is_if, is_while, is_call, is_bool}
 
@@ -86,10 +88,13 @@ module _ {d : Side} (s : List ℕ) (S : Scope) (depths at : ℕ) where
 pub shape_at : {d : Side} {s : List ℕ} {S : Scope} {depths at : ℕ} {t : Statement d} {p : ℕ} (n : ℕ) → View s S depths at t p → byte s at ≡ n → Shape s S depths at t p n
 shape_at {s = s} {S} {depths} {at} {t} {p} n v e = subst (λ (i : ℕ). Shape s S depths at t p i) e (shape_of s S depths at v)
 
--- the two kinds of init, by a range
-pub made : {d : Side} {s : List ℕ} {S : Scope} {depths at : ℕ} {t : Statement d} {p : ℕ} → View s S depths at t p → 1 ≤ byte s at → byte s at < 3 → AInit s S depths at t p
-made {s = s} {at = at} v l h = go (ℕ_discrete (byte s at) 1) v l h
-  where
-    go : {d : Side} {S : Scope} {depths : ℕ} {t : Statement d} {p : ℕ} → Dec (byte s at ≡ 1) → View s S depths at t p → 1 ≤ byte s at → byte s at < 3 → AInit s S depths at t p
-    go (yes e) v l h = shape_at 1 v e
-    go (no e) v l h = shape_at 2 v (omega arith)
+-- the shape of a kind, by what a match on it says
+pub of_kind : {d : Side} {s : List ℕ} {S : Scope} {depths at : ℕ} {t : Statement d} {p : ℕ} {kind : Kind} (k : Kind) → View s S depths at t p
+    → byte_of kind ≡ byte s at → kind ≡ k → Shape s S depths at t p (byte_of k)
+of_kind k v e q = shape_at (byte_of k) v (sym e ∙ ap byte_of q)
+
+-- the two kinds of init
+pub made : {d : Side} {s : List ℕ} {S : Scope} {depths at : ℕ} {t : Statement d} {p : ℕ} {kind : Kind} → View s S depths at t p → byte_of kind ≡ byte s at
+    → (kind ≡ Init) ⊎ (kind ≡ Magic) → AInit s S depths at t p
+made v e (inl q) = of_kind Init v e q
+made v e (inr q) = of_kind Magic v e q

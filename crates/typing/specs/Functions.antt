@@ -1,18 +1,14 @@
 -- What is known of the functions: after one more, and after them all.
-use Rattle.std.specs.Prelude.{Bool, ◌||◌, List, ◌≡◌, ℕ, ◌+◌, ◌*◌, ◌≤◌, ◌<◌}
+use Rattle.std.specs.Prelude.{Bool, ◌||◌, Result, Ok, Err, List, ◌≡◌, ℕ, ◌+◌, ◌*◌, ◌≤◌, ◌<◌}
 use Rattle.answers.specs.declared.Refusal.{Refusal}
-use Rattle.answers.specs.declared.ReadAnswer.TheVariants.{Readable, Refused}
 use Rattle.answers.specs.Check.{Check, ok, refused, ◌>>=◌}
 use Rattle.program.specs.In.{main_scope}
 use Rattle.rules.specs.Syntax.{parameter, param, Function, Program}
 use Rattle.rules.specs.Slots.{slot, is_qubit_at}
 use Rattle.rules.specs.Typing.{Env as Environment, Signature, type_program, live_in}
 use Rattle.sets.specs.Sets.{has}
-use Rattle.typing.specs.declared.LiveAnswer.{LiveAnswer}
-use Rattle.typing.specs.declared.LiveAnswer.TheVariants.{Live, Refused as NotTyped}
 use Rattle.typing.specs.declared.env.Env.{Env}
 use Rattle.typing.specs.declared.endings.Endings.{Endings}
-use Rattle.typing.specs.declared.functions.Learnt.{Learnt}
 use Rattle.typing.specs.Stands.{EnvIs, Knows}
 
 -- function f has m arguments and ends with env
@@ -23,16 +19,12 @@ pub record Remembers (before : Endings) (f m : ℕ) (env : Env) (after : Endings
       → has after.kept (8 * f + i) ≡ (is_qubit_at (slot Γ.slots i) (param i) || has before.kept (8 * f + i))
 
 -- the functions fs, typed: what main may know of them, or the refusal
-pub data Learns (fs : List Function) : Check (List Signature) → Learnt → Type 0 where
-  learns : {gs : List Signature} {e : Endings} → Knows e (main_scope fs) gs → Learns fs (ok gs) (record { answer = Readable; endings = e })
-  refuses : {z : Refusal} {e : Endings} → Learns fs (refused z) (record { answer = Refused z; endings = e })
+pub data Learns (fs : List Function) (m : Check (List Signature)) (r : Result Endings Refusal) : Type 0 where
+  learns : {gs : List Signature} {e : Endings} → m ≡ ok gs → r ≡ Ok e → Knows e (main_scope fs) gs → Learns fs m r
+  stops : {z : Refusal} → m ≡ refused z → r ≡ Err z → Learns fs m r
 
 -- the typing of a program: the number left live, or its refusal
 abbrev pub typing : List Bool → Program → Check ℕ
 typing owned p = do
   t ← type_program owned p
   ok (live_in t.env)
-
-abbrev pub live_said : LiveAnswer → Check ℕ
-live_said (Live n) = ok n
-live_said (NotTyped r) = refused r

@@ -4,108 +4,94 @@ ghost use Rattle.std.specs.Prelude.{◌≡◌};
 ghost use Rattle.rules.specs.Basics.{byte};
 ghost use Rattle.typing.specs.Cases.{BlockCase, BlockTyped, StatementsTyped, StatementCase, StatementTyped};
 
-use super::bytes::operand;
-use super::calls::type_call;
-use super::endings::Endings;
-use super::env::{Env, Outcome};
-use super::slots::{BOOL, REFERENCE};
-use super::statements::type_operation;
-use program::blocks::Past;
+use super::body::Body;
+use super::env::{Env, Typed};
+use answers::{Fault, Refusal};
 use rules::bytes::word_at;
-use sets::LocationSet;
+use rules::statements::Kind;
 
-// A block: its statements, then its closing.
-#[cycle(type_block_type_if_type_statement_type_statements_type_while)]
-pub fn type_block(s: &[u8], endings: Endings, inside: LocationSet, env: Env, at: usize) -> Outcome
-    requires { BlockCase s.now endings inside env at }
-    ensures { BlockTyped s.now endings inside env at result }
-{
-    let t = type_statements(s, endings, inside, env, at);
-    let answer = t.answer;
-    match answer {
-        Past::At(next) => {
-            let e = t.env;
-            e.close(env, at, next)
+impl Body<'_> {
+    // A block: its statements, then its closing.
+    #[cycle(blocks)]
+    pub fn type_block(&self, env: Env, at: usize) -> Result<Typed, Refusal>
+        requires { BlockCase self.now env at }
+        ensures { BlockTyped self.now env at result }
+    {
+        let typed = self.type_statements(env, at)?;
+        typed.close(env, at)
+    }
+
+    // The statements of the block at `at`, one after the other. The block is not closed.
+    #[cycle(blocks)]
+    pub fn type_statements(&self, env: Env, at: usize) -> Result<Typed, Refusal>
+        requires { BlockCase self.now env at }
+        ensures { StatementsTyped self.now env at result }
+    {
+        let first = at + 2;
+        let stop = first + word_at(self.bytes, at);
+        let mut typed = Typed { next: first, env };
+        while typed.next < stop {
+            typed = self.type_statement(typed.env, typed.next)?;
         }
-        Past::Refused(_) => t,
+        Ok(typed)
     }
-}
 
-// The statements of the block at `at`, one after the other. The block is not closed.
-#[cycle(type_block_type_if_type_statement_type_statements_type_while)]
-pub fn type_statements(
-    s: &[u8],
-    endings: Endings,
-    inside: LocationSet,
-    env: Env,
-    at: usize,
-) -> Outcome
-    requires { BlockCase s.now endings inside env at }
-    ensures { StatementsTyped s.now endings inside env at result }
-{
-    let stop = at + 2 + word_at(s, at);
-    let mut p = at + 2;
-    let mut e = env;
-    while p != stop {
-        let t = type_statement(s, endings, inside, e, p);
-        let answer = t.answer;
-        match answer {
-            Past::At(next) => {
-                e = t.env;
-                p = next;
-            }
-            Past::Refused(_) => {
-                return t;
-            }
+    #[cycle(blocks)]
+    fn type_statement(&self, env: Env, at: usize) -> Result<Typed, Refusal>
+        requires { StatementCase self.now env at }
+        ensures { StatementTyped self.now env at result }
+    {
+        let s = self.bytes;
+        match Kind::known(s[at]) {
+            Kind::Init | Kind::Magic => env.init(self.inside, at, at + 3, s[at + 1], s[at + 2]),
+            Kind::Free => env.free(at, at + 2, s[at + 1]),
+            Kind::Gate => env.gate(at, at + 3, s[at + 2]),
+            Kind::Measure => env.measure(at, at + 4, s[at + 1], s[at + 3]),
+            Kind::Merge => env.merge(at, at + 6, s[at + 1], s[at + 3], s[at + 5]),
+            Kind::Ref => env.new_reference(at, at + 3, s[at + 1], s[at + 2]),
+            Kind::Get => env.get_reference(at, at + 3, s[at + 1], s[at + 2]),
+            Kind::Set => env.set_reference(at, at + 3, s[at + 1], s[at + 2]),
+            Kind::If => self.type_if(env, at),
+            Kind::While => self.type_while(env, at),
+            Kind::Call => self.type_call(env, at),
+            Kind::Bool => env.constant(at, at + 3, s[at + 1]),
         }
     }
-    e.goes(stop)
-}
 
-#[cycle(type_block_type_if_type_statement_type_statements_type_while)]
-fn type_statement(s: &[u8], endings: Endings, inside: LocationSet, env: Env, at: usize) -> Outcome
-    requires { StatementCase s.now endings inside env at }
-    ensures { StatementTyped s.now endings inside env at result }
-{
-    let kind = s[at];
-    match kind {
-        10 => type_if(s, endings, inside, env, at),
-        11 => type_while(s, endings, inside, env, at),
-        12 => type_call(s, endings, inside, env, at),
-        _ => type_operation(s, inside, env, at),
-    }
-}
-
-// 11, both blocks from the same environment, 18.
-#[cycle(type_block_type_if_type_statement_type_statements_type_while)]
-fn type_if(s: &[u8], endings: Endings, inside: LocationSet, env: Env, at: usize) -> Outcome
-    requires statement_case { StatementCase s.now endings inside env at }
-    requires at_value { byte s.now at ≡ 10 }
-    ensures { StatementTyped s.now endings inside env at result }
-{
-    if env.kind_at(operand(s, at, 1)) != BOOL {
-        return env.stops(11, at);
-    }
-    let first = type_block(s, endings, inside, env, at + 2);
-    let answer = first.answer;
-    match answer {
-        Past::At(middle) => {
-            let e = first.env;
-            e.join(type_block(s, endings, inside, env, middle), at)
+    // 11, both blocks from the same environment, 18.
+    #[cycle(blocks)]
+    fn type_if(&self, env: Env, at: usize) -> Result<Typed, Refusal>
+        requires stands { StatementCase self.now env at }
+        requires starts { byte self.now.bytes.now at ≡ 10 }
+        ensures { StatementTyped self.now env at result }
+    {
+        env.need_bool(self.bytes[at + 1], at)?;
+        let first = self.type_block(env, at + 2)?;
+        let second = self.type_block(env, first.next)?;
+        if !first.env.same(second.env) {
+            return Err(Fault::BranchesDiffer.at(at));
         }
-        Past::Refused(_) => first,
+        Ok(Typed {
+            next: second.next,
+            env: first.env,
+        })
     }
-}
 
-// 11, the body, 19.
-#[cycle(type_block_type_if_type_statement_type_statements_type_while)]
-fn type_while(s: &[u8], endings: Endings, inside: LocationSet, env: Env, at: usize) -> Outcome
-    requires statement_case { StatementCase s.now endings inside env at }
-    requires at_value { byte s.now at ≡ 11 }
-    ensures { StatementTyped s.now endings inside env at result }
-{
-    if env.kind_at(operand(s, at, 1)) != REFERENCE {
-        return env.stops(11, at);
+    // 11, the body, 19.
+    #[cycle(blocks)]
+    fn type_while(&self, env: Env, at: usize) -> Result<Typed, Refusal>
+        requires stands { StatementCase self.now env at }
+        requires starts { byte self.now.bytes.now at ≡ 11 }
+        ensures { StatementTyped self.now env at result }
+    {
+        env.need_reference(self.bytes[at + 1], at)?;
+        let body = self.type_block(env, at + 2)?;
+        if !body.env.same(env) {
+            return Err(Fault::LoopChanges.at(at));
+        }
+        Ok(Typed {
+            next: body.next,
+            env,
+        })
     }
-    env.again(type_block(s, endings, inside, env, at + 2), at)
 }

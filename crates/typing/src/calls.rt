@@ -1,129 +1,111 @@
 // A call: what it asks of its locations and arguments, and the arguments that it loses.
-ghost use Rattle.std.specs.Prelude.{Bool, true, false, ◌≡◌, ℕ, ◌+◌, ◌*◌, ◌≤◌, ◌<◌, length, set};
-ghost use Rattle.answers.specs.Said.{read_said};
-ghost use Rattle.rules.specs.Basics.{up_to, byte};
+ghost use Rattle.std.specs.Prelude.{◌≡◌, ℕ, ◌≤◌, ◌<◌, length};
+ghost use Rattle.answers.specs.Said.{said};
+ghost use Rattle.rules.specs.Basics.{byte};
 ghost use Rattle.rules.specs.Syntax.{Side};
-ghost use Rattle.rules.specs.Slots.{unbound, arguments_at, callable};
+ghost use Rattle.rules.specs.Slots.{arguments_at, callable};
 ghost use Rattle.rules.specs.Typing.{Env as Environment, Context, Signature, kinds, after_call};
 ghost use Rattle.typing.specs.Stands.{EnvIs, Within};
-ghost use Rattle.typing.specs.Calls.{places_at, slots_at, CallAt, Ends};
+ghost use Rattle.typing.specs.Calls.{places, CallAt, CallIs, Callable, Ends};
 ghost use Rattle.typing.specs.Cases.{StatementCase, StatementTyped};
 
-use super::bytes::operand;
+use super::body::Body;
 use super::endings::Endings;
-use super::env::{Env, Outcome};
-use super::rows::{all_in, no_repeat};
-use super::slots::{QUBIT, Slot};
-use answers::{ReadAnswer, Refusal};
-use program::blocks::Past;
+use super::env::{Env, Typed};
+use super::slots::Slot;
+use answers::{Fault, Refusal};
 use sets::LocationSet;
+use sets::bytes::{all_in, no_repeat};
 
-// Each argument in turn is a qubit (11) at its location (16).
-fn arguments_at(s: &[u8], env: Env, at: usize) -> ReadAnswer
-    requires { CallAt s.now at }
-    ensures { (d : Side) (n : ℕ) (C : Context d) (Γ : Environment d) → EnvIs n env Γ
-        → read_said result ≡ arguments_at (kinds C Γ) at Γ.slots (slots_at s.now at) (places_at d s.now at) }
-{
-    let k = operand(s, at, 2);
-    let m = operand(s, at, 3);
-    let places = at + 4;
-    let slots = places + k;
-    let mut i: usize = 0;
-    while i < m {
-        let kind = env.kind_at(operand(s, slots, i));
-        if kind < QUBIT {
-            return ReadAnswer::Refused(Refusal::new(11, at));
-        }
-        if kind != QUBIT + operand(s, places, i) {
-            return ReadAnswer::Refused(Refusal::new(16, at));
-        }
-        i += 1;
-    }
-    ReadAnswer::Readable
+// The callee, the locations of its places, and the slots of its arguments, which are at the first of the locations.
+#[derive(Clone, Copy)]
+pub struct Call<'a> {
+    pub callee: u8,
+    pub places: &'a [u8],
+    pub slots: &'a [u8],
 }
 
-// 13 for each location, 15 for either list, 11 and 16 by argument, 14 for the locations that hold no argument.
-fn asks(s: &[u8], inside: LocationSet, env: Env, at: usize) -> ReadAnswer
-    requires { CallAt s.now at }
-    ensures { (d : Side) (n : ℕ) (C : Context d) (Γ : Environment d) → Within inside n C → EnvIs n env Γ
-        → read_said result ≡ callable (kinds C Γ) at Γ.slots (places_at d s.now at) (slots_at s.now at) }
-{
-    let k = operand(s, at, 2);
-    let m = operand(s, at, 3);
-    if !all_in(s, inside, at + 4, k) {
-        return ReadAnswer::Refused(Refusal::new(13, at));
-    }
-    if !no_repeat(s, at + 4, k) {
-        return ReadAnswer::Refused(Refusal::new(15, at));
-    }
-    if !no_repeat(s, at + 4 + k, m) {
-        return ReadAnswer::Refused(Refusal::new(15, at));
-    }
-    let asked = arguments_at(s, env, at);
-    match asked {
-        ReadAnswer::Refused(z) => ReadAnswer::Refused(z),
-        ReadAnswer::Readable => {
-            let free = env.free;
-            if !all_in(s, free, at + 4 + m, k - m) {
-                return ReadAnswer::Refused(Refusal::new(14, at));
-            }
-            ReadAnswer::Readable
-        }
-    }
-}
-
-impl Env {
-    // An argument in slot x at place l that the callee ended with, or without: then the slot is unbound and the place free.
-    fn end(self, stays: bool, x: usize, l: usize) -> Self
-        requires { (x < 32) × (l < 256) }
-        ensures env_is { (d : Side) (n : ℕ) (Γ : Environment d) → EnvIs n self Γ → stays ≡ true → EnvIs n result Γ }
-        ensures env_is_2 { (d : Side) (n : ℕ) (Γ : Environment d) → EnvIs n self Γ → stays ≡ false → l < n
-            → EnvIs n result (record { slots = set Γ.slots x unbound; free = set Γ.free l true }) }
+impl<'a> Call<'a> {
+    // The call that stands at `at`.
+    fn read(s: &'a [u8], at: usize) -> Self
+        requires { CallAt s.now at }
+        ensures { CallIs s.now at result }
     {
-        if stays {
-            return self;
+        let places = at + 4;
+        let slots = places + s[at + 2] as usize;
+        let end = slots + s[at + 3] as usize;
+        Call {
+            callee: s[at + 1],
+            places: &s[places..slots],
+            slots: &s[slots..end],
         }
-        self.bind(x, Slot::Unbound).give(l)
     }
 }
 
-// The environment after the call.
-fn after_call(s: &[u8], endings: Endings, env: Env, at: usize) -> Env
-    requires { CallAt s.now at }
-    ensures { (d : Side) (n : ℕ) (Γ : Environment d) (g : Signature) → EnvIs n env Γ → Ends s.now endings at n g
-        → EnvIs n result (after_call g (places_at d s.now at) (slots_at s.now at) Γ) }
-{
-    let f = operand(s, at, 1);
-    let k = operand(s, at, 2);
-    let m = operand(s, at, 3);
-    let places = at + 4;
-    let slots = places + k;
-    let mut e = env;
-    let mut i = m;
-    while 0 < i {
-        i -= 1;
-        e = e.end(
-            endings.keeps(f, i),
-            operand(s, slots, i),
-            operand(s, places, i),
-        );
+impl Call<'_> {
+    // Each argument in turn is a qubit (11) at its location (16).
+    fn need_arguments(&self, env: Env, at: usize) -> Result<(), Refusal>
+        requires { Callable self.now }
+        ensures { (d : Side) (n : ℕ) (C : Context d) (Γ : Environment d) → EnvIs n env Γ
+            → said result ≡ arguments_at (kinds C Γ) at Γ.slots self.now.slots.now (places d self.now.places.now) }
+    {
+        for i in 0..self.slots.len() {
+            let place = env.need_qubit(self.slots[i], at)?;
+            if place != self.places[i] {
+                return Err(Fault::Elsewhere.at(at));
+            }
+        }
+        Ok(())
     }
-    e
+
+    // 13 for each location, 15 for either list, 11 and 16 by argument, 14 for the locations that hold no argument.
+    fn need_callable(&self, inside: LocationSet, env: Env, at: usize) -> Result<(), Refusal>
+        requires { Callable self.now }
+        ensures { (d : Side) (n : ℕ) (C : Context d) (Γ : Environment d) → Within inside n C → EnvIs n env Γ
+            → said result ≡ callable (kinds C Γ) at Γ.slots (places d self.now.places.now) self.now.slots.now }
+    {
+        if !all_in(self.places, inside) {
+            return Err(Fault::Outside.at(at));
+        }
+        if !no_repeat(self.places) || !no_repeat(self.slots) {
+            return Err(Fault::Twice.at(at));
+        }
+        self.need_arguments(env, at)?;
+        if !all_in(&self.places[self.slots.len()..], env.free) {
+            return Err(Fault::Taken.at(at));
+        }
+        Ok(())
+    }
+
+    // The environment after the call: an argument that the callee ends without is unbound, and its location free.
+    fn after(&self, endings: Endings, env: Env) -> Env
+        requires { Callable self.now }
+        ensures { (d : Side) (n : ℕ) (Γ : Environment d) (g : Signature) → EnvIs n env Γ → Ends self.now endings n g
+            → EnvIs n result (after_call g (places d self.now.places.now) self.now.slots.now Γ) }
+    {
+        let mut after = env;
+        for i in (0..self.slots.len()).rev() {
+            if !endings.keeps(self.callee, i as u8) {
+                after = after
+                    .bind(self.slots[i], Slot::Unbound)
+                    .give(self.places[i]);
+            }
+        }
+        after
+    }
 }
 
-pub fn type_call(s: &[u8], endings: Endings, inside: LocationSet, env: Env, at: usize) -> Outcome
-    requires statement_case { StatementCase s.now endings inside env at }
-    requires at_value { byte s.now at ≡ 12 }
-    ensures { StatementTyped s.now endings inside env at result }
-{
-    let asked = asks(s, inside, env, at);
-    match asked {
-        ReadAnswer::Refused(z) => Outcome {
-            answer: Past::Refused(z),
-            env: env,
-        },
-        ReadAnswer::Readable => after_call(s, endings, env, at).goes(
-            at + 4 + operand(s, at, 2) + operand(s, at, 3),
-        ),
+impl Body<'_> {
+    pub fn type_call(&self, env: Env, at: usize) -> Result<Typed, Refusal>
+        requires stands { StatementCase self.now env at }
+        requires starts { byte self.now.bytes.now at ≡ 12 }
+        ensures { StatementTyped self.now env at result }
+    {
+        let call = Call::read(self.bytes, at);
+        call.need_callable(self.inside, env, at)?;
+        Ok(Typed {
+            next: at + 4 + call.places.len() + call.slots.len(),
+            env: call.after(self.endings, env),
+        })
     }
 }

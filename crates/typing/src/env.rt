@@ -1,130 +1,62 @@
 // Environments: what each slot holds, and which places are free.
-ghost use Rattle.std.specs.Prelude.{true, false, not, ◌&&◌, ◌||◌, ◌≡◌, ℕ, ◌<◌, eqb, replicate};
-ghost use Rattle.answers.specs.Check.{refusal};
-ghost use Rattle.rules.specs.Syntax.{Side};
-ghost use Rattle.rules.specs.Slots.{slot};
-ghost use Rattle.rules.specs.Typing.{Env as Environment, kind_number};
+ghost use Rattle.std.specs.Prelude.{not, ◌&&◌, ◌||◌, ◌≡◌, ℕ, ◌<◌, eqb, replicate};
 ghost use Rattle.sets.specs.Sets.{has};
-ghost use Rattle.typing.specs.Stands.{slot_of, bound, EnvIs};
+ghost use Rattle.typing.specs.Stands.{bound};
 
-use super::slots::{Cell, Slot, number};
-use answers::Refusal;
-use program::blocks::Past;
+use super::slots::Slot;
 use sets::LocationSet;
 
 #[derive(Clone, Copy)]
 pub struct Env {
-    pub cells: [Cell; 32],
+    pub slots: [Slot; 32],
     pub free: LocationSet,
 }
 
-// Typed up to a position with this environment, or refused.
+// What is typed up to a position, which is where typing goes on, and the environment there.
 #[derive(Clone, Copy)]
-pub struct Outcome {
-    pub answer: Past,
+pub struct Typed {
+    pub next: usize,
     pub env: Env,
 }
 
 impl Env {
     // Every slot unbound, these places free.
     pub fn new(free: LocationSet) -> Self
-        ensures { (result.cells ≡ replicate 32 (record { slot = Slot.Unbound })) × (result.free ≡ free) }
+        ensures { result ≡ record { slots = replicate 32 Slot.Unbound; free = free } }
     {
         Env {
-            cells: [Cell {
-                slot: Slot::Unbound,
-            }; 32],
-            free: free,
+            slots: [Slot::Unbound; 32],
+            free,
         }
     }
 
-    pub fn slot_at(self, x: usize) -> Slot
+    pub fn bind(mut self, x: u8, slot: Slot) -> Self
         requires { x < 32 }
-        ensures { result ≡ slot_of self x }
+        ensures { result ≡ bound self x slot }
     {
-        let c = self.cells[x];
-        c.slot
-    }
-
-    // The kind in a slot, and a qubit's place, as one number.
-    pub fn kind_at(self, x: usize) -> usize
-        requires { x < 32 }
-        ensures value { (d : Side) (places : ℕ) (Γ : Environment d) → EnvIs places self Γ → result ≡ kind_number (slot Γ.slots x) }
-        ensures upper_bound { result < 259 }
-    {
-        number(self.slot_at(x))
-    }
-
-    pub fn bind(mut self, x: usize, v: Slot) -> Self
-        requires { x < 32 }
-        ensures { result ≡ bound self x v }
-    {
-        self.cells[x] = Cell { slot: v };
+        self.slots[x as usize] = slot;
         self
     }
 
-    pub fn is_free(self, l: usize) -> bool
-        requires { l < 256 }
-        ensures { result ≡ has self.free l }
-    {
-        let free = self.free;
-        free.contains(l)
-    }
-
     // The place is free no more.
-    pub fn take(self, l: usize) -> Self
-        requires { l < 256 }
-        ensures { (result.cells ≡ self.cells) × ((y : ℕ) → has result.free y ≡ (not (eqb y l) && has self.free y)) }
+    pub fn take(self, place: u8) -> Self
+        ensures slots { result.slots ≡ self.slots }
+        ensures free { (y : ℕ) → has result.free y ≡ (not (eqb y place) && has self.free y) }
     {
-        let cells = self.cells;
-        let free = self.free;
         Env {
-            cells: cells,
-            free: free.remove(l),
+            free: self.free.remove(place),
+            ..self
         }
     }
 
     // The place is free again.
-    pub fn give(self, l: usize) -> Self
-        requires { l < 256 }
-        ensures { (result.cells ≡ self.cells) × ((y : ℕ) → has result.free y ≡ (eqb y l || has self.free y)) }
+    pub fn give(self, place: u8) -> Self
+        ensures slots { result.slots ≡ self.slots }
+        ensures free { (y : ℕ) → has result.free y ≡ (eqb y place || has self.free y) }
     {
-        let cells = self.cells;
-        let free = self.free;
         Env {
-            cells: cells,
-            free: free.add(l),
+            free: self.free.add(place),
+            ..self
         }
-    }
-
-    // Typed up to a position.
-    pub fn goes(self, next: usize) -> Outcome
-        ensures { result ≡ record { answer = Past.At next; env = self } }
-    {
-        Outcome {
-            answer: Past::At(next),
-            env: self,
-        }
-    }
-
-    // Refused at a place.
-    pub fn stops(self, number: u8, place: usize) -> Outcome
-        ensures { result ≡ record { answer = Past.Refused (refusal number place); env = self } }
-    {
-        Outcome {
-            answer: Past::Refused(Refusal::new(number, place)),
-            env: self,
-        }
-    }
-
-    // Typed up to a position where a test holds, else refused at a place.
-    pub fn goes_if(self, test: bool, next: usize, number: u8, place: usize) -> Outcome
-        ensures value { test ≡ true → result ≡ record { answer = Past.At next; env = self } }
-        ensures value_2 { test ≡ false → result ≡ record { answer = Past.Refused (refusal number place); env = self } }
-    {
-        if test {
-            return self.goes(next);
-        }
-        self.stops(number, place)
     }
 }

@@ -8,32 +8,21 @@ ghost use Rattle.sets.specs.Sets.{has};
 ghost use Rattle.typing.specs.Stands.{EnvIs};
 ghost use Rattle.typing.specs.Functions.{Learns};
 
-use super::blocks::type_block;
+use super::body::Body;
 use super::endings::Endings;
 use super::env::Env;
 use super::slots::Slot;
-use answers::ReadAnswer;
-use program::blocks::Past;
+use answers::Refusal;
 use program::functions::FunctionTable;
-use rules::bytes::wide;
 use sets::LocationSet;
-
-// What the functions end with, or the first refusal in them.
-#[derive(Clone, Copy)]
-pub struct Learnt {
-    pub answer: ReadAnswer,
-    pub endings: Endings,
-}
 
 // The first k numbers.
 fn first(k: u8) -> LocationSet
     ensures { (y : ℕ) → has result y ≡ ltb y k }
 {
     let mut set = LocationSet::empty();
-    let mut i: u8 = 0;
-    while i < k {
-        set = set.add(wide(i));
-        i += 1;
+    for i in 0..k {
+        set = set.add(i);
     }
     set
 }
@@ -43,44 +32,30 @@ fn entered(k: u8, m: u8) -> Env
     requires { (m ≤ 8) × (m ≤ k) }
     ensures { (g : Function) → g.k ≡ k → g.m ≡ m → EnvIs k result (entry g) }
 {
-    let mut e = Env::new(first(k).without(first(m)));
-    let mut i: u8 = 0;
-    while i < m {
-        e = e.bind(wide(i), Slot::Qubit(i));
-        i += 1;
+    let mut env = Env::new(first(k).without(first(m)));
+    for i in 0..m {
+        env = env.bind(i, Slot::Qubit(i));
     }
-    e
+    env
 }
 
-pub fn type_functions(s: &[u8], t: FunctionTable) -> Learnt
-    requires { (p : Program) × ProgramIn s.now p × Heads p.functions t }
-    ensures { (p : Program) → ProgramIn s.now p → Heads p.functions t
+// What the functions end with, or the first refusal in them.
+pub fn type_functions(s: &[u8], table: &FunctionTable) -> Result<Endings, Refusal>
+    requires { (p : Program) × ProgramIn s.now p × Heads p.functions table.now }
+    ensures { (p : Program) → ProgramIn s.now p → Heads p.functions table.now
         → Learns p.functions (type_functions [] p.functions) result }
 {
-    let count = t.count;
     let mut endings = Endings::new();
-    let mut f: usize = 0;
-    while f < count {
-        let k = t.ks[f];
-        let m = t.ms[f];
-        let r = type_block(s, endings, first(k), entered(k, m), t.bodies[f]);
-        let answer = r.answer;
-        match answer {
-            Past::At(_) => {
-                let e = r.env;
-                endings = endings.remember(f, wide(m), e);
-                f += 1;
-            }
-            Past::Refused(z) => {
-                return Learnt {
-                    answer: ReadAnswer::Refused(z),
-                    endings: endings,
-                };
-            }
-        }
+    for f in 0..table.count as u8 {
+        let head = table.head(f);
+        let body = Body {
+            bytes: s,
+            endings,
+            inside: first(head.locations),
+        };
+        let entry = entered(head.locations, head.arguments);
+        let typed = body.type_block(entry, head.body)?;
+        endings = endings.remember(f, head.arguments, typed.env);
     }
-    Learnt {
-        answer: ReadAnswer::Readable,
-        endings: endings,
-    }
+    Ok(endings)
 }

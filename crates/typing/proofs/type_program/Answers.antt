@@ -1,29 +1,24 @@
 -- The functions, then main's statements: the first refusal of either, else the number of qubits that main leaves live.
+use mathlib.Core.Path.{◌∙◌}
+use Rattle.answers.proofs.Passed.{passed_on}
 use Rattle.typing.proofs.MainTypes.{knew, some_owned, main_case, main_typed, main_refused, functions_refused}
 use Rattle.typing.proofs.type_program.Goals as goal
 
-pub type_functions-learnt-requires : goal.type_functions-learnt-requires
-type_functions-learnt-requires c = (c.requires.0, c.requires.1, c.requires.2.heads)
+pub returns-in_err-endings : goal.returns-in_err-endings
+returns-in_err-endings c = λ p P T R own. passed_on _ c.from_residual.ensures.1 ∙ functions_refused R p (c.in_err-endings.ensures p P T.heads)
 
-pub type_statements-r-requires : goal.type_statements-r-requires
-type_statements-r-requires c =
+pub type_statements-requires : goal.type_statements-requires
+type_statements-requires c =
     let (p, P, T) = c.requires in
-    let k = knew (c.type_functions-learnt.ensures p P T.heads) c.in-Readable.is in
-    main_case (some_owned c.args.owned) P k c.new.ensures.0 c.new.ensures.1 T.main_at_lem
+    main_case (some_owned c.args.owned) c.args.s P (knew (c.in_ok-endings.ensures p P T.heads)) c.new.ensures T.main_at_lem
 
-pub returns-in-At : goal.returns-in-At
-returns-in-At c =
+pub returns-in_err-typed : goal.returns-in_err-typed
+returns-in_err-typed c =
     λ p P T R own.
-    let new = c.new.ensures in
-    let k = knew (c.type_functions-learnt.ensures p P T.heads) c.in-Readable.is in
-    main_typed own P k new.0 new.1 T.main_at_lem c.type_statements-r.ensures c.in-At.is c.live.ensures.value
+    passed_on _ c.from_residual-in_err-typed.ensures.1
+    ∙ main_refused own c.args.s P (knew (c.in_ok-endings.ensures p P T.heads)) c.new.ensures T.main_at_lem c.in_err-typed.ensures
 
-pub returns-in-Refused-past : goal.returns-in-Refused-past
-returns-in-Refused-past c =
+pub returns : goal.returns
+returns c =
     λ p P T R own.
-    let new = c.new.ensures in
-    let k = knew (c.type_functions-learnt.ensures p P T.heads) c.in-Readable.is in
-    main_refused own P k new.0 new.1 T.main_at_lem c.type_statements-r.ensures c.in-Refused-past.is
-
-pub returns-in-Refused : goal.returns-in-Refused
-returns-in-Refused c = λ p P T R own. functions_refused R p (c.type_functions-learnt.ensures p P T.heads) c.in-Refused.is
+    main_typed own c.args.s P (knew (c.in_ok-endings.ensures p P T.heads)) c.new.ensures T.main_at_lem c.in_ok-typed.ensures c.live.ensures.value

@@ -1,14 +1,18 @@
-use mathlib.Core.Path.{refl, ap, ◌∙◌}
+use mathlib.Core.Path.{ap, ◌∙◌}
 use native.Mathlib.Omega.{arith}
 use Rattle.sets.specs.Sets.{has}
+use Rattle.typing.specs.declared.env.Env.{Env}
 use Rattle.typing.proofs.Entries.{entering_none, entering_one, entering_all, rest_of}
 use Rattle.typing.proofs.functions.entered.Goals as goal
 
 pub loop-i-init : goal.loop-i-init
-loop-i-init c = (omega arith, entering_none c.new-e.ensures.0 refl)
+loop-i-init c = entering_none c.new-env.ensures
 
 pub loop-i-preserved : goal.loop-i-preserved
-loop-i-preserved c = (omega arith, entering_one (omega arith) c.loop-i.invariant.1 c.wide.ensures.0 c.bind-e.ensures)
+loop-i-preserved c = entering_one (omega arith) c.loop-i.invariant c.bind-env.ensures
 
 pub returns : goal.returns
-returns c = λ g p q. entering_all g p q c.requires.0 c.requires.1 c.loop-i.invariant.0 c.loop-i-test.false c.loop-i.invariant.1 (λ y. ap (λ s. has s y) c.new-e.ensures.1 ∙ rest_of _ _ _ c.args.k c.args.m c.first.ensures c.first-2.ensures c.without.ensures y)
+returns c =
+    λ g p q.
+    let rest = rest_of _ _ _ c.args.k c.args.m c.first.ensures c.first-2.ensures c.without.ensures in
+    entering_all g p q c.requires.0 c.requires.1 (omega arith) c.loop-i.invariant (λ y. ap (λ (e : Env). has e.free y) c.new-env.ensures ∙ rest y)

@@ -1,40 +1,49 @@
-use mathlib.Core.Path.{◌∙◌}
 use native.Mathlib.Omega.{arith}
+use mathlib.Core.Path.{refl, ap, ◌∙◌}
+use Prim.Native.Nat.{ℕ, ◌<◌}
+use lib.ListN.{length}
+use Rattle.answers.proofs.Passed.{passed_as}
+use Rattle.program.specs.declared.functions.Head.{Head}
 use Rattle.typing.proofs.FunctionTypes.{upto_none, upto_one, upto_all, body_case, function_refused}
 use Rattle.typing.proofs.functions.type_functions.Goals as goal
 
+abbrev k : Head → ℕ
+k h = h.locations
+
+abbrev m : Head → ℕ
+m h = h.arguments
+
+abbrev at : Head → ℕ
+at h = h.body
+
 pub loop-f-init : goal.loop-f-init
-loop-f-init c = (omega arith, λ p P T. upto_none p.functions c.new-endings.ensures)
+loop-f-init c = λ p P T. upto_none p.functions c.new-endings.ensures
 
-pub bounds-t-f : goal.bounds-t-f
-bounds-t-f c = let T = c.requires.2 in omega (arith, T.count, T.few)
+pub type_block-requires : goal.type_block-requires
+type_block-requires c =
+    let (p, P, T) = c.requires in
+    let f = c.loop-f.f in
+    let e = c.head-head.ensures in
+    let one : f < length p.functions = omega (arith, T.count, c.loop-f-test.true) in
+    body_case c.args.s P (c.loop-f.invariant p P T) one (ap k e ∙ T.ks f) (ap m e ∙ T.ms f) (ap at e ∙ T.bodies f one) _ c.first.ensures c.entered-entry.ensures
 
-pub bounds-t-f-in-loop-f : goal.bounds-t-f-in-loop-f
-bounds-t-f-in-loop-f c = let T = c.requires.2 in omega (arith, T.count, T.few)
-
-pub entered-requires : goal.entered-requires
-entered-requires c = let P = c.requires.1 in let T = c.requires.2 in let h = P.head c.loop-f.f (omega (arith, T.count, c.loop-f-test.true)) in (omega (arith, h.1, T.ms c.loop-f.f), omega (arith, h.2, T.ms c.loop-f.f, T.ks c.loop-f.f))
-
-pub offset_bounds-t-f : goal.offset_bounds-t-f
-offset_bounds-t-f c = let T = c.requires.2 in omega (arith, T.count, T.few)
-
-pub bounds-t-f-in-loop-f-2 : goal.bounds-t-f-in-loop-f-2
-bounds-t-f-in-loop-f-2 c = let T = c.requires.2 in omega (arith, T.count, T.few)
-
-pub type_block-r-requires : goal.type_block-r-requires
-type_block-r-requires c = let p = c.requires.0 in let P = c.requires.1 in let T = c.requires.2 in body_case P (c.loop-f.invariant.1 p P T) (omega (arith, T.count, c.loop-f-test.true)) (T.ks c.loop-f.f) (T.ms c.loop-f.f) (T.bodies c.loop-f.f (omega (arith, T.count, c.loop-f-test.true))) c.first.ensures c.entered.ensures
-
-pub remember-endings-requires : goal.remember-endings-requires
-remember-endings-requires c = let P = c.requires.1 in let T = c.requires.2 in let h = P.head c.loop-f.f (omega (arith, T.count, c.loop-f-test.true)) in (omega (arith, T.count, T.few), omega (arith, h.1, T.ms c.loop-f.f, c.wide.ensures.0))
-
-pub overflow_add-f : goal.overflow_add-f
-overflow_add-f c = let T = c.requires.2 in omega (arith, T.count, T.few)
+pub returns-in_err-typed : goal.returns-in_err-typed
+returns-in_err-typed c =
+    λ p P T.
+    let f = c.loop-f.f in
+    let e = c.head-head.ensures in
+    let one : f < length p.functions = omega (arith, T.count, c.loop-f-test.true) in
+    function_refused c.args.s P (c.loop-f.invariant p P T) one (ap k e ∙ T.ks f) (ap m e ∙ T.ms f) (ap at e ∙ T.bodies f one) _ c.first.ensures c.entered-entry.ensures
+    c.in_err-typed.ensures (passed_as _ c.from_residual.ensures.1)
 
 pub loop-f-preserved : goal.loop-f-preserved
-loop-f-preserved c = (omega (arith, c.loop-f-test.true), λ p P T. upto_one P (c.loop-f.invariant.1 p P T) (omega (arith, T.count, c.loop-f-test.true)) (T.ks c.loop-f.f) (T.ms c.loop-f.f) (T.bodies c.loop-f.f (omega (arith, T.count, c.loop-f-test.true))) c.first.ensures c.entered.ensures c.type_block-r.ensures c.in-At.is (c.wide.ensures.0 ∙ T.ms c.loop-f.f) c.remember-endings.ensures)
-
-pub returns-in-Refused : goal.returns-in-Refused
-returns-in-Refused c = λ p P T. function_refused P (c.loop-f.invariant.1 p P T) (omega (arith, T.count, c.loop-f-test.true)) (T.ks c.loop-f.f) (T.ms c.loop-f.f) (T.bodies c.loop-f.f (omega (arith, T.count, c.loop-f-test.true))) c.first.ensures c.entered.ensures c.type_block-r.ensures c.in-Refused.is
+loop-f-preserved c =
+    λ p P T.
+    let f = c.loop-f.f in
+    let e = c.head-head.ensures in
+    let one : f < length p.functions = omega (arith, T.count, c.loop-f-test.true) in
+    upto_one c.args.s P (c.loop-f.invariant p P T) one (ap k e ∙ T.ks f) (ap m e ∙ T.ms f) (ap at e ∙ T.bodies f one) _ c.first.ensures c.entered-entry.ensures
+    c.in_ok-typed.ensures c.remember-endings.ensures
 
 pub returns : goal.returns
-returns c = λ p P T. upto_all P (c.loop-f.invariant.1 p P T) (omega (arith, T.count, c.loop-f-test.false)) (omega (arith, T.count, c.loop-f.invariant.0))
+returns c = λ p P T. upto_all c.args.s P (c.loop-f.invariant p P T) (omega (arith, T.count)) (omega (arith, T.count)) refl

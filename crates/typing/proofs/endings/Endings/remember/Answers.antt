@@ -1,13 +1,17 @@
+use Prim.Native.Nat.{ℕ}
 use native.Mathlib.Omega.{arith}
-use Rattle.rules.specs.Syntax.{parameter}
-use Rattle.typing.proofs.Remembering.{remembers_none, remembers_one, remembers_all}
+use mathlib.Core.Path.{◌≡◌, subst, ◌∙◌}
+use Rattle.typing.specs.Functions.{Remembers}
+use Rattle.typing.proofs.Remembering.{argument_kept, remembers_none, remembers_one}
 use Rattle.typing.proofs.endings.Endings.remember.Goals as goal
 
 pub loop-i-init : goal.loop-i-init
-loop-i-init c = (omega arith, remembers_none _ _ _)
+loop-i-init c = remembers_none _ _ _
 
 pub loop-i-preserved : goal.loop-i-preserved
-loop-i-preserved c = (omega arith, remembers_one c.with_if-kept.result c.loop-i.invariant.1 c.kind_at.result (λ n Γ is. c.kind_at.ensures.value parameter n Γ is) c.with_if-kept.ensures)
+loop-i-preserved c = remembers_one _ c.loop-i.invariant _ (λ n Γ is. c.eq.ensures ∙ argument_kept is c.loop-i.i (omega arith)) c.add_if-kept.ensures
 
 pub returns : goal.returns
-returns c = remembers_all c.loop-i.invariant.1 c.loop-i.invariant.0 c.loop-i-test.false
+returns c =
+    let end : c.loop-i.i ≡ c.args.m = omega arith in
+    subst (λ (i : ℕ). Remembers c.args.self c.args.f i c.args.env (record { kept = c.loop-i.kept })) end c.loop-i.invariant

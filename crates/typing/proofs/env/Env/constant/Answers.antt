@@ -1,13 +1,18 @@
 -- 12, then the bool is bound.
 use mathlib.Core.Path.{refl}
-use native.Mathlib.Omega.{arith}
-use Rattle.rules.specs.Slots.{slot}
-use Rattle.typing.proofs.Checks.{unbound_yes, unbound_no, last}
-use Rattle.typing.proofs.Stores.{stores}
+use Rattle.answers.proofs.Passed.{passed_as}
+use Rattle.typing.proofs.Envs.{bound_is}
+use Rattle.typing.proofs.Rows.{first_gives, first_refused, then_gives, then_refused, accepts, refuses}
 use Rattle.typing.proofs.env.Env.constant.Goals as goal
 
-pub returns-then-kind_at-ne-UNBOUND : goal.returns-then-kind_at-ne-UNBOUND
-returns-then-kind_at-ne-UNBOUND c = λ v d n C Γ is. unbound_no _ _ _ (slot Γ.slots c.args.y) (c.kind_at.ensures.value d n Γ is) c.if-kind_at-ne-UNBOUND.true c.stops.ensures
+pub returns-in_err-need_unbound : goal.returns-in_err-need_unbound
+returns-in_err-need_unbound c =
+    λ v d n C Γ is.
+    refuses (first_refused _ (then_refused _ (c.in_err-need_unbound.ensures d n Γ is)))
+    (passed_as _ c.from_residual.ensures.1)
 
 pub returns : goal.returns
-returns c = λ v d n C Γ is. unbound_yes _ _ _ (slot Γ.slots c.args.y) (c.kind_at.ensures.value d n Γ is) c.if-kind_at-ne-UNBOUND.false (last _ _ (stores is _ (omega arith) _ refl (omega arith) _ c.bind.ensures c.goes.ensures))
+returns c =
+    λ v d n C Γ is.
+    accepts (first_gives _ (then_gives (c.in_ok-need_unbound.ensures d n Γ is) (refl)) refl) refl
+    (bound_is is _ c.requires _ c.bind-env.ensures refl)

@@ -1,10 +1,17 @@
--- 11, and nothing changes.
-use Rattle.rules.specs.Slots.{slot}
-use Rattle.typing.proofs.Checks.{qubit_yes, qubit_no, last, accept}
+-- 11; no slot changes.
+use mathlib.Core.Path.{refl}
+use Rattle.answers.proofs.Passed.{passed_as}
+use Rattle.typing.proofs.Rows.{first_gives, first_refused, accepts, refuses}
 use Rattle.typing.proofs.env.Env.gate.Goals as goal
 
-pub returns-then-kind_at-lt-QUBIT : goal.returns-then-kind_at-lt-QUBIT
-returns-then-kind_at-lt-QUBIT c = λ g d n C Γ is. qubit_no _ _ _ (slot Γ.slots c.args.x) (c.kind_at.ensures.value d n Γ is) c.if-kind_at-lt-QUBIT.true c.stops.ensures
+pub returns-in_err-need_qubit : goal.returns-in_err-need_qubit
+returns-in_err-need_qubit c =
+    λ g d n C Γ is.
+    refuses (first_refused _ (first_refused _ (c.in_err-need_qubit.ensures.place d n Γ is)))
+    (passed_as _ c.from_residual.ensures.1)
 
 pub returns : goal.returns
-returns c = λ g d n C Γ is. qubit_yes _ _ _ (slot Γ.slots c.args.x) (c.kind_at.ensures.value d n Γ is) c.if-kind_at-lt-QUBIT.false (last _ _ (accept is c.goes.ensures))
+returns c =
+    λ g d n C Γ is.
+    accepts (first_gives _ (first_gives _ (c.in_ok-need_qubit.ensures.place d n Γ is) (refl)) refl) refl
+    (is)

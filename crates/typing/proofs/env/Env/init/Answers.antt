@@ -1,22 +1,30 @@
--- 12, 13, 14, then the slot holds a qubit at the place, which is taken.
-use mathlib.Core.Path.{◌∙◌, sym}
-use native.Mathlib.Omega.{arith}
-use Rattle.rules.specs.Slots.{slot}
-use Rattle.typing.proofs.Checks.{unbound_yes, unbound_no, test_yes, test_no, last}
-use Rattle.typing.proofs.Stores.{inside_is, free_is, made}
+-- 12, 13, 14, then the slot holds the qubit and its place is taken.
+use mathlib.Core.Path.{refl, sym, ◌∙◌}
+use Rattle.answers.proofs.Passed.{passed_as}
+use Rattle.typing.proofs.Envs.{bound_qubit, take_is}
+use Rattle.typing.proofs.Rows.{first_gives, first_refused, then_gives, then_refused, need_yes, need_no, accepts, refuses, refuses_as}
 use Rattle.typing.proofs.env.Env.init.Goals as goal
 
-pub returns-then-kind_at-ne-UNBOUND : goal.returns-then-kind_at-ne-UNBOUND
-returns-then-kind_at-ne-UNBOUND c = λ q d n C Γ w is. unbound_no _ _ _ (slot Γ.slots c.args.x) (c.kind_at.ensures.value d n Γ is) c.if-kind_at-ne-UNBOUND.true c.stops.ensures
+pub returns-in_err-need_unbound : goal.returns-in_err-need_unbound
+returns-in_err-need_unbound c =
+    λ q d n C Γ w is.
+    refuses (first_refused _ (then_refused _ (c.in_err-need_unbound.ensures d n Γ is)))
+    (passed_as _ c.from_residual.ensures.1)
 
 pub returns-then-not-contains : goal.returns-then-not-contains
-returns-then-not-contains c = λ q d n C Γ w is. unbound_yes _ _ _ (slot Γ.slots c.args.x) (c.kind_at.ensures.value d n Γ is) c.if-kind_at-ne-UNBOUND.false (test_no _ _ _ _ ((inside_is _ w c.contains.ensures c.wide-place.ensures.0) ∙ c.if-not-contains.true) c.stops-then-not-contains.ensures)
+returns-then-not-contains c =
+    λ q d n C Γ w is.
+    refuses_as (first_refused _ (then_gives (c.in_ok-need_unbound.ensures d n Γ is) (then_refused _ (need_no 13 _ c.at.ensures (w.same _ ∙ sym c.contains.ensures ∙ c.if-not-contains.true)))))
 
-pub returns-then-not-is_free : goal.returns-then-not-is_free
-returns-then-not-is_free c = λ q d n C Γ w is. unbound_yes _ _ _ (slot Γ.slots c.args.x) (c.kind_at.ensures.value d n Γ is) c.if-kind_at-ne-UNBOUND.false (test_yes _ _ _ _ ((inside_is _ w c.contains.ensures c.wide-place.ensures.0) ∙ c.if-not-contains.false) (test_no _ _ _ _ ((free_is _ is c.is_free.ensures c.wide-place.ensures.0) ∙ c.if-not-is_free.true) c.stops-then-not-is_free.ensures))
+pub returns-then-not-contains-2 : goal.returns-then-not-contains-2
+returns-then-not-contains-2 c =
+    λ q d n C Γ w is.
+    refuses_as
+    (first_refused _
+    (then_gives (c.in_ok-need_unbound.ensures d n Γ is) (then_gives (need_yes 13 _ (w.same _ ∙ sym c.contains.ensures ∙ c.if-not-contains.false)) (then_refused _ (need_no 14 _ c.at-then-not-contains-2.ensures (is.free _ ∙ sym c.contains-2.ensures ∙ c.if-not-contains-2.true))))))
 
 pub returns : goal.returns
 returns c =
     λ q d n C Γ w is.
-    let l = w.few _ (sym c.contains.ensures ∙ c.if-not-contains.false) in
-    unbound_yes _ _ _ (slot Γ.slots c.args.x) (c.kind_at.ensures.value d n Γ is) c.if-kind_at-ne-UNBOUND.false (test_yes _ _ _ _ ((inside_is _ w c.contains.ensures c.wide-place.ensures.0) ∙ c.if-not-contains.false) (test_yes _ _ _ _ ((free_is _ is c.is_free.ensures c.wide-place.ensures.0) ∙ c.if-not-is_free.false) (last _ _ (made is _ (omega arith) _ (omega (arith, l, c.wide-place.ensures.0)) c.wide-place.ensures.0 _ c.bind.ensures _ c.take.ensures.0 c.take.ensures.1 c.goes.ensures))))
+    accepts (first_gives _ (then_gives (c.in_ok-need_unbound.ensures d n Γ is) (then_gives (need_yes 13 _ (w.same _ ∙ sym c.contains.ensures ∙ c.if-not-contains.false)) (then_gives (need_yes 14 _ (is.free _ ∙ sym c.contains-2.ensures ∙ c.if-not-contains-2.false)) refl))) refl) refl
+    (take_is (bound_qubit is _ c.requires _ c.bind.ensures _ refl (w.few _ (sym c.contains.ensures ∙ c.if-not-contains.false))) _ c.take-env.ensures.slots _ (w.few _ (sym c.contains.ensures ∙ c.if-not-contains.false)) c.take-env.ensures.free)

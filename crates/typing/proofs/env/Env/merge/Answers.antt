@@ -1,22 +1,37 @@
 -- 12, 11 for each qubit, 15, then the bool is bound.
-use mathlib.Core.Path.{refl}
-use native.Mathlib.Omega.{arith}
-use Rattle.rules.specs.Slots.{slot}
-use Rattle.typing.proofs.Checks.{unbound_yes, unbound_no, qubit_yes, qubit_no, test_yes, test_no, last}
-use Rattle.typing.proofs.Stores.{stores, same_no, other_yes}
+use mathlib.Core.Bool.{not}
+use mathlib.Core.Path.{refl, ap}
+use borrow.Author.Tests.{eq-eqb, ne_eqb}
+use Rattle.answers.proofs.Passed.{passed_as}
+use Rattle.typing.proofs.Envs.{bound_is}
+use Rattle.typing.proofs.Rows.{first_gives, first_refused, then_gives, then_refused, need_yes, need_no, accepts, refuses, refuses_as}
 use Rattle.typing.proofs.env.Env.merge.Goals as goal
 
-pub returns-then-kind_at-ne-UNBOUND : goal.returns-then-kind_at-ne-UNBOUND
-returns-then-kind_at-ne-UNBOUND c = λ b e d n C Γ is. unbound_no _ _ _ (slot Γ.slots c.args.y) (c.kind_at.ensures.value d n Γ is) c.if-kind_at-ne-UNBOUND.true c.stops.ensures
+pub returns-in_err-need_unbound : goal.returns-in_err-need_unbound
+returns-in_err-need_unbound c =
+    λ b e d n C Γ is.
+    refuses (first_refused _ (then_refused _ (c.in_err-need_unbound.ensures d n Γ is)))
+    (passed_as _ c.from_residual.ensures.1)
 
-pub returns-then-kind_at-lt-QUBIT : goal.returns-then-kind_at-lt-QUBIT
-returns-then-kind_at-lt-QUBIT c = λ b e d n C Γ is. unbound_yes _ _ _ (slot Γ.slots c.args.y) (c.kind_at.ensures.value d n Γ is) c.if-kind_at-ne-UNBOUND.false (qubit_no _ _ _ (slot Γ.slots c.args.x) (c.kind_at-2.ensures.value d n Γ is) c.if-kind_at-lt-QUBIT.true c.stops-then-kind_at-lt-QUBIT.ensures)
+pub returns-in_err-need_qubit : goal.returns-in_err-need_qubit
+returns-in_err-need_qubit c =
+    λ b e d n C Γ is.
+    refuses (first_refused _ (then_gives (c.in_ok-need_unbound.ensures d n Γ is) (first_refused _ (c.in_err-need_qubit.ensures.place d n Γ is))))
+    (passed_as _ c.from_residual-in_err-need_qubit.ensures.1)
 
-pub returns-then-kind_at-lt-QUBIT-2 : goal.returns-then-kind_at-lt-QUBIT-2
-returns-then-kind_at-lt-QUBIT-2 c = λ b e d n C Γ is. unbound_yes _ _ _ (slot Γ.slots c.args.y) (c.kind_at.ensures.value d n Γ is) c.if-kind_at-ne-UNBOUND.false (qubit_yes _ _ _ (slot Γ.slots c.args.x) (c.kind_at-2.ensures.value d n Γ is) c.if-kind_at-lt-QUBIT.false (qubit_no _ _ _ (slot Γ.slots c.args.z) (c.kind_at-3.ensures.value d n Γ is) c.if-kind_at-lt-QUBIT-2.true c.stops-then-kind_at-lt-QUBIT-2.ensures))
+pub returns-in_err-need_qubit-2 : goal.returns-in_err-need_qubit-2
+returns-in_err-need_qubit-2 c =
+    λ b e d n C Γ is.
+    refuses (first_refused _ (then_gives (c.in_ok-need_unbound.ensures d n Γ is) (first_gives _ (c.in_ok-need_qubit.ensures.place d n Γ is) (first_refused _ (c.in_err-need_qubit-2.ensures.place d n Γ is)))))
+    (passed_as _ c.from_residual-in_err-need_qubit-2.ensures.1)
 
 pub returns-then-x-z : goal.returns-then-x-z
-returns-then-x-z c = λ b e d n C Γ is. unbound_yes _ _ _ (slot Γ.slots c.args.y) (c.kind_at.ensures.value d n Γ is) c.if-kind_at-ne-UNBOUND.false (qubit_yes _ _ _ (slot Γ.slots c.args.x) (c.kind_at-2.ensures.value d n Γ is) c.if-kind_at-lt-QUBIT.false (qubit_yes _ _ _ (slot Γ.slots c.args.z) (c.kind_at-3.ensures.value d n Γ is) c.if-kind_at-lt-QUBIT-2.false (test_no _ _ _ _ (same_no _ _ c.if-x-z.true) c.stops-then-x-z.ensures)))
+returns-then-x-z c =
+    λ b e d n C Γ is.
+    refuses_as (first_refused _ (then_gives (c.in_ok-need_unbound.ensures d n Γ is) (first_gives _ (c.in_ok-need_qubit.ensures.place d n Γ is) (first_gives _ (c.in_ok-need_qubit-2.ensures.place d n Γ is) (then_refused _ (need_no 15 _ c.at.ensures (ap not (eq-eqb _ _ c.if-x-z.true))))))))
 
 pub returns : goal.returns
-returns c = λ b e d n C Γ is. unbound_yes _ _ _ (slot Γ.slots c.args.y) (c.kind_at.ensures.value d n Γ is) c.if-kind_at-ne-UNBOUND.false (qubit_yes _ _ _ (slot Γ.slots c.args.x) (c.kind_at-2.ensures.value d n Γ is) c.if-kind_at-lt-QUBIT.false (qubit_yes _ _ _ (slot Γ.slots c.args.z) (c.kind_at-3.ensures.value d n Γ is) c.if-kind_at-lt-QUBIT-2.false (test_yes _ _ _ _ (other_yes _ _ c.if-x-z.false) (last _ _ (stores is _ (omega arith) _ refl (omega arith) _ c.bind.ensures c.goes.ensures)))))
+returns c =
+    λ b e d n C Γ is.
+    accepts (first_gives _ (then_gives (c.in_ok-need_unbound.ensures d n Γ is) (first_gives _ (c.in_ok-need_qubit.ensures.place d n Γ is) (first_gives _ (c.in_ok-need_qubit-2.ensures.place d n Γ is) (then_gives (need_yes 15 _ (ap not (ne_eqb _ _ c.if-x-z.false))) refl)))) refl) refl
+    (bound_is is _ c.requires.0 _ c.bind-env.ensures refl)

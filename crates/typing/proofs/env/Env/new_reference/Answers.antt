@@ -1,16 +1,24 @@
 -- 12, 11, then the reference is bound.
 use mathlib.Core.Path.{refl}
-use native.Mathlib.Omega.{arith}
-use Rattle.rules.specs.Slots.{slot}
-use Rattle.typing.proofs.Checks.{unbound_yes, unbound_no, bool_yes, bool_no, last}
-use Rattle.typing.proofs.Stores.{stores}
+use Rattle.answers.proofs.Passed.{passed_as}
+use Rattle.typing.proofs.Envs.{bound_is}
+use Rattle.typing.proofs.Rows.{first_gives, first_refused, then_gives, then_refused, accepts, refuses}
 use Rattle.typing.proofs.env.Env.new_reference.Goals as goal
 
-pub returns-then-kind_at-ne-UNBOUND : goal.returns-then-kind_at-ne-UNBOUND
-returns-then-kind_at-ne-UNBOUND c = λ d n C Γ is. unbound_no _ _ _ (slot Γ.slots c.args.r) (c.kind_at.ensures.value d n Γ is) c.if-kind_at-ne-UNBOUND.true c.stops.ensures
+pub returns-in_err-need_unbound : goal.returns-in_err-need_unbound
+returns-in_err-need_unbound c =
+    λ d n C Γ is.
+    refuses (first_refused _ (then_refused _ (c.in_err-need_unbound.ensures d n Γ is)))
+    (passed_as _ c.from_residual.ensures.1)
 
-pub returns-then-kind_at-ne-BOOL : goal.returns-then-kind_at-ne-BOOL
-returns-then-kind_at-ne-BOOL c = λ d n C Γ is. unbound_yes _ _ _ (slot Γ.slots c.args.r) (c.kind_at.ensures.value d n Γ is) c.if-kind_at-ne-UNBOUND.false (bool_no _ _ _ (slot Γ.slots c.args.y) (c.kind_at-2.ensures.value d n Γ is) c.if-kind_at-ne-BOOL.true c.stops-then-kind_at-ne-BOOL.ensures)
+pub returns-in_err-need_bool : goal.returns-in_err-need_bool
+returns-in_err-need_bool c =
+    λ d n C Γ is.
+    refuses (first_refused _ (then_gives (c.in_ok-need_unbound.ensures d n Γ is) (first_refused _ (c.in_err-need_bool.ensures d n Γ is))))
+    (passed_as _ c.from_residual-in_err-need_bool.ensures.1)
 
 pub returns : goal.returns
-returns c = λ d n C Γ is. unbound_yes _ _ _ (slot Γ.slots c.args.r) (c.kind_at.ensures.value d n Γ is) c.if-kind_at-ne-UNBOUND.false (bool_yes _ _ _ (slot Γ.slots c.args.y) (c.kind_at-2.ensures.value d n Γ is) c.if-kind_at-ne-BOOL.false (last _ _ (stores is _ (omega arith) _ refl (omega arith) _ c.bind.ensures c.goes.ensures)))
+returns c =
+    λ d n C Γ is.
+    accepts (first_gives _ (then_gives (c.in_ok-need_unbound.ensures d n Γ is) (first_gives _ (c.in_ok-need_bool.ensures d n Γ is) (refl))) refl) refl
+    (bound_is is _ c.requires.0 _ c.bind-env.ensures refl)

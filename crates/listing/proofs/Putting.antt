@@ -1,17 +1,9 @@
 -- Texts put one after the other are one text put: putting goes on where the text before it ended, whatever the buffer holds.
-use Rattle.std.proofs.Common.{List, [], ◌∷◌, ◌++◌, ◌≡◌, ℕ, suc, refl, sym, ap, ◌∙◌, ◌+◌, length, set, add-zero, add-suc, suc-add}
-use Rattle.std.proofs.lemmas.List.Edits.{sets}
+use Rattle.std.proofs.Common.{[], ◌∷◌, ◌++◌, ◌≡◌, refl, sym, ap, ◌∙◌}
 use Rattle.rules.specs.Words.{Text}
 use Rattle.listing.specs.declared.writer.Writer.{Writer}
 use Rattle.listing.specs.Puts.{Page, page, put_one, put_all, Puts}
 
--- stores in a row: what the reader of listings makes in its buffer
-pub sets_append : (l : List ℕ) (i : ℕ) (vs ws : List ℕ) → sets (sets l i vs) (i + length vs) ws ≡ sets l i (vs ++ ws)
-sets_append l i [] ws = ap (λ (k : ℕ). sets l k ws) (add-zero i)
-sets_append l i (v ∷ vs) ws =
-    ap (λ (k : ℕ). sets (sets (set l i v) (suc i) vs) k ws) (add-suc i (length vs) ∙ sym (suc-add i (length vs))) ∙ sets_append (set l i v) (suc i) vs ws
-
--- the same of a page
 put_append : (t u : Text) (p : Page) → put_all (t ++ u) p ≡ put_all u (put_all t p)
 put_append [] u p = refl
 put_append (c ∷ t) u p = put_append t u (put_one c p)

@@ -22,7 +22,8 @@ use Rattle.rules.specs.Words.{Text, opens}
 use Rattle.rules.specs.Names as named
 use Rattle.rules.specs.Listing.{spoken, silent, operands_in}
 use Rattle.rules.specs.Grammar.{Grammar, stop, dead, live, some_below}
-use Rattle.rules.specs.Unlisting.{count, words_for, Sofar, least, added, room, deeper, operand, others, operands, list, made, blocks_of, row_line, statement_line}
+use Rattle.rules.specs.Unlisting.{count, words_for, Sofar, least, added, room, deeper, operand, others, operands, list}
+use Rattle.rules.specs.Unlisting.{made, blocks_of, row_line, statement_line}
 use Rattle.rules.proofs.Basics.{length_up_to, get_d_up_to_zero}
 use Rattle.reading.specs.Cursor.{spelling, token_for}
 use Rattle.reading.specs.Hearing.{Hearing, not, begun, hears}
@@ -247,13 +248,14 @@ module _ (c : Standing) (p : Sofar) (means : Means c p) where
   call_lives_lem : (f : ℕ) → f < c.callees
       → live (made p calls (12 ∷ f ∷ (syntax.function p.scope.earlier f).k ∷ (syntax.function p.scope.earlier f).m ∷ [])) ≡ call_lives c f
   call_lives_lem f l =
-      let K : (syntax.function p.scope.earlier f).k ≡ (head_of c f).locations = sym (means.heads.locations f (known f l)) in
-      let M : (syntax.function p.scope.earlier f).m ≡ (head_of c f).arguments = sym (means.heads.arguments f (known f l)) in
-      ap (λ (k : ℕ). calling k (syntax.function p.scope.earlier f).m) K ∙ ap (calling ((head_of c f).locations)) M
-      ∙ room_lives p (4 + (head_of c f).locations + (head_of c f).arguments) (lists ((head_of c f).locations) ((head_of c f).arguments))
-      ∙ ap (λ (t : Bool). t && live (lists ((head_of c f).locations) ((head_of c f).arguments))) (sym (room_is (4 + (head_of c f).locations + (head_of c f).arguments)))
-      ∙ ap (λ (t : Bool). room_of c (4 + (head_of c f).locations + (head_of c f).arguments) && t) (lists_live ((head_of c f).locations) ((head_of c f).arguments))
-      ∙ ap (λ (n : ℕ). room_of c (4 + (head_of c f).locations + (head_of c f).arguments) && (eqb ((head_of c f).locations) 0 || ltb 0 n)) (sym means.places)
+      let k : ℕ = (head_of c f).locations in
+      let m : ℕ = (head_of c f).arguments in
+      let K : (syntax.function p.scope.earlier f).k ≡ k = sym (means.heads.locations f (known f l)) in
+      let M : (syntax.function p.scope.earlier f).m ≡ m = sym (means.heads.arguments f (known f l)) in
+      ap (λ (n : ℕ). calling n (syntax.function p.scope.earlier f).m) K ∙ ap (calling k) M
+      ∙ room_lives p (4 + k + m) (lists k m) ∙ ap (λ (t : Bool). t && live (lists k m)) (sym (room_is (4 + k + m)))
+      ∙ ap (λ (t : Bool). room_of c (4 + k + m) && t) (lists_live k m)
+      ∙ ap (λ (n : ℕ). room_of c (4 + k + m) && (eqb k 0 || ltb 0 n)) (sym means.places)
     where
       calling : ℕ → ℕ → Bool
       calling k m = live (made p calls (12 ∷ f ∷ k ∷ m ∷ []))

@@ -110,7 +110,8 @@ module _ (t : Text) (out₀ : List ℕ) where
     in₂ = omega (arith, S.from, S.within)
 
     -- what one of the lines that may follow is to the words of this one
-    is : (r : Result Standing Unread) (after : List ℕ) → ReadsAny line.text.now at line.end line.stop c out r after → (whole : Bool) → ltb end (length t) ≡ whole
+    is : (r : Result Standing Unread) (after : List ℕ) → ReadsAny line.text.now at line.end line.stop c out r after → (whole : Bool)
+        → ltb end (length t) ≡ whole
         → LineAs (hears_one whole (lines σ) (split space (part t at end))) out₀ r after
     unfolding ReadsAny words_from
     is r after R whole w =
@@ -171,12 +172,12 @@ module _ (t : Text) (out₀ : List ℕ) where
         go true w = absurd (taken_begun (takes_one (lines σ) words) (sym (hears_taken (lines σ) words) ∙ is _ after R true w))
         go false w = last_line w true (starts_so (starts_one (lines σ) words) (sym (hears_started (lines σ) words) ∙ is _ after R false w))
 
-    pub refused_line : (after : List ℕ) → ReadsAny line.text.now at line.end line.stop c out (Err Not) after → (r : Refusal) → r ≡ in_file Listing (refusal 27 at) → (o : List ℕ)
-        → Promised (Err r) o
+    pub refused_line : (after : List ℕ) → ReadsAny line.text.now at line.end line.stop c out (Err Not) after
+        → (r : Refusal) → r ≡ in_file Listing (refusal 27 at) → (o : List ℕ) → Promised (Err r) o
     refused_line after R r q o = promised_no at (line_no after R) r q o
 
-    pub refused_last : (after : List ℕ) → ReadsAny line.text.now at line.end line.stop c out (Err Begun) after → (r : Refusal) → r ≡ in_file Listing (refusal 27 (length t))
-        → (o : List ℕ) → Promised (Err r) o
+    pub refused_last : (after : List ℕ) → ReadsAny line.text.now at line.end line.stop c out (Err Begun) after
+        → (r : Refusal) → r ≡ in_file Listing (refusal 27 (length t)) → (o : List ℕ) → Promised (Err r) o
     refused_last after R r q o = promised_no (length t) (line_starts after R) r q o
 
     -- a line that was taken leads to the next state

@@ -11,4 +11,5 @@ returns-then-program-n c = counted_short c.args.text.now c.args.program.now _ c.
 
 pub returns : goal.returns
 returns c =
-    counted_written c.args.text.now c.args.program.now _ c.in_ok-n.ensures.answer c.if-program-n.false _ _ c.read_lines-2.ensures.answer c.read_lines-2.ensures.bytes
+    counted_written c.args.text.now c.args.program.now _ c.in_ok-n.ensures.answer c.if-program-n.false _ _
+    c.read_lines-2.ensures.answer c.read_lines-2.ensures.bytes

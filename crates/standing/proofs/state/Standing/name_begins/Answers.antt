@@ -1,4 +1,4 @@
-use Rattle.std.proofs.Common.{◌&&◌, ◌∙◌, rules, tests}
+use Rattle.std.proofs.Common.{ℕ, ◌&&◌, ◌∙◌, rules, tests}
 use Rattle.std.proofs.lemmas.Iterator.{YieldsList-from_slice}
 use Rattle.std.proofs.lemmas.Iterator.Search.{any_from_yields_List}
 use Rattle.rules.specs.declared.statements.TheConstants.{KINDS}
@@ -14,6 +14,7 @@ unfolding name_begins
 returns c =
     let standing = c.args.self.now in
     let u = c.args.part.now in
-    any_from_yields_List (λ kind. opens u (name_of (byte_of kind)) && row_lives standing (byte_of kind)) _ _ _ c.any.ensures.ran (YieldsList-from_slice KINDS cc)
+    let offered = λ (b : ℕ). opens u (name_of b) && row_lives standing b in
+    any_from_yields_List (λ kind. offered (byte_of kind)) _ _ _ c.any.ensures.ran (YieldsList-from_slice KINDS cc)
     (λ x b q k. search (rules, tests))
-    ∙ any_kind (λ b. opens u (name_of b) && row_lives standing b)
+    ∙ any_kind offered

@@ -17,7 +17,8 @@ returns-then-offers c =
 pub loop-v-preserved : goal.loop-v-preserved
 loop-v-preserved c =
     let a = c.args in
-    below_more (λ j. offers a.self.now a.part.now (byte_of a.kind) a.n a.first j ≡ false) c.loop-v.v c.loop-v.invariant (sym c.offers.ensures ∙ c.if-offers.false)
+    let offered = offers a.self.now a.part.now (byte_of a.kind) a.n a.first in
+    below_more (λ j. offered j ≡ false) c.loop-v.v c.loop-v.invariant (sym c.offers.ensures ∙ c.if-offers.false)
 
 pub returns : goal.returns
 unfolding operand_begins

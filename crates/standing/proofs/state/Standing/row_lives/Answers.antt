@@ -21,7 +21,8 @@ returns-then-fits c =
     let words = c.count-words.result in
     let many : words ≡ count_of standing (operand_at b 1) = c.count-words.ensures.value ∙ ap (count_of standing) c.operand.ensures in
     let fit : true ≡ fits_of standing b = sym c.if-fits.true ∙ c.fits.ensures in
-    any_from_yields_List (rest_lives standing b 2) _ _ _ c.any.ensures.ran (YieldsList-from_range 0 words words refl (omega arith)) (λ x r q k. search (rules, tests))
+    any_from_yields_List (rest_lives standing b 2) _ _ _ c.any.ensures.ran (YieldsList-from_range 0 words words refl (omega arith))
+    (λ x r q k. search (rules, tests))
     ∙ any_below (rest_lives standing b 2) words
     ∙ ap (λ (n : ℕ). some_below n (rest_lives standing b 2)) many
     ∙ ap (λ (t : Bool). t && some_below (count_of standing (operand_at b 1)) (rest_lives standing b 2)) fit

@@ -14,7 +14,6 @@ use Rattle.rules.specs.Basics.{all, byte}
 use Rattle.rules.specs.Syntax.{Side, Place, Statement, call}
 use Rattle.rules.specs.Slots.{callable}
 use Rattle.rules.specs.Typing.{Env as Environment, Signature, signature, Context, kinds, after_call, type_statement}
-use Rattle.rules.proofs.Basics.{get_d_up_to}
 use Rattle.sets.specs.Sets.{has}
 use Rattle.typing.specs.declared.body.Body.{Body}
 use Rattle.typing.specs.declared.calls.Call.{Call}
@@ -22,7 +21,7 @@ use Rattle.typing.specs.declared.env.Env.{Env}
 use Rattle.typing.specs.declared.env.Typed.{Typed}
 use Rattle.typing.specs.Stands.{EnvIs, Answers}
 use Rattle.typing.specs.Cases.{StatementCase}
-use Rattle.typing.specs.Calls.{places, CallAt, CallIs, Callable, Ends}
+use Rattle.typing.specs.Calls.{places, CallAt, CallIs, Ends}
 use Rattle.typing.proofs.Answering.{answered}
 use Rattle.typing.proofs.CallLists.{places_up_to}
 use Rattle.typing.proofs.Lists.{length_up_to}
@@ -51,7 +50,7 @@ module _ {body : Body} {env : Env} {at : ℕ} (t : StatementCase body env at) (b
   abbrev s : List ℕ
   s = body.bytes.now
 
-  pub shape : ACall s t.scope t.depths at t.it t.next
+  shape : ACall s t.scope t.depths at t.it t.next
   shape = shape_at 12 (statement_view t.stands) b
 
   pub call_at : CallAt s at
@@ -67,24 +66,8 @@ module _ {body : Body} {env : Env} {at : ℕ} (t : StatementCase body env at) (b
     slots_long : length c.slots.now ≡ byte s (at + 3)
     slots_long = ap (λ (ls : List ℕ). length ls) is.slots ∙ length_up_to (at + 4 + byte s (at + 2)) (byte s (at + 3)) (byte s)
 
-    slot_in : (i : ℕ) → i < byte s (at + 3) → get_or c.slots.now i 0 ≡ byte s (at + 4 + byte s (at + 2) + i)
-    slot_in i h = ap (λ (ls : List ℕ). get_or ls i 0) is.slots ∙ get_d_up_to (at + 4 + byte s (at + 2)) (byte s (at + 3)) i (byte s) 0 h
-
-    place_in : (i : ℕ) → i < byte s (at + 2) → get_or c.places.now i 0 ≡ byte s (at + 4 + i)
-    place_in i h = ap (λ (ls : List ℕ). get_or ls i 0) is.places ∙ get_d_up_to (at + 4) (byte s (at + 2)) i (byte s) 0 h
-
     pub call_fits : at + 4 + length c.places.now + length c.slots.now ≤ length s
     call_fits = omega (arith, places_long, slots_long, shape.fits)
-
-    pub may_call : Callable c
-    may_call =
-        let h = call_at in
-        record {
-          callee = omega (arith, is.callee, h.callee);
-          most = omega (arith, slots_long, h.most);
-          fewer = omega (arith, slots_long, places_long, h.fewer);
-          slots = λ i l. let m : i < byte s (at + 3) = omega (arith, slots_long) in omega (arith, slot_in i m, h.slots i m);
-        }
 
     -- the statement in the call's own lists
     abbrev callee : Signature

@@ -12,6 +12,7 @@ use Rattle.rules.specs.Basics.{up_to, byte}
 use Rattle.rules.specs.Syntax.{Side, Preparation, plain, magic, init, free, gate, measure, merge, new_ref, get_ref, set_ref, constant, Statement, op, if, while, call, Block, function}
 use Rattle.rules.specs.Kinds.{byte_of}
 use Rattle.rules.specs.Program.{Scope}
+use Rattle.rules.specs.Table.{size_of}
 use Rattle.program.specs.In.{BlockIn, View, is_init, is_magic, is_free, is_gate, is_measure, is_merge, is_new, is_get, is_set, is_if, is_while, is_call, is_bool}
 
 module _ {d : Side} (s : List ℕ) (S : Scope) (depths at : ℕ) (t : Statement d) (p : ℕ) where
@@ -98,3 +99,11 @@ pub made : {d : Side} {s : List ℕ} {S : Scope} {depths at : ℕ} {t : Statemen
     → (kind ≡ Init) ⊎ (kind ≡ Magic) → AInit s S depths at t p
 made v e (inl q) = of_kind Init v e q
 made v e (inr q) = of_kind Magic v e q
+
+-- where a statement of a kind ends that is its fixed part
+pub sized : {kind : Kind} (k : Kind) (at : ℕ) {n : ℕ} → n ≡ size_of (byte_of kind) → kind ≡ k → at + size_of (byte_of k) ≡ at + n
+sized k at e q = ap (λ (i : ℕ). at + i) (sym (e ∙ ap (λ (x : Kind). size_of (byte_of x)) q))
+
+pub made_sized : {kind : Kind} (at : ℕ) {n : ℕ} → n ≡ size_of (byte_of kind) → (kind ≡ Init) ⊎ (kind ≡ Magic) → at + 3 ≡ at + n
+made_sized at e (inl q) = sized Init at e q
+made_sized at e (inr q) = sized Magic at e q

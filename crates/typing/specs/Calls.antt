@@ -26,13 +26,6 @@ pub record CallIs (s : List ℕ) (at : ℕ) (c : Call) : Type 0 where
   pub places : c.places.now ≡ up_to (at + 4) (byte s (at + 2)) (byte s)
   pub slots : c.slots.now ≡ up_to (at + 4 + byte s (at + 2)) (byte s (at + 3)) (byte s)
 
--- a function may have these arguments
-pub record Callable (c : Call) : Type 0 where
-  pub callee : c.callee < 15
-  pub most : length c.slots.now ≤ 8
-  pub fewer : length c.slots.now ≤ length c.places.now
-  pub slots : (i : ℕ) → i < length c.slots.now → get_or c.slots.now i 0 < 32
-
 -- the callee's signature is g, which the code knows, and the call's locations are places of the body
 pub record Ends (c : Call) (endings : Endings) (places : ℕ) (g : Signature) : Type 0 where
   pub same : g.m ≡ length c.slots.now

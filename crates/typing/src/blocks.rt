@@ -42,19 +42,21 @@ impl Body<'_> {
         ensures { StatementTyped self.now env at result }
     {
         let s = self.bytes;
-        match Kind::known(s[at]) {
-            Kind::Init | Kind::Magic => env.init(self.inside, at, at + 3, s[at + 1], s[at + 2]),
-            Kind::Free => env.free(at, at + 2, s[at + 1]),
-            Kind::Gate => env.gate(at, at + 3, s[at + 2]),
-            Kind::Measure => env.measure(at, at + 4, s[at + 1], s[at + 3]),
-            Kind::Merge => env.merge(at, at + 6, s[at + 1], s[at + 3], s[at + 5]),
-            Kind::Ref => env.new_reference(at, at + 3, s[at + 1], s[at + 2]),
-            Kind::Get => env.get_reference(at, at + 3, s[at + 1], s[at + 2]),
-            Kind::Set => env.set_reference(at, at + 3, s[at + 1], s[at + 2]),
+        let kind = Kind::known(s[at]);
+        let next = at + kind.size();
+        match kind {
+            Kind::Init | Kind::Magic => env.init(self.inside, at, next, s[at + 1], s[at + 2]),
+            Kind::Free => env.free(at, next, s[at + 1]),
+            Kind::Gate => env.gate(at, next, s[at + 2]),
+            Kind::Measure => env.measure(at, next, s[at + 1], s[at + 3]),
+            Kind::Merge => env.merge(at, next, s[at + 1], s[at + 3], s[at + 5]),
+            Kind::Ref => env.new_reference(at, next, s[at + 1], s[at + 2]),
+            Kind::Get => env.get_reference(at, next, s[at + 1], s[at + 2]),
+            Kind::Set => env.set_reference(at, next, s[at + 1], s[at + 2]),
             Kind::If => self.type_if(env, at),
             Kind::While => self.type_while(env, at),
             Kind::Call => self.type_call(env, at),
-            Kind::Bool => env.constant(at, at + 3, s[at + 1]),
+            Kind::Bool => env.constant(at, next, s[at + 1]),
         }
     }
 

@@ -1,12 +1,11 @@
 // A call: what it asks of its locations and arguments, and the arguments that it loses.
-ghost use Rattle.std.specs.Prelude.{◌≡◌, ℕ, ◌≤◌, ◌<◌, length};
+ghost use Rattle.std.specs.Prelude.{◌≡◌, ℕ, ◌≤◌, ◌<◌, length, slice_index_or};
 ghost use Rattle.answers.specs.Said.{said};
 ghost use Rattle.rules.specs.Basics.{byte};
 ghost use Rattle.rules.specs.Syntax.{Side};
 ghost use Rattle.rules.specs.Slots.{arguments_at, callable};
 ghost use Rattle.rules.specs.Typing.{Env as Environment, Context, Signature, kinds, after_call};
 ghost use Rattle.typing.specs.Stands.{EnvIs, Within};
-ghost use Rattle.typing.specs.Calls.{places, CallAt, CallIs, Callable, Ends};
 ghost use Rattle.typing.specs.Cases.{StatementCase, StatementTyped};
 
 use super::body::Body;
@@ -23,9 +22,15 @@ pub struct Call<'a> {
     pub callee: u8,
     pub places: &'a [u8],
     pub slots: &'a [u8],
+    ghost earlier: { callee < 15 },
+    ghost most: { length slots.now ≤ 8 },
+    ghost fewer: { length slots.now ≤ length places.now },
+    ghost known: { (i : ℕ) → i < length slots.now → slice_index_or slots.now i 0 < 32 },
 }
 
 impl<'a> Call<'a> {
+    ghost use Rattle.typing.specs.Calls.{CallAt, CallIs};
+
     // The call that stands at `at`.
     fn read(s: &'a [u8], at: usize) -> Self
         requires { CallAt s.now at }
@@ -43,9 +48,10 @@ impl<'a> Call<'a> {
 }
 
 impl Call<'_> {
+    ghost use Rattle.typing.specs.Calls.{places, Ends};
+
     // Each argument in turn is a qubit (11) at its location (16).
     fn need_arguments(&self, env: Env, at: usize) -> Result<(), Refusal>
-        requires { Callable self.now }
         ensures { (d : Side) (n : ℕ) (C : Context d) (Γ : Environment d) → EnvIs n env Γ
             → said result ≡ arguments_at (kinds C Γ) at Γ.slots self.now.slots.now (places d self.now.places.now) }
     {
@@ -60,7 +66,6 @@ impl Call<'_> {
 
     // 13 for each location, 15 for either list, 11 and 16 by argument, 14 for the locations that hold no argument.
     fn need_callable(&self, inside: LocationSet, env: Env, at: usize) -> Result<(), Refusal>
-        requires { Callable self.now }
         ensures { (d : Side) (n : ℕ) (C : Context d) (Γ : Environment d) → Within inside n C → EnvIs n env Γ
             → said result ≡ callable (kinds C Γ) at Γ.slots (places d self.now.places.now) self.now.slots.now }
     {
@@ -79,7 +84,6 @@ impl Call<'_> {
 
     // The environment after the call: an argument that the callee ends without is unbound, and its location free.
     fn after(&self, endings: Endings, env: Env) -> Env
-        requires { Callable self.now }
         ensures { (d : Side) (n : ℕ) (Γ : Environment d) (g : Signature) → EnvIs n env Γ → Ends self.now endings n g
             → EnvIs n result (after_call g (places d self.now.places.now) self.now.slots.now Γ) }
     {

@@ -46,6 +46,7 @@ impl Env {
         ensures { (d : Side) (n : ℕ) (Γ Δ : Environment d) → EnvIs n entry Γ → EnvIs n self Δ
             → EnvIs n result (record { slots = narrowed Γ.slots Δ.slots; free = Δ.free }) }
     {
+        // `array::from_fn` says of each item only that some call gave it.
         let mut slots = self.slots;
         for x in 0..32 {
             slots[x] = left(entry.slots[x], self.slots[x]);

@@ -61,7 +61,8 @@ impl Env {
     }
 }
 
-// The operation at `at`, whose statement ends at `next`.
+// The operation at `at`, whose statement ends at `next`. A slot's number stays an operand's byte below 32: with a type for it each call here would be
+// asked for the same bound, and what its statement says would go through one equation more.
 impl Env {
     // A qubit at a place in slot x: 12, 13, 14.
     pub fn init(

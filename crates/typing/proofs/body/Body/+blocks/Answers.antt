@@ -1,5 +1,5 @@
 -- Every arm of a statement has the statement of its kind, with its operands' bounds; the operation answers for it.
-use mathlib.Core.Path.{refl}
+use mathlib.Core.Path.{refl, ◌∙◌}
 use native.Mathlib.Omega.{arith}
 use Prim.Native.Nat.{◌+◌}
 use lib.Dec.{eqb}
@@ -12,7 +12,7 @@ use Rattle.typing.proofs.Answering.{performed, placed}
 use Rattle.typing.proofs.BlockLoops.{block_end, start, ends, statement_case, stops, moves, onward, closes, unclosed}
 use Rattle.typing.proofs.Branches.{an_if, then_case, else_case, middle_moves, if_no, if_stops, else_stops, if_differs, if_joins}
 use Rattle.typing.proofs.Branches.{a_while, body_case, while_no, while_stops, while_changes, while_again}
-use Rattle.typing.proofs.Views.{of_kind, made}
+use Rattle.typing.proofs.Views.{of_kind, made, sized, made_sized}
 use Rattle.typing.proofs.body.Body.+blocks.Goals as goal
 
 pub type_block-type_statements-requires : goal.type_block-type_statements-requires
@@ -127,134 +127,134 @@ type_while-returns t c =
 pub type_statement-bounds-s-at : goal.type_statement-bounds-s-at
 type_statement-bounds-s-at t c = let y = statement_byte c.requires.stands in omega arith
 
-pub type_statement-known-requires : goal.type_statement-known-requires
-type_statement-known-requires t c = let y = statement_byte c.requires.stands in (omega arith, omega arith)
+pub type_statement-known-kind-requires : goal.type_statement-known-kind-requires
+type_statement-known-kind-requires t c = let y = statement_byte c.requires.stands in (omega arith, omega arith)
 
 pub type_statement-bounds-s-at-in-Free : goal.type_statement-bounds-s-at-in-Free
-type_statement-bounds-s-at-in-Free t c = let v = of_kind Free (statement_view c.requires.stands) c.known.ensures c.in-Free.is in omega arith
+type_statement-bounds-s-at-in-Free t c = let v = of_kind Free (statement_view c.requires.stands) c.known-kind.ensures c.in-Free.is in omega arith
 
 pub type_statement-free-requires : goal.type_statement-free-requires
-type_statement-free-requires t c = let v = of_kind Free (statement_view c.requires.stands) c.known.ensures c.in-Free.is in omega arith
+type_statement-free-requires t c = let v = of_kind Free (statement_view c.requires.stands) c.known-kind.ensures c.in-Free.is in omega arith
 
 pub type_statement-bounds-s-at-in-Gate : goal.type_statement-bounds-s-at-in-Gate
-type_statement-bounds-s-at-in-Gate t c = let v = of_kind Gate (statement_view c.requires.stands) c.known.ensures c.in-Gate.is in omega arith
+type_statement-bounds-s-at-in-Gate t c = let v = of_kind Gate (statement_view c.requires.stands) c.known-kind.ensures c.in-Gate.is in omega arith
 
 pub type_statement-gate-requires : goal.type_statement-gate-requires
-type_statement-gate-requires t c = let v = of_kind Gate (statement_view c.requires.stands) c.known.ensures c.in-Gate.is in omega arith
+type_statement-gate-requires t c = let v = of_kind Gate (statement_view c.requires.stands) c.known-kind.ensures c.in-Gate.is in omega arith
 
 pub type_statement-bounds-s-at-in-Measure : goal.type_statement-bounds-s-at-in-Measure
-type_statement-bounds-s-at-in-Measure t c = let v = of_kind Measure (statement_view c.requires.stands) c.known.ensures c.in-Measure.is in omega arith
+type_statement-bounds-s-at-in-Measure t c = let v = of_kind Measure (statement_view c.requires.stands) c.known-kind.ensures c.in-Measure.is in omega arith
 
 pub type_statement-bounds-s-at-in-Measure-2 : goal.type_statement-bounds-s-at-in-Measure-2
-type_statement-bounds-s-at-in-Measure-2 t c = let v = of_kind Measure (statement_view c.requires.stands) c.known.ensures c.in-Measure.is in omega arith
+type_statement-bounds-s-at-in-Measure-2 t c = let v = of_kind Measure (statement_view c.requires.stands) c.known-kind.ensures c.in-Measure.is in omega arith
 
 pub type_statement-measure-requires : goal.type_statement-measure-requires
-type_statement-measure-requires t c = let v = of_kind Measure (statement_view c.requires.stands) c.known.ensures c.in-Measure.is in (omega arith, omega arith)
+type_statement-measure-requires t c = let v = of_kind Measure (statement_view c.requires.stands) c.known-kind.ensures c.in-Measure.is in (omega arith, omega arith)
 
 pub type_statement-bounds-s-at-in-Merge : goal.type_statement-bounds-s-at-in-Merge
-type_statement-bounds-s-at-in-Merge t c = let v = of_kind Merge (statement_view c.requires.stands) c.known.ensures c.in-Merge.is in omega arith
+type_statement-bounds-s-at-in-Merge t c = let v = of_kind Merge (statement_view c.requires.stands) c.known-kind.ensures c.in-Merge.is in omega arith
 
 pub type_statement-bounds-s-at-in-Merge-2 : goal.type_statement-bounds-s-at-in-Merge-2
-type_statement-bounds-s-at-in-Merge-2 t c = let v = of_kind Merge (statement_view c.requires.stands) c.known.ensures c.in-Merge.is in omega arith
+type_statement-bounds-s-at-in-Merge-2 t c = let v = of_kind Merge (statement_view c.requires.stands) c.known-kind.ensures c.in-Merge.is in omega arith
 
 pub type_statement-bounds-s-at-in-Merge-3 : goal.type_statement-bounds-s-at-in-Merge-3
-type_statement-bounds-s-at-in-Merge-3 t c = let v = of_kind Merge (statement_view c.requires.stands) c.known.ensures c.in-Merge.is in omega arith
+type_statement-bounds-s-at-in-Merge-3 t c = let v = of_kind Merge (statement_view c.requires.stands) c.known-kind.ensures c.in-Merge.is in omega arith
 
 pub type_statement-merge-requires : goal.type_statement-merge-requires
-type_statement-merge-requires t c = let v = of_kind Merge (statement_view c.requires.stands) c.known.ensures c.in-Merge.is in (omega arith, omega arith, omega arith)
+type_statement-merge-requires t c = let v = of_kind Merge (statement_view c.requires.stands) c.known-kind.ensures c.in-Merge.is in (omega arith, omega arith, omega arith)
 
 pub type_statement-bounds-s-at-in-Ref : goal.type_statement-bounds-s-at-in-Ref
-type_statement-bounds-s-at-in-Ref t c = let v = of_kind Ref (statement_view c.requires.stands) c.known.ensures c.in-Ref.is in omega arith
+type_statement-bounds-s-at-in-Ref t c = let v = of_kind Ref (statement_view c.requires.stands) c.known-kind.ensures c.in-Ref.is in omega arith
 
 pub type_statement-bounds-s-at-in-Ref-2 : goal.type_statement-bounds-s-at-in-Ref-2
-type_statement-bounds-s-at-in-Ref-2 t c = let v = of_kind Ref (statement_view c.requires.stands) c.known.ensures c.in-Ref.is in omega arith
+type_statement-bounds-s-at-in-Ref-2 t c = let v = of_kind Ref (statement_view c.requires.stands) c.known-kind.ensures c.in-Ref.is in omega arith
 
 pub type_statement-new_reference-requires : goal.type_statement-new_reference-requires
-type_statement-new_reference-requires t c = let v = of_kind Ref (statement_view c.requires.stands) c.known.ensures c.in-Ref.is in (omega arith, omega arith)
+type_statement-new_reference-requires t c = let v = of_kind Ref (statement_view c.requires.stands) c.known-kind.ensures c.in-Ref.is in (omega arith, omega arith)
 
 pub type_statement-bounds-s-at-in-Get : goal.type_statement-bounds-s-at-in-Get
-type_statement-bounds-s-at-in-Get t c = let v = of_kind Get (statement_view c.requires.stands) c.known.ensures c.in-Get.is in omega arith
+type_statement-bounds-s-at-in-Get t c = let v = of_kind Get (statement_view c.requires.stands) c.known-kind.ensures c.in-Get.is in omega arith
 
 pub type_statement-bounds-s-at-in-Get-2 : goal.type_statement-bounds-s-at-in-Get-2
-type_statement-bounds-s-at-in-Get-2 t c = let v = of_kind Get (statement_view c.requires.stands) c.known.ensures c.in-Get.is in omega arith
+type_statement-bounds-s-at-in-Get-2 t c = let v = of_kind Get (statement_view c.requires.stands) c.known-kind.ensures c.in-Get.is in omega arith
 
 pub type_statement-get_reference-requires : goal.type_statement-get_reference-requires
-type_statement-get_reference-requires t c = let v = of_kind Get (statement_view c.requires.stands) c.known.ensures c.in-Get.is in (omega arith, omega arith)
+type_statement-get_reference-requires t c = let v = of_kind Get (statement_view c.requires.stands) c.known-kind.ensures c.in-Get.is in (omega arith, omega arith)
 
 pub type_statement-bounds-s-at-in-Set : goal.type_statement-bounds-s-at-in-Set
-type_statement-bounds-s-at-in-Set t c = let v = of_kind Set (statement_view c.requires.stands) c.known.ensures c.in-Set.is in omega arith
+type_statement-bounds-s-at-in-Set t c = let v = of_kind Set (statement_view c.requires.stands) c.known-kind.ensures c.in-Set.is in omega arith
 
 pub type_statement-bounds-s-at-in-Set-2 : goal.type_statement-bounds-s-at-in-Set-2
-type_statement-bounds-s-at-in-Set-2 t c = let v = of_kind Set (statement_view c.requires.stands) c.known.ensures c.in-Set.is in omega arith
+type_statement-bounds-s-at-in-Set-2 t c = let v = of_kind Set (statement_view c.requires.stands) c.known-kind.ensures c.in-Set.is in omega arith
 
 pub type_statement-set_reference-requires : goal.type_statement-set_reference-requires
-type_statement-set_reference-requires t c = let v = of_kind Set (statement_view c.requires.stands) c.known.ensures c.in-Set.is in (omega arith, omega arith)
+type_statement-set_reference-requires t c = let v = of_kind Set (statement_view c.requires.stands) c.known-kind.ensures c.in-Set.is in (omega arith, omega arith)
 
 pub type_statement-bounds-s-at-in-Bool : goal.type_statement-bounds-s-at-in-Bool
-type_statement-bounds-s-at-in-Bool t c = let v = of_kind Bool (statement_view c.requires.stands) c.known.ensures c.in-Bool.is in omega arith
+type_statement-bounds-s-at-in-Bool t c = let v = of_kind Bool (statement_view c.requires.stands) c.known-kind.ensures c.in-Bool.is in omega arith
 
 pub type_statement-constant-requires : goal.type_statement-constant-requires
-type_statement-constant-requires t c = let v = of_kind Bool (statement_view c.requires.stands) c.known.ensures c.in-Bool.is in omega arith
+type_statement-constant-requires t c = let v = of_kind Bool (statement_view c.requires.stands) c.known-kind.ensures c.in-Bool.is in omega arith
 
 pub type_statement-returns-in-Free : goal.type_statement-returns-in-Free
 type_statement-returns-in-Free t c =
     λ u.
-    let v = of_kind Free (statement_view u.stands) c.known.ensures c.in-Free.is in
-    performed u (λ d. free (byte c.args.self.now.bytes.now (c.args.at + 1))) c.free.ensures v.2 v.3
+    let v = of_kind Free (statement_view u.stands) c.known-kind.ensures c.in-Free.is in
+    performed u (λ d. free (byte c.args.self.now.bytes.now (c.args.at + 1))) c.free.ensures v.2 (v.3 ∙ sized Free c.args.at c.size.ensures.value c.in-Free.is)
 
 pub type_statement-returns-in-Gate : goal.type_statement-returns-in-Gate
 type_statement-returns-in-Gate t c =
     λ u.
-    let v = of_kind Gate (statement_view u.stands) c.known.ensures c.in-Gate.is in
-    performed u (λ d. gate (byte c.args.self.now.bytes.now (c.args.at + 1)) (byte c.args.self.now.bytes.now (c.args.at + 2))) (c.gate.ensures (byte c.args.self.now.bytes.now (c.args.at + 1))) v.2 v.3
+    let v = of_kind Gate (statement_view u.stands) c.known-kind.ensures c.in-Gate.is in
+    performed u (λ d. gate (byte c.args.self.now.bytes.now (c.args.at + 1)) (byte c.args.self.now.bytes.now (c.args.at + 2))) (c.gate.ensures (byte c.args.self.now.bytes.now (c.args.at + 1))) v.2 (v.3 ∙ sized Gate c.args.at c.size.ensures.value c.in-Gate.is)
 
 pub type_statement-returns-in-Measure : goal.type_statement-returns-in-Measure
 type_statement-returns-in-Measure t c =
     λ u.
-    let v = of_kind Measure (statement_view u.stands) c.known.ensures c.in-Measure.is in
-    performed u (λ d. measure (byte c.args.self.now.bytes.now (c.args.at + 1)) (byte c.args.self.now.bytes.now (c.args.at + 2)) (byte c.args.self.now.bytes.now (c.args.at + 3))) (c.measure.ensures (byte c.args.self.now.bytes.now (c.args.at + 2))) v.3 v.4
+    let v = of_kind Measure (statement_view u.stands) c.known-kind.ensures c.in-Measure.is in
+    performed u (λ d. measure (byte c.args.self.now.bytes.now (c.args.at + 1)) (byte c.args.self.now.bytes.now (c.args.at + 2)) (byte c.args.self.now.bytes.now (c.args.at + 3))) (c.measure.ensures (byte c.args.self.now.bytes.now (c.args.at + 2))) v.3 (v.4 ∙ sized Measure c.args.at c.size.ensures.value c.in-Measure.is)
 
 pub type_statement-returns-in-Merge : goal.type_statement-returns-in-Merge
 type_statement-returns-in-Merge t c =
     λ u.
-    let v = of_kind Merge (statement_view u.stands) c.known.ensures c.in-Merge.is in
-    performed u (λ d. merge (byte c.args.self.now.bytes.now (c.args.at + 1)) (byte c.args.self.now.bytes.now (c.args.at + 2)) (byte c.args.self.now.bytes.now (c.args.at + 3)) (byte c.args.self.now.bytes.now (c.args.at + 4)) (byte c.args.self.now.bytes.now (c.args.at + 5))) (c.merge.ensures (byte c.args.self.now.bytes.now (c.args.at + 2)) (byte c.args.self.now.bytes.now (c.args.at + 4))) v.4 v.5
+    let v = of_kind Merge (statement_view u.stands) c.known-kind.ensures c.in-Merge.is in
+    performed u (λ d. merge (byte c.args.self.now.bytes.now (c.args.at + 1)) (byte c.args.self.now.bytes.now (c.args.at + 2)) (byte c.args.self.now.bytes.now (c.args.at + 3)) (byte c.args.self.now.bytes.now (c.args.at + 4)) (byte c.args.self.now.bytes.now (c.args.at + 5))) (c.merge.ensures (byte c.args.self.now.bytes.now (c.args.at + 2)) (byte c.args.self.now.bytes.now (c.args.at + 4))) v.4 (v.5 ∙ sized Merge c.args.at c.size.ensures.value c.in-Merge.is)
 
 pub type_statement-returns-in-Ref : goal.type_statement-returns-in-Ref
 type_statement-returns-in-Ref t c =
     λ u.
-    let v = of_kind Ref (statement_view u.stands) c.known.ensures c.in-Ref.is in
-    performed u (λ d. new_ref (byte c.args.self.now.bytes.now (c.args.at + 1)) (byte c.args.self.now.bytes.now (c.args.at + 2))) c.new_reference.ensures v.3 v.4
+    let v = of_kind Ref (statement_view u.stands) c.known-kind.ensures c.in-Ref.is in
+    performed u (λ d. new_ref (byte c.args.self.now.bytes.now (c.args.at + 1)) (byte c.args.self.now.bytes.now (c.args.at + 2))) c.new_reference.ensures v.3 (v.4 ∙ sized Ref c.args.at c.size.ensures.value c.in-Ref.is)
 
 pub type_statement-returns-in-Get : goal.type_statement-returns-in-Get
 type_statement-returns-in-Get t c =
     λ u.
-    let v = of_kind Get (statement_view u.stands) c.known.ensures c.in-Get.is in
-    performed u (λ d. get_ref (byte c.args.self.now.bytes.now (c.args.at + 1)) (byte c.args.self.now.bytes.now (c.args.at + 2))) c.get_reference.ensures v.3 v.4
+    let v = of_kind Get (statement_view u.stands) c.known-kind.ensures c.in-Get.is in
+    performed u (λ d. get_ref (byte c.args.self.now.bytes.now (c.args.at + 1)) (byte c.args.self.now.bytes.now (c.args.at + 2))) c.get_reference.ensures v.3 (v.4 ∙ sized Get c.args.at c.size.ensures.value c.in-Get.is)
 
 pub type_statement-returns-in-Set : goal.type_statement-returns-in-Set
 type_statement-returns-in-Set t c =
     λ u.
-    let v = of_kind Set (statement_view u.stands) c.known.ensures c.in-Set.is in
-    performed u (λ d. set_ref (byte c.args.self.now.bytes.now (c.args.at + 1)) (byte c.args.self.now.bytes.now (c.args.at + 2))) c.set_reference.ensures v.3 v.4
+    let v = of_kind Set (statement_view u.stands) c.known-kind.ensures c.in-Set.is in
+    performed u (λ d. set_ref (byte c.args.self.now.bytes.now (c.args.at + 1)) (byte c.args.self.now.bytes.now (c.args.at + 2))) c.set_reference.ensures v.3 (v.4 ∙ sized Set c.args.at c.size.ensures.value c.in-Set.is)
 
 pub type_statement-returns-in-Bool : goal.type_statement-returns-in-Bool
 type_statement-returns-in-Bool t c =
     λ u.
-    let v = of_kind Bool (statement_view u.stands) c.known.ensures c.in-Bool.is in
-    performed u (λ d. constant (byte c.args.self.now.bytes.now (c.args.at + 1)) (eqb (byte c.args.self.now.bytes.now (c.args.at + 2)) 1)) (c.constant.ensures (eqb (byte c.args.self.now.bytes.now (c.args.at + 2)) 1)) v.2 v.3
+    let v = of_kind Bool (statement_view u.stands) c.known-kind.ensures c.in-Bool.is in
+    performed u (λ d. constant (byte c.args.self.now.bytes.now (c.args.at + 1)) (eqb (byte c.args.self.now.bytes.now (c.args.at + 2)) 1)) (c.constant.ensures (eqb (byte c.args.self.now.bytes.now (c.args.at + 2)) 1)) v.2 (v.3 ∙ sized Bool c.args.at c.size.ensures.value c.in-Bool.is)
 
 pub type_statement-bounds-s-at-in-Init : goal.type_statement-bounds-s-at-in-Init
-type_statement-bounds-s-at-in-Init t c = let v = made (statement_view c.requires.stands) c.known.ensures c.in-Init.is in omega arith
+type_statement-bounds-s-at-in-Init t c = let v = made (statement_view c.requires.stands) c.known-kind.ensures c.in-Init.is in omega arith
 
 pub type_statement-bounds-s-at-in-Init-2 : goal.type_statement-bounds-s-at-in-Init-2
-type_statement-bounds-s-at-in-Init-2 t c = let v = made (statement_view c.requires.stands) c.known.ensures c.in-Init.is in omega arith
+type_statement-bounds-s-at-in-Init-2 t c = let v = made (statement_view c.requires.stands) c.known-kind.ensures c.in-Init.is in omega arith
 
 pub type_statement-init-requires : goal.type_statement-init-requires
-type_statement-init-requires t c = let v = made (statement_view c.requires.stands) c.known.ensures c.in-Init.is in omega arith
+type_statement-init-requires t c = let v = made (statement_view c.requires.stands) c.known-kind.ensures c.in-Init.is in omega arith
 
 pub type_statement-returns-in-Init : goal.type_statement-returns-in-Init
 type_statement-returns-in-Init t c =
     λ u.
-    let v = made (statement_view u.stands) c.known.ensures c.in-Init.is in
-    placed u (λ d. init v.0 (byte c.args.self.now.bytes.now (c.args.at + 1)) (record { no = byte c.args.self.now.bytes.now (c.args.at + 2) })) (c.init.ensures v.0) v.3 v.4
+    let v = made (statement_view u.stands) c.known-kind.ensures c.in-Init.is in
+    placed u (λ d. init v.0 (byte c.args.self.now.bytes.now (c.args.at + 1)) (record { no = byte c.args.self.now.bytes.now (c.args.at + 2) })) (c.init.ensures v.0) v.3 (v.4 ∙ made_sized c.args.at c.size.ensures.value c.in-Init.is)

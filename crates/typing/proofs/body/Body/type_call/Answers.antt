@@ -1,14 +1,11 @@
 use native.Mathlib.Omega.{arith}
 use mathlib.Core.Path.{refl}
 use Rattle.answers.proofs.Passed.{passed_as}
-use Rattle.typing.proofs.CallStatements.{call_at, call_fits, may_call, call_refused, call_goes}
+use Rattle.typing.proofs.CallStatements.{call_at, call_fits, call_refused, call_goes}
 use Rattle.typing.proofs.body.Body.type_call.Goals as goal
 
 pub read-call-requires : goal.read-call-requires
 read-call-requires c = call_at c.requires.stands c.requires.starts
-
-pub need_callable-requires : goal.need_callable-requires
-need_callable-requires c = may_call c.requires.stands c.requires.starts c.read-call.ensures
 
 pub returns-in_err-need_callable : goal.returns-in_err-need_callable
 returns-in_err-need_callable c =
@@ -18,9 +15,6 @@ returns-in_err-need_callable c =
 
 pub overflow_add-result-3 : goal.overflow_add-result-3
 overflow_add-result-3 c = let h = call_fits c.requires.stands c.requires.starts c.read-call.ensures in omega arith
-
-pub after-requires : goal.after-requires
-after-requires c = may_call c.requires.stands c.requires.starts c.read-call.ensures
 
 pub returns : goal.returns
 returns c =

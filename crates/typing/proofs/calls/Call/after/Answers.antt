@@ -11,17 +11,17 @@ loop-i-init c = λ d n Γ g is e. after_none Γ g c.args.self.now.slots.now c.ar
 pub loop-i-preserved : goal.loop-i-preserved
 loop-i-preserved c =
     λ d n Γ g is e.
-    after_stay Γ g c.args.self.now.slots.now c.args.self.now.places.now (c.loop-i.i - 1) c.loop-i.i (omega arith) c.loop-i.auto.i c.requires.fewer
+    after_stay Γ g c.args.self.now.slots.now c.args.self.now.places.now (c.loop-i.i - 1) c.loop-i.i (omega arith) c.loop-i.auto.i c.args.self.now.fewer
     (sym (e.kept (c.loop-i.i - 1) (omega arith)) ∙ sym c.keeps.ensures ∙ c.if-not-keeps.false) (c.loop-i.invariant d n Γ g is e)
 
 pub loop-i-preserved-then-not-keeps : goal.loop-i-preserved-then-not-keeps
 loop-i-preserved-then-not-keeps c =
     λ d n Γ g is e.
     let now = c.loop-i.invariant d n Γ g is e in
-    let unbound = bound_is now _ (c.requires.slots (c.loop-i.i - 1) (omega arith)) _ c.bind.ensures refl in
-    after_lose Γ g c.args.self.now.slots.now c.args.self.now.places.now (c.loop-i.i - 1) c.loop-i.i (omega arith) c.loop-i.auto.i c.requires.fewer
+    let unbound = bound_is now _ (c.args.self.now.known (c.loop-i.i - 1) (omega arith)) _ c.bind.ensures refl in
+    after_lose Γ g c.args.self.now.slots.now c.args.self.now.places.now (c.loop-i.i - 1) c.loop-i.i (omega arith) c.loop-i.auto.i c.args.self.now.fewer
     (sym (e.kept (c.loop-i.i - 1) (omega arith)) ∙ sym c.keeps.ensures ∙ c.if-not-keeps.true)
-    (give_is unbound _ c.give-after.ensures.slots _ (e.within (c.loop-i.i - 1) (omega (arith, c.requires.fewer))) c.give-after.ensures.free)
+    (give_is unbound _ c.give-after.ensures.slots _ (e.within (c.loop-i.i - 1) (omega (arith, c.args.self.now.fewer))) c.give-after.ensures.free)
 
 pub returns : goal.returns
 returns c =

@@ -6,69 +6,86 @@ use native.Mathlib.Omega.{arith}
 use Prim.Native.Nat.{ℕ, ◌*◌, ◌≤◌}
 use lib.ListN.{length, take, replicate, length-replicate, length-map}
 use lib.Seq.{sets}
-use Rattle.answers.specs.Check.{ok}
+use Rattle.std.proofs.Math.Logic.{∥∥₁_elim}
+use Rattle.std.specs.Coded.{Coded-set, coded_ℕ}
+use Rattle.answers.specs.Check.{Check, ok, refused}
+use Rattle.answers.proofs.Laws.{ok_not_refused}
 use Rattle.rules.specs.declared.device.DeviceHeader.{DeviceHeader}
-use Rattle.rules.specs.Device.{Device}
+use Rattle.rules.specs.Device.{Device, read_device}
 use Rattle.rules.specs.Region.{region_of}
 use Rattle.rules.specs.Syntax.{Program}
 use Rattle.rules.specs.Run as run
 use Rattle.rules.specs.Run.{Turn, started, after, final, records, record_bytes, moved_by}
 use Rattle.rules.specs.Promises.{over, Ran, run_written}
-use Rattle.sets.specs.declared.LocationSet.{LocationSet}
-use Rattle.device.specs.Reader.{Reads, Owned, Rows}
-use Rattle.device.proofs.DeviceLaws.{known}
+use Rattle.device.specs.Reader.{Reads, Owned, RowsOf}
+use Rattle.device.proofs.DeviceLaws.{known, reads_as}
 use Rattle.program.specs.declared.functions.FunctionTable.{FunctionTable}
+use Rattle.program.specs.Reading.{Reading}
 use Rattle.program.proofs.In.{program_in}
+use Rattle.program.proofs.Whole.{whole}
 use Rattle.steps.specs.declared.job.Job.{Job}
 use Rattle.steps.specs.Stepping.{Begins, Starts}
 use Rattle.steps.proofs.Applying.{maps_empty, maps_first}
 use Rattle.theory.specs.TheRun.{turn_of}
-use Rattle.machine.specs.declared.run.Ended.{Ended}
-use Rattle.machine.specs.declared.turn.Seat.{Seat}
+use Rattle.answers.specs.declared.Moved.{Moved}
+use Rattle.machine.specs.declared.turn.Machine.{Machine}
+use Rattle.machine.specs.declared.turn.Player.{Player}
+use Rattle.machine.specs.declared.turn.Players.{Players}
 use Rattle.machine.specs.Running.{programs, Seated, Both, Holds, Dealt}
 use Rattle.machine.specs.Runs.{Loaded, finished}
 use Rattle.machine.proofs.Writing.{sets_over}
 
--- a loaded program begins, and is seated in its region
-pub begins : {s : List ℕ} {t : FunctionTable} {main : ℕ} {p : Program} → Loaded s t main p → Begins s main
-begins {s} {t} {main} {p} L = record { p = p; program = program_in s p L.reads; main_at_lem = L.tabled.main_at_lem }
+-- the device that a file reads as, where it is only known that there is one
+pub device_of : {s : List ℕ} {h : DeviceHeader} → ∥ ((D : Device) × Reads s h D) ∥₁ → (D : Device) × Reads s h D
+device_of {s} {h} t = go (read_device s) refl
+  where
+    go : (m : Check Device) → read_device s ≡ m → (D : Device) × Reads s h D
+    go (ok D) e = (
+      D,
+      record {
+        reads = e;
+        locations = ∥∥₁_elim t (Coded-set coded_ℕ _ _) (λ r. (reads_as r.1 e).locations);
+        edges = ∥∥₁_elim t (Coded-set coded_ℕ _ _) (λ r. (reads_as r.1 e).edges);
+      },
+    )
+    go (refused x) e = absurd (∥∥₁_elim t (λ a b. absurd a) (λ r. ok_not_refused (sym r.1.reads ∙ e)))
 
-seated : (s : List ℕ) (t : FunctionTable) (main : ℕ) (owned : LocationSet) (rows : List ℕ) (p : Program) (D : Device) (j : ℕ) → Loaded s t main p → Owned (region_of D j) owned → Rows (region_of D j) rows
-    → Seated s (record { functions = t; owned = owned }) rows p (region_of D j)
-seated s t main owned rows p D j L O R = record { program = program_in s p L.reads; heads = L.tabled.heads; owned = O; rows_are = R }
+-- a program that was read begins, and is seated in its region
+pub begins : {s : List ℕ} {t : FunctionTable} {main : ℕ} → Reading s t main → Begins s main
+begins R = let w = whole R in record { p = w.it; program = w.stands; main_at_lem = w.tabled.main_at_lem }
+
+pub loaded : {s : List ℕ} {t : FunctionTable} {main : ℕ} → Reading s t main → (p : Program) × Loaded s t main p
+loaded R = let w = whole R in (w.it, record { reads = w.reads; tabled = w.tabled })
+
+seated : (c : Player) (main : ℕ) (p : Program) (D : Device) (j : ℕ) → Loaded c.bytes.now c.functions.now main p → Owned (region_of D j) c.owned → RowsOf (region_of D j) c.rows.now → Seated c p (region_of D j)
+seated c main p D j L O R = record { program = program_in c.bytes.now p L.reads; heads = L.tabled.heads; owned = O; rows_are = R }
 
 -- ---- how many bytes the records have
 record_bytes_lem : (D : Device) (P : ℕ → Program) (ts : List Turn) (M : run.Machine) → length (record_bytes (records D P ts M)) ≡ 4 * length ts
 record_bytes_lem D P [] M = refl
 record_bytes_lem D P (t ∷ ts) M = let e = record_bytes_lem D P ts (after D P t M) in omega (arith, e)
 
-module _ (device : List ℕ) (h : DeviceHeader) (s₁ : List ℕ) (t₁ : FunctionTable) (main₁ : ℕ) (o₁ : LocationSet) (rows₁ s₂ : List ℕ) (t₂ : FunctionTable) (main₂ : ℕ) (o₂ : LocationSet)
-    (rows₂ schedule : List ℕ) (D : Device) (p q : Program) (Q : Reads device h D) (L₁ : Loaded s₁ t₁ main₁ p) (L₂ : Loaded s₂ t₂ main₂ q) where
-  abbrev pub one : Seat
-  one = record { functions = t₁; owned = o₁ }
+module _ (device : List ℕ) (h : DeviceHeader) (c : Players) (main₁ main₂ : ℕ) (schedule : List ℕ) (D : Device) (p q : Program) (Q : Reads device h D) (L₁ : Loaded c.first.bytes.now c.first.functions.now main₁ p)
+    (L₂ : Loaded c.second.bytes.now c.second.functions.now main₂ q) where
+  pub both : Owned (region_of D 1) c.first.owned → RowsOf (region_of D 1) c.first.rows.now → Owned (region_of D 2) c.second.owned → RowsOf (region_of D 2) c.second.rows.now → Both c D p q
+  both o₁ r₁ o₂ r₂ = record { first = seated c.first main₁ p D 1 L₁ o₁ r₁; second = seated c.second main₂ q D 2 L₂ o₂ r₂ }
 
-  abbrev pub two : Seat
-  two = record { functions = t₂; owned = o₂ }
-
-  pub both : Owned (region_of D 1) o₁ → Rows (region_of D 1) rows₁ → Owned (region_of D 2) o₂ → Rows (region_of D 2) rows₂ → Both s₁ one rows₁ s₂ two rows₂ D p q
-  both a b c d = record { first = seated s₁ t₁ main₁ o₁ rows₁ p D 1 L₁ a b; second = seated s₂ t₂ main₂ o₂ rows₂ q D 2 L₂ c d }
-
-  pub fresh_holds : (j₁ j₂ : Job) → Starts s₁ main₁ j₁ → Starts s₂ main₂ j₂
-      → Holds s₁ one rows₁ s₂ two rows₂ D p q (started D (programs p q)) (record { map = replicate 256 0; first = j₁; second = j₂ })
+  pub fresh_holds : (j₁ j₂ : Job) → Starts c.first.bytes.now main₁ j₁ → Starts c.second.bytes.now main₂ j₂
+      → Holds c D p q (started D (programs p q)) (record { map = replicate 256 0; first = j₁; second = j₂ })
   fresh_holds j₁ j₂ a b = record {
-    first = a p (program_in s₁ p L₁.reads) L₁.tabled.main_at_lem;
-    second = b q (program_in s₂ q L₂.reads) L₂.tabled.main_at_lem;
+    first = a p (program_in c.first.bytes.now p L₁.reads) L₁.tabled.main_at_lem;
+    second = b q (program_in c.second.bytes.now q L₂.reads) L₂.tabled.main_at_lem;
     maps = maps_empty (length D.owners);
     long = length-replicate {A = ℕ} (length D.owners) 0;
   }
 
-  pub run_is : (before₁ before₂ now₁ now₂ : List ℕ) (r : Ended) → 4 * length schedule ≤ length before₁ → h.locations ≤ length before₂
-      → Dealt s₁ one rows₁ s₂ two rows₂ D p q (started D (programs p q)) (map turn_of schedule) before₁ r now₁ → now₂ ≡ sets before₂ 0 (take h.locations r.map)
-      → ◌≡◌ {A = Ran} (record { answer = ok r.moved; records = now₁; map = now₂ })
-      (run_written before₁ before₂ (ok (finished device h s₁ t₁ main₁ s₂ t₂ main₂ schedule D p q)))
-  run_is before₁ before₂ now₁ now₂ r f g E w = rw (answers, records_are, map_is) refl
+  pub run_is : (before₁ before₂ now₁ now₂ : List ℕ) (m : Machine) (r : Moved) → 4 * length schedule ≤ length before₁ → h.locations ≤ length before₂
+      → Dealt c D p q (started D (programs p q)) (map turn_of schedule) before₁ m r now₁ → now₂ ≡ sets before₂ 0 (take h.locations m.map)
+      → ◌≡◌ {A = Ran} (record { answer = ok r; records = now₁; map = now₂ })
+      (run_written before₁ before₂ (ok (finished device h c.first.bytes.now c.first.functions.now main₁ c.second.bytes.now c.second.functions.now main₂ schedule D p q)))
+  run_is before₁ before₂ now₁ now₂ m r f g E w = rw (answers, records_are, map_is) refl
     where
-      answers : r.moved ≡ record { first = moved_by 1 (records D (programs p q) (map turn_of schedule) (started D (programs p q))); second = moved_by 2 (records D (programs p q) (map turn_of schedule) (started D (programs p q))) }
+      answers : r ≡ record { first = moved_by 1 (records D (programs p q) (map turn_of schedule) (started D (programs p q))); second = moved_by 2 (records D (programs p q) (map turn_of schedule) (started D (programs p q))) }
       answers = ap₂ (λ (a b : ℕ). record { first = a; second = b }) E.first E.second
 
       records_are : now₁ ≡ over (record_bytes (records D (programs p q) (map turn_of schedule) (started D (programs p q)))) before₁
@@ -82,5 +99,5 @@ module _ (device : List ℕ) (h : DeviceHeader) (s₁ : List ℕ) (t₁ : Functi
           let v = known Q in
           let o : List ℕ = (final D (programs p q) (map turn_of schedule) (started D (programs p q))).occupancy in
           let n : h.locations ≡ length o = Q.locations ∙ sym E.long in
-          let t : take h.locations r.map ≡ o = ap (λ (x : ℕ). take x r.map) n ∙ maps_first r.map o (omega (arith, n, v.few)) E.maps in
+          let t : take h.locations m.map ≡ o = ap (λ (x : ℕ). take x m.map) n ∙ maps_first m.map o (omega (arith, n, v.few)) E.maps in
           w ∙ ap (sets before₂ 0) t ∙ sets_over o before₂ (omega (arith, n, g))

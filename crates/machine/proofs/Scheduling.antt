@@ -4,9 +4,8 @@ use mathlib.Core.List.{List, [], ◌∷◌, map}
 use mathlib.Core.Path.{◌≡◌, refl, sym, ap, ◌∙◌, subst}
 use native.Mathlib.Decide.{dec_le}
 use native.Mathlib.Omega.{arith}
-use Prim.Native.Nat.{ℕ, zero, suc, ◌+◌, ◌/◌, ◌%◌, ◌≤◌, ◌<◌}
+use Prim.Native.Nat.{ℕ, zero, suc, ◌+◌, ◌≤◌, ◌<◌}
 use borrow.Author.Tests.{le-leb, lt-leb}
-use lib.Dec.{leb}
 use lib.ListN.{length, drop, drop_of_length-le}
 use lib.Seq.{drop-cons}
 use Rattle.answers.specs.Check.{Check, ok, refused, refusal, in_file, ◌>>=◌, ◌>>◌, need, within}
@@ -18,16 +17,6 @@ use Rattle.rules.proofs.Tests.{and_left, and_right}
 use Rattle.theory.proofs.TheRun.{turns_sound}
 use Rattle.theory.specs.TheRun.{is_turn, turn_of}
 use Rattle.machine.specs.Scheduled.{scheduled}
-
--- ---- a byte
-pub no_job : (b : ℕ) → b / 16 < 1 → false ≡ is_turn b
-no_job b h = rw (lt-leb 1 (b / 16) h) refl
-
-pub no_second : (b : ℕ) → 1 ≤ b / 16 → 2 < b / 16 → false ≡ is_turn b
-no_second b h k = rw (le-leb 1 (b / 16) h, lt-leb (b / 16) 2 k) refl
-
-pub an_outcome : (b : ℕ) → 1 ≤ b / 16 → b / 16 ≤ 2 → leb (b % 16) 1 ≡ is_turn b
-an_outcome b h k = rw (le-leb 1 (b / 16) h, le-leb (b / 16) 2 k) refl
 
 -- ---- the rest of a schedule
 unfoldable pub from : List ℕ → ℕ → Check (Unit {0})

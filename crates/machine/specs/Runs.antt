@@ -20,22 +20,16 @@ pub record Loaded (s : List ℕ) (t : FunctionTable) (main : ℕ) (p : Program) 
   pub reads : read_program s ≡ ok p
   pub tabled : Tabled p t main
 
+-- all that a run asks: a schedule that may be run, and room
+pub record Runnable (h : DeviceHeader) (schedule : List ℕ) (room₁ room₂ : ℕ) : Type 0 where
+  pub all_turns : (i : ℕ) → i < length schedule → is_turn (byte schedule i) ≡ true
+  pub short : length schedule ≤ 4096
+  pub fits : 4 * length schedule ≤ room₁
+  pub map_fits : h.locations ≤ room₂
+
 module _ (device : List ℕ) (h : DeviceHeader) (s₁ : List ℕ) (t₁ : FunctionTable) (main₁ : ℕ) (s₂ : List ℕ) (t₂ : FunctionTable)
     (main₂ : ℕ)
     (schedule : List ℕ) where
-  -- all that a run asks
-  pub record Runnable (room₁ room₂ : ℕ) : Type 0 where
-    pub D : Device
-    pub p : Program
-    pub q : Program
-    pub the_device : Reads device h D
-    pub first : Loaded s₁ t₁ main₁ p
-    pub second : Loaded s₂ t₂ main₂ q
-    pub all_turns : (i : ℕ) → i < length schedule → is_turn (byte schedule i) ≡ true
-    pub short : length schedule ≤ 4096
-    pub fits : 4 * length schedule ≤ room₁
-    pub map_fits : h.locations ≤ room₂
-
   -- both jobs fresh, the schedule's turns dealt out
   abbrev pub finished : Device → Program → Program → Finished
   finished D p q = record {

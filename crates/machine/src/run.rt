@@ -4,121 +4,74 @@ ghost use Rattle.machine.specs.Running.{Dealing, Deals};
 ghost use Rattle.machine.specs.Runs.{Runnable, Runs};
 
 use crate::records::{moved_more, write_map, write_record};
-use crate::turn::{Machine, Seat, turn};
+use crate::turn::{Machine, Player, Players, turn};
 use answers::Moved;
-use device::region::{owned_by, region_rows};
-use program::functions::FunctionTable;
-use rules::device::DeviceHeader;
+use device::file::DeviceFile;
+use program::file::ReadProgram;
+use sets::rows::Rows;
 use steps::step::start;
 
-// How a run ends: with this map, and so many steps of each job moved.
-#[derive(Clone, Copy)]
-pub struct Ended {
-    pub map: [u8; 256],
-    pub moved: Moved,
-}
-
-// One turn for each byte of a schedule that may be run.
+// One turn for each byte of a schedule that may be run; how many steps of each job moved.
 pub fn deal(
-    first: &[u8],
-    one: Seat,
-    first_rows: &[u64; 1024],
-    second: &[u8],
-    two: Seat,
-    second_rows: &[u64; 1024],
-    start: Machine,
+    players: &Players<'_, '_>,
+    machine: &mut Machine,
     schedule: &[u8],
     records: &mut [u8],
-) -> Ended
-    requires { Dealing first.now one first_rows.now second.now two second_rows.now start schedule.now (length records.old) }
-    ensures { Deals first.now one first_rows.now second.now two second_rows.now start
-        schedule.now records.old result records.new }
+) -> Moved
+    requires { Dealing players.now machine.old schedule.now (length records.old) }
+    ensures { Deals players.now machine.old schedule.now records.old machine.new result records.new }
 {
-    let n = schedule.len();
-    let mut machine = start;
-    let mut ones: usize = 0;
-    let mut twos: usize = 0;
-    let mut i: usize = 0;
-    while i < n {
+    let mut moved = Moved {
+        first: 0,
+        second: 0,
+    };
+    for i in 0..schedule.len() {
         let byte = schedule[i];
-        let turned = turn(
-            first,
-            one,
-            first_rows,
-            second,
-            two,
-            second_rows,
-            machine,
-            byte,
-        );
-        let next = turned.machine;
-        let record = turned.record;
-        let code = record.code;
+        let record = turn(players, machine, byte);
         write_record(record, records, 4 * i);
-        machine = next;
-        ones += moved_more(byte, 1, code);
-        twos += moved_more(byte, 2, code);
-        i += 1;
+        moved.first += moved_more(byte, 1, record.code);
+        moved.second += moved_more(byte, 2, record.code);
     }
-    let map = machine.map;
-    Ended {
-        map: map,
-        moved: Moved {
-            first: ones,
-            second: twos,
-        },
-    }
+    moved
 }
 
 // The run of two programs that were read, on a device that was read.
-pub fn run(
-    device: &[u8],
-    h: DeviceHeader,
-    first: &[u8],
-    ones: FunctionTable,
-    first_main: usize,
-    second: &[u8],
-    twos: FunctionTable,
-    second_main: usize,
+pub fn run<'x>(
+    device: DeviceFile<'_>,
+    first: &'x ReadProgram<'x>,
+    second: &'x ReadProgram<'x>,
     schedule: &[u8],
     records: &mut [u8],
     map: &mut [u8],
 ) -> Moved
-    requires { Runnable device.now h first.now ones first_main second.now twos second_main schedule.now
-        (length records.old) (length map.old) }
-    ensures { Runs device.now h first.now ones first_main second.now twos second_main
-        schedule.now records.old map.old result records.new map.new }
+    requires { Runnable device.header schedule.now (length records.old) (length map.old) }
+    ensures { Runs device.entry.bytes.now device.entry.header first.now.bytes.now first.now.functions first.now.main
+        second.now.bytes.now second.now.functions second.now.main schedule.now records.old map.old result records.new map.new }
 {
-    let mut first_rows = [0u64; 1024];
-    region_rows(device, h, 1, &mut first_rows);
-    let mut second_rows = [0u64; 1024];
-    region_rows(device, h, 2, &mut second_rows);
-    let one = Seat {
-        functions: ones,
-        owned: owned_by(device, h, 1),
+    let mut first_rows = Rows::empty();
+    device.region_rows(1, &mut first_rows);
+    let mut second_rows = Rows::empty();
+    device.region_rows(2, &mut second_rows);
+    let players = Players {
+        first: Player {
+            bytes: first.bytes,
+            functions: &first.functions,
+            owned: device.owned_by(1),
+            rows: &first_rows,
+        },
+        second: Player {
+            bytes: second.bytes,
+            functions: &second.functions,
+            owned: device.owned_by(2),
+            rows: &second_rows,
+        },
     };
-    let two = Seat {
-        functions: twos,
-        owned: owned_by(device, h, 2),
-    };
-    let machine = Machine {
+    let mut machine = Machine {
         map: [0; 256],
-        first: start(first, first_main),
-        second: start(second, second_main),
+        first: start(first.bytes, first.main),
+        second: start(second.bytes, second.main),
     };
-    let ended = deal(
-        first,
-        one,
-        &first_rows,
-        second,
-        two,
-        &second_rows,
-        machine,
-        schedule,
-        records,
-    );
-    let occupied = ended.map;
-    write_map(&occupied, h.locations, map);
-    let moved = ended.moved;
+    let moved = deal(&players, &mut machine, schedule, records);
+    write_map(&machine.map, device.header.locations, map);
     moved
 }

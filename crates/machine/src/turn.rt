@@ -3,19 +3,31 @@ ghost use Rattle.machine.specs.Running.{Ready, Takes, Running, Turns};
 
 use program::functions::FunctionTable;
 use sets::LocationSet;
+use sets::rows::Rows;
 use steps::Record;
 use steps::apply::apply;
+use steps::floor::Floor;
 use steps::job::Job;
 use steps::step::step;
 
-// What a job brings besides the bytes of its program and the rows of its region: its functions, and its own locations.
+// What a job brings: the bytes of its program and its functions, its own locations and the rows of its region.
 #[derive(Clone, Copy)]
-pub struct Seat {
-    pub functions: FunctionTable,
+pub struct Player<'p, 'r> {
+    pub bytes: &'p [u8],
+    pub functions: &'p FunctionTable,
     pub owned: LocationSet,
+    pub rows: &'r Rows,
 }
 
-// The machine: one occupancy map of the whole device, and each job's own state.
+// What both jobs bring.
+#[derive(Clone, Copy)]
+pub struct Players<'p, 'r> {
+    pub first: Player<'p, 'r>,
+    pub second: Player<'p, 'r>,
+}
+
+// The machine: one occupancy map of the whole device, and each job's own state. The jobs are fields, and no array: what is lent of an array at an
+// index is not said to be the array's element afterwards.
 #[derive(Clone, Copy)]
 pub struct Machine {
     pub map: [u8; 256],
@@ -23,90 +35,37 @@ pub struct Machine {
     pub second: Job,
 }
 
-// A step taken: the job after it, and its record.
-#[derive(Clone, Copy)]
-pub struct Taken {
-    pub job: Job,
-    pub record: Record,
-}
-
-// A turn taken: the machine after it, and its record.
-#[derive(Clone, Copy)]
-pub struct Turned {
-    pub machine: Machine,
-    pub record: Record,
-}
-
 // A step of one job, done to the map.
 fn take_step(
-    s: &[u8],
-    seat: Seat,
-    rows: &[u64; 1024],
+    player: &Player<'_, '_>,
     map: &mut [u8; 256],
-    job: Job,
+    job: &mut Job,
     number: u8,
     outcome: bool,
-) -> Taken
-    requires { Ready s.now seat job }
-    ensures { Takes s.now seat rows.now map.old job number outcome result map.new }
+) -> Record
+    requires { Ready player.now job.old }
+    ensures { Takes player.now map.old job.old number outcome job.new result map.new }
 {
-    let functions = seat.functions;
-    let owned = seat.owned;
-    let r = step(s, functions, rows, owned, map, job, outcome);
-    let act = r.act;
-    let next = r.job;
-    let record = r.record;
-    apply(act, number, map);
-    Taken {
-        job: next,
-        record: record,
-    }
+    let floor = Floor {
+        rows: player.rows,
+        owned: player.owned,
+        map,
+    };
+    let stepped = step(player.bytes, player.functions, &floor, job, outcome);
+    apply(stepped.act, number, map);
+    stepped.record
 }
 
-// A turn of job 1, or of job 2.
-pub fn turn(
-    first: &[u8],
-    one: Seat,
-    first_rows: &[u64; 1024],
-    second: &[u8],
-    two: Seat,
-    second_rows: &[u64; 1024],
-    machine: Machine,
-    byte: u8,
-) -> Turned
-    requires { Running first.now one first_rows.now second.now two second_rows.now machine byte }
-    ensures { Turns first.now one first_rows.now second.now two second_rows.now
-        machine byte result }
+// A turn of the job that the byte names.
+pub fn turn(players: &Players<'_, '_>, machine: &mut Machine, byte: u8) -> Record
+    requires { Running players.now machine.old byte }
+    ensures { Turns players.now machine.old byte machine.new result }
 {
     let outcome = byte % 16 == 1;
-    let mut map = machine.map;
-    if byte < 32 {
-        let job = machine.first;
-        let other = machine.second;
-        let taken = take_step(first, one, first_rows, &mut map, job, 1, outcome);
-        let next = taken.job;
-        let record = taken.record;
-        Turned {
-            machine: Machine {
-                map: map,
-                first: next,
-                second: other,
-            },
-            record: record,
-        }
+    let map = &mut machine.map;
+    if byte / 16 == 1 {
+        take_step(&players.first, map, &mut machine.first, 1, outcome)
     } else {
-        let job = machine.second;
-        let other = machine.first;
-        let taken = take_step(second, two, second_rows, &mut map, job, 2, outcome);
-        let next = taken.job;
-        let record = taken.record;
-        Turned {
-            machine: Machine {
-                map: map,
-                first: other,
-                second: next,
-            },
-            record: record,
-        }
+        take_step(&players.second, map, &mut machine.second, 2, outcome)
     }
 }

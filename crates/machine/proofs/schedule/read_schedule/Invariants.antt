@@ -1,12 +1,8 @@
 -- The rest of the schedule is asked what the whole was asked.
 use mathlib.Core.Path.{◌≡◌}
-use Prim.Native.Nat.{◌-◌, ◌≤◌}
 use Rattle.machine.specs.Scheduled.{scheduled}
 use Rattle.machine.proofs.Scheduling.{from}
 use Rattle.machine.proofs.schedule.read_schedule.Given as goal
 
 abbrev pub invariant-loop-i : goal.invariant-loop-i
-invariant-loop-i l = (l.i ≤ l.n) × (scheduled l.schedule ≡ from l.schedule l.i)
-
-abbrev pub decreases-loop-i : goal.decreases-loop-i
-decreases-loop-i l = l.n - l.i
+invariant-loop-i l = scheduled l.schedule ≡ from l.schedule l.i

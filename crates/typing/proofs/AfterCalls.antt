@@ -29,7 +29,9 @@ module _ {d : Side} (Γ : Environment d) (g : Signature) (xs ls : List ℕ) wher
   }
 
   pub after_none : {n : ℕ} {e : Env} → EnvIs n e Γ → EnvIs n e (After (length xs))
-  after_none {n} {e} is = let none : length xs - length xs ≡ 0 = omega arith in subst (λ (k : ℕ). EnvIs n e (with_stays (up_to (length xs) k stays_at))) (sym none) is
+  after_none {n} {e} is =
+      let none : length xs - length xs ≡ 0 = omega arith in
+      subst (λ (k : ℕ). EnvIs n e (with_stays (up_to (length xs) k stays_at))) (sym none) is
     where
       with_stays : List Bool → Environment d
       with_stays bs = record {

@@ -33,7 +33,8 @@ module _ {d : Side} {n p : ℕ} {m : Check (TypedBlock d)} where
   refused_is {z} (stops {z = y} h k) = let same : z ≡ y = cc in ap refused same ∙ sym h
 
   -- commands are none of the code's
-  pub any_commands : {r : Result Typed Refusal} (f : TypedBlock d → Commands d) → Answers n p m r → Answers n p (m >>= λ t. ok (record { env = t.env; commands = f t })) r
+  pub any_commands : {r : Result Typed Refusal} (f : TypedBlock d → Commands d) → Answers n p m r
+      → Answers n p (m >>= λ t. ok (record { env = t.env; commands = f t })) r
   unfolding ◌>>=◌
   any_commands f (goes {t = t} h k q is) = goes {t = record { env = t.env; commands = f t }} (rw h) k q is
   any_commands f (stops h k) = stops (rw h) k

@@ -37,7 +37,8 @@ module _ {d : Side} {n : ℕ} {entry self : Env} {Γ Δ : Environment d} (is : E
   pub all_stay_yes : ((x : ℕ) → x < 32 → stay (kind_of d (slot_of entry x)) (kind_of d (slot_of self x)) ≡ true) → true ≡ all_stay Γ.slots Δ.slots
   all_stay_yes h = sym (all_yes (λ x. stay (slot Γ.slots x) (slot Δ.slots x)) 0 32 (λ x a b. stay_there x (omega arith) ∙ h x (omega arith)))
 
-  pub all_stay_no : (x : ℕ) {t : Bool} → x < 32 → t ≡ not (stay (kind_of d (slot_of entry x)) (kind_of d (slot_of self x))) → t ≡ true → false ≡ all_stay Γ.slots Δ.slots
+  pub all_stay_no : (x : ℕ) {t : Bool} → x < 32 → t ≡ not (stay (kind_of d (slot_of entry x)) (kind_of d (slot_of self x))) → t ≡ true
+      → false ≡ all_stay Γ.slots Δ.slots
   all_stay_no x l e h = sym (all_no (λ y. stay (slot Γ.slots y) (slot Δ.slots y)) 0 32 x (omega arith) l (stay_there x l ∙ stay_not _ e h))
 
 -- what is left in a slot
@@ -84,7 +85,9 @@ module _ {d : Side} {n : ℕ} {entry self : Env} {Γ Δ : Environment d} (is : E
     count = m;
     long = length_up_to 0 32 leaves;
     wide = too.wide;
-    slots = λ x l. get_d_up_to_zero 32 x leaves unbound l ∙ rw (is.slots x l, too.slots x l) (left_kind d (slot_of entry x) (slot_of self x)) ∙ ap (kind_of d) (sym (h x l));
+    slots = λ x l.
+        get_d_up_to_zero 32 x leaves unbound l ∙ rw (is.slots x l, too.slots x l) (left_kind d (slot_of entry x) (slot_of self x))
+        ∙ ap (kind_of d) (sym (h x l));
     there = λ x i l q. too.there x i l (left_qubit (slot_of entry x) (slot_of self x) i (sym (h x l) ∙ q));
     free = λ y. too.free y ∙ ap (λ s. has s y) (sym f);
   }

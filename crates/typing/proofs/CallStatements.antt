@@ -43,7 +43,8 @@ all_at t (l ∷ ls) zero h m = and_first (t (record { no = l })) _ h
 all_at t (l ∷ ls) (suc i) h m = all_at t ls i (and_second (t (record { no = l })) _ h) (omega arith)
 
 -- a call that asks no more has its locations inside
-inside_all : {d : Side} (C : Context d) (Γ : Environment d) (o : ℕ) (ls : List (Place d)) (xs : List ℕ) → ok tt ≡ callable (kinds C Γ) o Γ.slots ls xs → all C.inside ls ≡ true
+inside_all : {d : Side} (C : Context d) (Γ : Environment d) (o : ℕ) (ls : List (Place d)) (xs : List ℕ)
+    → ok tt ≡ callable (kinds C Γ) o Γ.slots ls xs → all C.inside ls ≡ true
 inside_all C Γ o ls xs e = holds_at (holds_then (holds_need (all C.inside ls) 13 o) λ u h. holds_map (λ v k. h) (holds_any _)) (sym e)
 
 module _ {body : Body} {env : Env} {at : ℕ} (t : StatementCase body env at) (b : byte body.bytes.now at ≡ 12) where
@@ -57,7 +58,13 @@ module _ {body : Body} {env : Env} {at : ℕ} (t : StatementCase body env at) (b
   call_at =
       let h = shape in
       let m = t.knows.most (byte s (at + 1)) h.callee in
-      record { fits = h.fits; callee = omega (arith, h.callee, t.knows.few); most = omega (arith, m.0, h.m); fewer = omega (arith, m.1, h.m, h.k); slots = h.slots }
+      record {
+        fits = h.fits;
+        callee = omega (arith, h.callee, t.knows.few);
+        most = omega (arith, m.0, h.m);
+        fewer = omega (arith, m.1, h.m, h.k);
+        slots = h.slots;
+      }
 
   module _ {c : Call} (is : CallIs s at c) where
     places_long : length c.places.now ≡ byte s (at + 2)
@@ -91,11 +98,15 @@ module _ {body : Body} {env : Env} {at : ℕ} (t : StatementCase body env at) (b
         let h = shape in
         record {
           same = t.knows.same (byte s (at + 1)) h.callee ∙ sym h.m ∙ sym slots_long;
-          kept = λ i l. ap (λ (f : ℕ). has body.endings.kept (8 * f + i)) is.callee ∙ t.knows.kept (byte s (at + 1)) i h.callee (omega (arith, h.m, slots_long));
-          within = λ i l. t.within.few _ (sym (t.within.same (record { no = get_or c.places.now i 0 })) ∙ all_at t.context.inside c.places.now i (inside_all t.context t.entry at (places t.side c.places.now) c.slots.now q) l);
+          kept = λ i l.
+              ap (λ (f : ℕ). has body.endings.kept (8 * f + i)) is.callee ∙ t.knows.kept (byte s (at + 1)) i h.callee (omega (arith, h.m, slots_long));
+          within = λ i l.
+              let inside = inside_all t.context t.entry at (places t.side c.places.now) c.slots.now q in
+              t.within.few _ (sym (t.within.same (record { no = get_or c.places.now i 0 })) ∙ all_at t.context.inside c.places.now i inside l);
         }
 
-    pub call_refused : {z : Refusal} {r : Result Typed Refusal} → refused z ≡ asks → r ≡ Err z → Answers t.places t.next (type_statement t.context t.entry t.it) r
+    pub call_refused : {z : Refusal} {r : Result Typed Refusal} → refused z ≡ asks → r ≡ Err z
+        → Answers t.places t.next (type_statement t.context t.entry t.it) r
     call_refused q y = answered t it (refuses (then_refused _ q) y) it_is next_is
 
     pub call_goes : {r : Typed} → ok tt ≡ asks

@@ -41,7 +41,9 @@ pub record Entering (free : LocationSet) (i : ℕ) (e : Env) : Type 0 where
   pub others : (x : ℕ) → i ≤ x → x < 32 → slot_of e x ≡ Unbound
 
 pub entering_none : {free : LocationSet} {e : Env} → e ≡ record { slots = replicate 32 Unbound; free = free } → Entering e.free 0 e
-entering_none h = rw h (record { count = refl; places = refl; arguments = λ x l. absurd (omega arith); others = λ x l k. get_or-replicate 32 x Unbound Unbound k })
+entering_none h =
+    rw h
+    (record { count = refl; places = refl; arguments = λ x l. absurd (omega arith); others = λ x l k. get_or-replicate 32 x Unbound Unbound k })
 
 pub entering_one : {free : LocationSet} {i : ℕ} {e b : Env} → i < 32 → Entering free i e → b ≡ bound e i (Qubit i) → Entering free (i + 1) b
 entering_one {free} {i} {e} {b} l r s = record {
@@ -59,7 +61,8 @@ entering_one {free} {i} {e} {b} l r s = record {
     below x k (no h) = other x h ∙ r.arguments x (omega arith)
 
 -- the slots of the rules: the arguments, then nothing
-arguments_first : (ls : List (Place parameter)) (n x : ℕ) → x < length ls → slot (map {B = Kind parameter} qubit ls ++ replicate n unbound) x ≡ qubit (get_or ls x (record { no = 0 }))
+arguments_first : (ls : List (Place parameter)) (n x : ℕ) → x < length ls
+    → slot (map {B = Kind parameter} qubit ls ++ replicate n unbound) x ≡ qubit (get_or ls x (record { no = 0 }))
 arguments_first [] n x h = absurd (omega arith)
 arguments_first (l ∷ ls) n zero h = refl
 arguments_first (l ∷ ls) n (suc x) h = arguments_first ls n x (omega arith)
@@ -94,9 +97,12 @@ places_at m k y h = go (dec_lt y m) (dec_lt y k)
     go : Dec (y < m) → Dec (y < k) → get_or (replicate m false ++ replicate (k - m) true) y false ≡ (ltb y k && not (ltb y m))
     go (yes l) d = rw (lt-ltb y m l, lt-ltb y k (omega arith)) (places_low m (k - m) y l)
     go (no l) (yes d) = rw (le-ltb y m (omega arith), lt-ltb y k d) (places_mid m (k - m) y (omega arith) (omega arith))
-    go (no l) (no d) = rw (le-ltb y k (omega arith)) (get_or-eq_default (replicate m false ++ replicate (k - m) true) false (omega (arith, places_length m (k - m))))
+    go (no l) (no d) =
+        rw (le-ltb y k (omega arith))
+        (get_or-eq_default (replicate m false ++ replicate (k - m) true) false (omega (arith, places_length m (k - m))))
 
-pub entering_all : {free : LocationSet} {i k m : ℕ} {e : Env} (g : Function) → g.k ≡ k → g.m ≡ m → m ≤ 8 → m ≤ k → i ≡ m → Entering free i e → ((y : ℕ) → has free y ≡ (ltb y k && not (ltb y m))) → EnvIs k e (entry g)
+pub entering_all : {free : LocationSet} {i k m : ℕ} {e : Env} (g : Function) → g.k ≡ k → g.m ≡ m → m ≤ 8 → m ≤ k → i ≡ m → Entering free i e
+    → ((y : ℕ) → has free y ≡ (ltb y k && not (ltb y m))) → EnvIs k e (entry g)
 entering_all {free} {i} {k} {m} {e} g p q h l a r f = record {
   count = r.count;
   long = long_is;
@@ -113,10 +119,14 @@ entering_all {free} {i} {k} {m} {e} g p q h l a r f = record {
     number = length_up_to 0 g.m param
 
     long_is : length (entered {B = Unit {0}} ls) ≡ 32
-    long_is = length-append (map {B = Kind parameter} qubit ls) (replicate (32 - length ls) unbound) ∙ rw (length-map {B = Kind parameter} ls qubit, length-replicate {A = Kind parameter} (32 - length ls) unbound) (omega (arith, number))
+    long_is =
+        length-append (map {B = Kind parameter} qubit ls) (replicate (32 - length ls) unbound)
+        ∙ rw (length-map {B = Kind parameter} ls qubit, length-replicate {A = Kind parameter} (32 - length ls) unbound) (omega (arith, number))
 
     slot_is : (x : ℕ) → x < 32 → Dec (x < i) → slot (entered ls) x ≡ kind_of parameter (slot_of e x)
-    slot_is x n (yes d) = arguments_first ls (32 - length ls) x (omega (arith, number)) ∙ ap (λ (z : Place parameter). qubit z) (get_d_up_to_zero g.m x param _ (omega arith)) ∙ ap (kind_of parameter) (sym (r.arguments x d))
+    slot_is x n (yes d) =
+        arguments_first ls (32 - length ls) x (omega (arith, number))
+        ∙ ap (λ (z : Place parameter). qubit z) (get_d_up_to_zero g.m x param _ (omega arith)) ∙ ap (kind_of parameter) (sym (r.arguments x d))
     slot_is x n (no d) = then_none ls (32 - length ls) x (omega (arith, number)) ∙ ap (kind_of parameter) (sym (r.others x (omega arith) n))
 
     there_is : (x j : ℕ) → x < 32 → slot_of e x ≡ Qubit j → Dec (x < i) → j < k
@@ -124,5 +134,6 @@ entering_all {free} {i} {k} {m} {e} g p q h l a r f = record {
     there_is x j n z (no d) = let c = r.others x (omega arith) n in let w : ◌≡◌ {A = ℕ} 0 1 = cc in absurd (omega arith)
 
 -- the places that hold no argument
-pub rest_of : (a b c : LocationSet) (k m : ℕ) → ((y : ℕ) → has a y ≡ ltb y k) → ((y : ℕ) → has b y ≡ ltb y m) → ((y : ℕ) → has c y ≡ (has a y && not (has b y))) → (y : ℕ) → has c y ≡ (ltb y k && not (ltb y m))
+pub rest_of : (a b c : LocationSet) (k m : ℕ) → ((y : ℕ) → has a y ≡ ltb y k) → ((y : ℕ) → has b y ≡ ltb y m)
+    → ((y : ℕ) → has c y ≡ (has a y && not (has b y))) → (y : ℕ) → has c y ≡ (ltb y k && not (ltb y m))
 rest_of a b c k m f g h y = h y ∙ rw (f y, g y)

@@ -29,7 +29,8 @@ module _ {d : Side} {n : ℕ} {e : Env} {Γ : Environment d} (is : EnvIs n e Γ)
   stored : (y : ℕ) → Dec (y ≡ x) → y < 32 → slot (set Γ.slots x (kind_of d v)) y ≡ kind_of d (slot_of (bound e x v) y)
   stored y (yes q) k =
       subst (λ (z : ℕ). slot (set Γ.slots x (kind_of d v)) z ≡ kind_of d (slot_of (bound e x v) z)) (sym q)
-      (get_or-set_same Γ.slots x (kind_of d v) unbound (omega (arith, is.long)) ∙ ap (kind_of d) (sym (get_or-set_same e.slots x v Unbound (omega (arith, is.count)))))
+      (get_or-set_same Γ.slots x (kind_of d v) unbound (omega (arith, is.long))
+      ∙ ap (kind_of d) (sym (get_or-set_same e.slots x v Unbound (omega (arith, is.count)))))
   stored y (no q) k = get_or-set_other Γ.slots x y (kind_of d v) unbound q ∙ is.slots y k ∙ ap (kind_of d) (sym (get_or-set_other e.slots x y v Unbound q))
 
   stored_there : ((l : ℕ) → v ≡ Qubit l → l < n) → (y l : ℕ) → Dec (y ≡ x) → y < 32 → slot_of (bound e x v) y ≡ Qubit l → l < n

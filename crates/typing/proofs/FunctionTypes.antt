@@ -47,7 +47,11 @@ module _ (bytes : Bor (List ℕ)) {p : Program} (P : ProgramIn bytes.now p) {f :
       → Knows e (record { places = places; earlier = before }) u.gs
   known places before l k q = record {
     few = omega (arith, l, P.few);
-    most = λ h n. let m = P.head h (omega arith) in let g = ap (λ (x : Function). x.m) (q h (omega arith)) in let i = ap (λ (x : Function). x.k) (q h (omega arith)) in (omega (arith, m.1, g), omega (arith, m.2, g, i));
+    most = λ h n.
+        let m = P.head h (omega arith) in
+        let g = ap (λ (x : Function). x.m) (q h (omega arith)) in
+        let i = ap (λ (x : Function). x.k) (q h (omega arith)) in
+        (omega (arith, m.1, g), omega (arith, m.2, g, i));
     same = λ h n. u.same h (omega arith) ∙ ap (λ (x : Function). x.m) (sym (q h (omega arith)));
     kept = λ h i n m. u.kept h i (omega arith) (omega (arith, ap (λ (x : Function). x.m) (q h (omega arith))));
   }
@@ -87,7 +91,8 @@ module _ (bytes : Bor (List ℕ)) {p : Program} (P : ProgramIn bytes.now p) {f :
       abbrev typing : Check (TypedBlock parameter)
       typing = type_block (body_context u.gs it) (entry it) it.body
 
-      pub function_refused : {z : Refusal} {r : Result Endings Refusal} → BlockTyped (record { bytes = bytes; endings = e; inside = inside }) env at (Err z) → r ≡ Err z
+      pub function_refused : {z : Refusal} {r : Result Endings Refusal}
+          → BlockTyped (record { bytes = bytes; endings = e; inside = inside }) env at (Err z) → r ≡ Err z
           → Learns p.functions (type_functions [] p.functions) r
       function_refused a h = stops (next_one ∙ sym (first_refused _ (refused_is (a body_case)))) h
 
@@ -124,13 +129,18 @@ module _ (bytes : Bor (List ℕ)) {p : Program} (P : ProgramIn bytes.now p) {f :
               ∙ ap (λ (b : Bool). is_qubit_at (slot typed.env.slots i) (param i) || b) (u.none (8 * f + i) (omega arith))
               ∙ or-false _
 
-          kept_next : (j i : ℕ) → j < f + 1 → i < (function p.functions j).m → Dec (j ≡ f) → has after.kept (8 * j + i) ≡ is_qubit_at (slot (signature one_more j).ends.slots i) (param i)
+          kept_next : (j i : ℕ) → j < f + 1 → i < (function p.functions j).m → Dec (j ≡ f)
+              → has after.kept (8 * j + i) ≡ is_qubit_at (slot (signature one_more j).ends.slots i) (param i)
           kept_next j i y b (yes c) =
-              subst (λ (j' : ℕ). i < (function p.functions j').m → has after.kept (8 * j' + i) ≡ is_qubit_at (slot (signature one_more j').ends.slots i) (param i)) (sym c)
+              subst
+              (λ (j' : ℕ). i < (function p.functions j').m
+              → has after.kept (8 * j' + i) ≡ is_qubit_at (slot (signature one_more j').ends.slots i) (param i))
+              (sym c)
               (λ z. kept_last i z ∙ ap (λ (x : Signature). is_qubit_at (slot x.ends.slots i) (param i)) (sym last_is)) b
           kept_next j i y b (no c) =
               let z = (P.head j (omega arith)).1 in
-              g.lower (8 * j + i) (omega arith) ∙ u.kept j i (omega arith) b ∙ ap (λ (x : Signature). is_qubit_at (slot x.ends.slots i) (param i)) (sym (lower_is j (omega arith)))
+              g.lower (8 * j + i) (omega arith) ∙ u.kept j i (omega arith) b
+              ∙ ap (λ (x : Signature). is_qubit_at (slot x.ends.slots i) (param i)) (sym (lower_is j (omega arith)))
 
           pub upto_one : Upto p.functions (f + 1) after
           upto_one = record {
@@ -142,5 +152,6 @@ module _ (bytes : Bor (List ℕ)) {p : Program} (P : ProgramIn bytes.now p) {f :
             none = λ y c. g.higher y (omega (arith, most, w)) ∙ u.none y (omega arith);
           }
 
-  pub upto_all : length p.functions ≤ f → f ≤ length p.functions → {r : Result Endings Refusal} → r ≡ Ok e → Learns p.functions (type_functions [] p.functions) r
+  pub upto_all : length p.functions ≤ f → f ≤ length p.functions → {r : Result Endings Refusal} → r ≡ Ok e
+      → Learns p.functions (type_functions [] p.functions) r
   upto_all l k h = learns (u.so ∙ rw (drop_of_length-le p.functions l)) h (known_main (omega arith))

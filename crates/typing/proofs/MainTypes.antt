@@ -39,7 +39,9 @@ pub record Knew (fs : List Function) (m : Check (List Signature)) (e : Endings) 
   pub knows : Knows e (main_scope fs) gs
 
 pub knew : {fs : List Function} {m : Check (List Signature)} {e : Endings} → Learns fs m (Ok e) → Knew fs m e
-knew {fs} {e = e} (learns {gs = gs} {e = f} h k n) = let same : e ≡ f = cc in record { gs = gs; gives = sym h; knows = subst (λ (x : Endings). Knows x (main_scope fs) gs) (sym same) n }
+knew {fs} {e = e} (learns {gs = gs} {e = f} h k n) =
+    let same : e ≡ f = cc in
+    record { gs = gs; gives = sym h; knows = subst (λ (x : Endings). Knows x (main_scope fs) gs) (sym same) n }
 knew (stops h k) = let z : ◌≡◌ {A = ℕ} 0 1 = cc in absurd (omega arith)
 
 not_learnt : {fs : List Function} {m : Check (List Signature)} {z : Refusal} → Learns fs m (Err z) → refused z ≡ m

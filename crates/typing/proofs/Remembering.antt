@@ -21,7 +21,8 @@ use Rattle.typing.specs.Functions.{Remembers}
 use Rattle.typing.proofs.EqualEnvs.{same as same_slot}
 
 -- the test of one argument: the slot holds the qubit with the argument's own number
-pub argument_kept : {n : ℕ} {env : Env} {Γ : Environment parameter} → EnvIs n env Γ → (i : ℕ) → i < 32 → same_slot (slot_of env i) (Qubit i) ≡ is_qubit_at (slot Γ.slots i) (param i)
+pub argument_kept : {n : ℕ} {env : Env} {Γ : Environment parameter} → EnvIs n env Γ → (i : ℕ) → i < 32
+    → same_slot (slot_of env i) (Qubit i) ≡ is_qubit_at (slot Γ.slots i) (param i)
 argument_kept {env = env} {Γ} is i h = go (slot_of env i) ∙ ap (λ (v : Kind parameter). is_qubit_at v (param i)) (sym (is.slots i h))
   where
     go : (v : Slot) → same_slot v (Qubit i) ≡ is_qubit_at (kind_of parameter v) (param i)
@@ -33,12 +34,14 @@ argument_kept {env = env} {Γ} is i h = go (slot_of env i) ∙ ap (λ (v : Kind 
 pub remembers_none : (e : Endings) (f : ℕ) (env : Env) → Remembers e f 0 env e
 remembers_none e f env = record { lower = λ y l. refl; higher = λ y l. refl; its = λ n Γ is i l. absurd (omega arith) }
 
-module _ {e : Endings} {f i : ℕ} {env : Env} {a : LocationSet} (b : LocationSet) (r : Remembers e f i env (record { kept = a })) (q : Bool) (kind : (n : ℕ) (Γ : Environment parameter) → EnvIs n env Γ → q ≡ is_qubit_at (slot Γ.slots i) (param i))
+module _ {e : Endings} {f i : ℕ} {env : Env} {a : LocationSet} (b : LocationSet) (r : Remembers e f i env (record { kept = a })) (q : Bool)
+    (kind : (n : ℕ) (Γ : Environment parameter) → EnvIs n env Γ → q ≡ is_qubit_at (slot Γ.slots i) (param i))
     (add : (y : ℕ) → has b y ≡ ((q && eqb y (8 * f + i)) || has a y)) where
   other : (y : ℕ) → (y ≡ 8 * f + i → ⊥) → has b y ≡ has a y
   other y h = add y ∙ rw (ne_eqb y (8 * f + i) h, and-false q)
 
-  here : (n : ℕ) (Γ : Environment parameter) → EnvIs n env Γ → (j : ℕ) → Dec (j ≡ i) → j < i + 1 → has b (8 * f + j) ≡ (is_qubit_at (slot Γ.slots j) (param j) || has e.kept (8 * f + j))
+  here : (n : ℕ) (Γ : Environment parameter) → EnvIs n env Γ → (j : ℕ) → Dec (j ≡ i) → j < i + 1
+      → has b (8 * f + j) ≡ (is_qubit_at (slot Γ.slots j) (param j) || has e.kept (8 * f + j))
   here n Γ is j (yes h) l =
       subst (λ (k : ℕ). has b (8 * f + k) ≡ (is_qubit_at (slot Γ.slots k) (param k) || has e.kept (8 * f + k))) (sym h)
       (add (8 * f + i) ∙ rw (eq-eqb (8 * f + i) (8 * f + i) refl, and-true q, kind n Γ is, r.higher (8 * f + i) (omega arith)))

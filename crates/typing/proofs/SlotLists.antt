@@ -42,5 +42,6 @@ module _ (d : Side) where
   one_more : (v : Slot) (vs : List Slot) → live_in_slots (v ∷ vs) ≡ cond (holds_qubit v) (1 + live_in_slots vs) (live_in_slots vs)
   one_more v vs = counted (not (holds_no_qubit (kind_of d v))) (live_in_slots vs) ∙ rw (qubit_lives d v)
 
-pub live_is : {d : Side} {n : ℕ} {e : Env} {Γ : Environment d} → EnvIs n e Γ → count_by holds_qubit e.slots ≡ how_many (λ (w : Kind d). not (holds_no_qubit w)) Γ.slots
+pub live_is : {d : Side} {n : ℕ} {e : Env} {Γ : Environment d} → EnvIs n e Γ
+    → count_by holds_qubit e.slots ≡ how_many (λ (w : Kind d). not (holds_no_qubit w)) Γ.slots
 live_is {d} {e = e} is = rw (slots_are is) (sym (is_count_by (live_in_slots d) holds_qubit refl (one_more d) e.slots))

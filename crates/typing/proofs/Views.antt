@@ -9,11 +9,13 @@ use lib.ListN.{get_or, length}
 use Rattle.rules.specs.declared.statements.Kind.{Kind}
 use Rattle.rules.specs.declared.statements.Kind.TheVariants.{Init, Magic}
 use Rattle.rules.specs.Basics.{up_to, byte}
-use Rattle.rules.specs.Syntax.{Side, Preparation, plain, magic, init, free, gate, measure, merge, new_ref, get_ref, set_ref, constant, Statement, op, if, while, call, Block, function}
+use Rattle.rules.specs.Syntax.{Side, Preparation, plain, magic, init, free, gate, measure, merge, new_ref}
+use Rattle.rules.specs.Syntax.{get_ref, set_ref, constant, Statement, op, if, while, call, Block, function}
 use Rattle.rules.specs.Kinds.{byte_of}
 use Rattle.rules.specs.Program.{Scope}
 use Rattle.rules.specs.Table.{size_of}
-use Rattle.program.specs.In.{BlockIn, View, is_init, is_magic, is_free, is_gate, is_measure, is_merge, is_new, is_get, is_set, is_if, is_while, is_call, is_bool}
+use Rattle.program.specs.In.{BlockIn, View, is_init, is_magic, is_free, is_gate, is_measure}
+use Rattle.program.specs.In.{is_merge, is_new, is_get, is_set, is_if, is_while, is_call, is_bool}
 
 module _ {d : Side} (s : List ℕ) (S : Scope) (depths at : ℕ) (t : Statement d) (p : ℕ) where
   abbrev b : ℕ → ℕ
@@ -86,7 +88,8 @@ module _ {d : Side} (s : List ℕ) (S : Scope) (depths at : ℕ) where
   shape_of (is_call e l f k m ls xs) = here _ _ 12 e (record { fits = l; callee = f; k = k; m = m; slots = xs; is = refl; next = refl })
   shape_of (is_bool e l y v) = here _ _ 13 e (l, y, refl, refl)
 
-pub shape_at : {d : Side} {s : List ℕ} {S : Scope} {depths at : ℕ} {t : Statement d} {p : ℕ} (n : ℕ) → View s S depths at t p → byte s at ≡ n → Shape s S depths at t p n
+pub shape_at : {d : Side} {s : List ℕ} {S : Scope} {depths at : ℕ} {t : Statement d} {p : ℕ} (n : ℕ) → View s S depths at t p → byte s at ≡ n
+    → Shape s S depths at t p n
 shape_at {s = s} {S} {depths} {at} {t} {p} n v e = subst (λ (i : ℕ). Shape s S depths at t p i) e (shape_of s S depths at v)
 
 -- the shape of a kind, by what a match on it says

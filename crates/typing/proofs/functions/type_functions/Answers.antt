@@ -33,8 +33,8 @@ returns-in_err-typed c =
     let f = c.loop-f.f in
     let e = c.head-head.ensures in
     let one : f < length p.functions = omega (arith, T.count, c.loop-f-test.true) in
-    function_refused c.args.s P (c.loop-f.invariant p P T) one (ap k e ∙ T.ks f) (ap m e ∙ T.ms f) (ap at e ∙ T.bodies f one) _ c.first.ensures c.entered-entry.ensures
-    c.in_err-typed.ensures (passed_as _ c.from_residual.ensures.1)
+    function_refused c.args.s P (c.loop-f.invariant p P T) one (ap k e ∙ T.ks f) (ap m e ∙ T.ms f) (ap at e ∙ T.bodies f one) _
+    c.first.ensures c.entered-entry.ensures c.in_err-typed.ensures (passed_as _ c.from_residual.ensures.1)
 
 pub loop-f-preserved : goal.loop-f-preserved
 loop-f-preserved c =

@@ -1,7 +1,7 @@
 -- Every arm of a statement has the statement of its kind, with its operands' bounds; the operation answers for it.
 use mathlib.Core.Path.{refl, ◌∙◌}
 use native.Mathlib.Omega.{arith}
-use Prim.Native.Nat.{◌+◌}
+use Prim.Native.Nat.{ℕ, ◌+◌}
 use lib.Dec.{eqb}
 use Rattle.answers.proofs.Passed.{passed_as}
 use Rattle.rules.specs.declared.statements.Kind.TheVariants.{Free, Gate, Measure, Merge, Ref, Get, Set, Bool}
@@ -37,13 +37,19 @@ pub type_statements-loop-typed-init : goal.type_statements-loop-typed-init
 type_statements-loop-typed-init t c = (omega arith, omega arith, λ b. start b _ (omega arith))
 
 pub type_statements-type_statement-requires : goal.type_statements-type_statement-requires
-type_statements-type_statement-requires t c = let k = block_end c.requires in (omega arith, statement_case c.requires _ (c.loop-typed.invariant.2 c.requires) c.loop-typed-test.true)
+type_statements-type_statement-requires t c =
+    let k = block_end c.requires in
+    (omega arith, statement_case c.requires _ (c.loop-typed.invariant.2 c.requires) c.loop-typed-test.true)
 
 pub type_statements-returns-in_err-typed : goal.type_statements-returns-in_err-typed
-type_statements-returns-in_err-typed t c = λ b. stops b _ (c.loop-typed.invariant.2 b) c.loop-typed-test.true c.in_err-typed.ensures (passed_as _ c.from_residual.ensures.1)
+type_statements-returns-in_err-typed t c =
+    λ b.
+    stops b _ (c.loop-typed.invariant.2 b) c.loop-typed-test.true c.in_err-typed.ensures (passed_as _ c.from_residual.ensures.1)
 
 pub type_statements-loop-typed-smaller : goal.type_statements-loop-typed-smaller
-type_statements-loop-typed-smaller t c = let k = moves c.requires _ (c.loop-typed.invariant.2 c.requires) c.loop-typed-test.true c.in_ok-typed.ensures in omega arith
+type_statements-loop-typed-smaller t c =
+    let k = moves c.requires _ (c.loop-typed.invariant.2 c.requires) c.loop-typed-test.true c.in_ok-typed.ensures in
+    omega arith
 
 pub type_statements-loop-typed-preserved : goal.type_statements-loop-typed-preserved
 type_statements-loop-typed-preserved t c =
@@ -66,13 +72,19 @@ pub type_if-overflow_add-at-2 : goal.type_if-overflow_add-at-2
 type_if-overflow_add-at-2 t c = let v = an_if c.requires.stands c.requires.starts in omega arith
 
 pub type_if-returns-in_err-need_bool : goal.type_if-returns-in_err-need_bool
-type_if-returns-in_err-need_bool t c = λ u. if_no u c.requires.starts (c.in_err-need_bool.ensures u.side u.places u.entry u.is) (passed_as _ c.from_residual.ensures.1)
+type_if-returns-in_err-need_bool t c =
+    λ u.
+    let bool = c.in_err-need_bool.ensures u.side u.places u.entry u.is in
+    if_no u c.requires.starts bool (passed_as _ c.from_residual.ensures.1)
 
 pub type_if-type_block-requires : goal.type_if-type_block-requires
 type_if-type_block-requires t c = let v = an_if c.requires.stands c.requires.starts in (omega arith, then_case c.requires.stands c.requires.starts)
 
 pub type_if-returns-in_err-first : goal.type_if-returns-in_err-first
-type_if-returns-in_err-first t c = λ u. if_stops u c.requires.starts (c.in_ok-need_bool.ensures u.side u.places u.entry u.is) c.in_err-first.ensures (passed_as _ c.from_residual-in_err-first.ensures.1)
+type_if-returns-in_err-first t c =
+    λ u.
+    let bool = c.in_ok-need_bool.ensures u.side u.places u.entry u.is in
+    if_stops u c.requires.starts bool c.in_err-first.ensures (passed_as _ c.from_residual-in_err-first.ensures.1)
 
 pub type_if-type_block-requires-2 : goal.type_if-type_block-requires-2
 type_if-type_block-requires-2 t c =
@@ -84,17 +96,20 @@ type_if-type_block-requires-2 t c =
 pub type_if-returns-in_err-second : goal.type_if-returns-in_err-second
 type_if-returns-in_err-second t c =
     λ u.
-    else_stops u c.requires.starts (c.in_ok-need_bool.ensures u.side u.places u.entry u.is) c.in_ok-first.ensures c.in_err-second.ensures (passed_as _ c.from_residual-in_err-second.ensures.1)
+    let bool = c.in_ok-need_bool.ensures u.side u.places u.entry u.is in
+    else_stops u c.requires.starts bool c.in_ok-first.ensures c.in_err-second.ensures (passed_as _ c.from_residual-in_err-second.ensures.1)
 
 pub type_if-returns-then-not-same : goal.type_if-returns-then-not-same
 type_if-returns-then-not-same t c =
     λ u.
-    if_differs u c.requires.starts (c.in_ok-need_bool.ensures u.side u.places u.entry u.is) c.in_ok-first.ensures c.in_ok-second.ensures c.same.ensures c.at.ensures c.if-not-same.true
+    let bool = c.in_ok-need_bool.ensures u.side u.places u.entry u.is in
+    if_differs u c.requires.starts bool c.in_ok-first.ensures c.in_ok-second.ensures c.same.ensures c.at.ensures c.if-not-same.true
 
 pub type_if-returns : goal.type_if-returns
 type_if-returns t c =
     λ u.
-    if_joins u c.requires.starts (c.in_ok-need_bool.ensures u.side u.places u.entry u.is) c.in_ok-first.ensures c.in_ok-second.ensures c.same.ensures refl refl c.if-not-same.false
+    let bool = c.in_ok-need_bool.ensures u.side u.places u.entry u.is in
+    if_joins u c.requires.starts bool c.in_ok-first.ensures c.in_ok-second.ensures c.same.ensures refl refl c.if-not-same.false
 
 pub type_while-bounds-self-at : goal.type_while-bounds-self-at
 type_while-bounds-self-at t c = let v = a_while c.requires.stands c.requires.starts in omega arith
@@ -106,23 +121,33 @@ pub type_while-overflow_add-at : goal.type_while-overflow_add-at
 type_while-overflow_add-at t c = let v = a_while c.requires.stands c.requires.starts in omega arith
 
 pub type_while-returns-in_err-need_reference : goal.type_while-returns-in_err-need_reference
-type_while-returns-in_err-need_reference t c = λ u. while_no u c.requires.starts (c.in_err-need_reference.ensures u.side u.places u.entry u.is) (passed_as _ c.from_residual.ensures.1)
+type_while-returns-in_err-need_reference t c =
+    λ u.
+    let reference = c.in_err-need_reference.ensures u.side u.places u.entry u.is in
+    while_no u c.requires.starts reference (passed_as _ c.from_residual.ensures.1)
 
 pub type_while-type_block-requires : goal.type_while-type_block-requires
-type_while-type_block-requires t c = let v = a_while c.requires.stands c.requires.starts in (omega arith, body_case c.requires.stands c.requires.starts)
+type_while-type_block-requires t c =
+    let v = a_while c.requires.stands c.requires.starts in
+    (omega arith, body_case c.requires.stands c.requires.starts)
 
 pub type_while-returns-in_err-body : goal.type_while-returns-in_err-body
-type_while-returns-in_err-body t c = λ u. while_stops u c.requires.starts (c.in_ok-need_reference.ensures u.side u.places u.entry u.is) c.in_err-body.ensures (passed_as _ c.from_residual-in_err-body.ensures.1)
+type_while-returns-in_err-body t c =
+    λ u.
+    let reference = c.in_ok-need_reference.ensures u.side u.places u.entry u.is in
+    while_stops u c.requires.starts reference c.in_err-body.ensures (passed_as _ c.from_residual-in_err-body.ensures.1)
 
 pub type_while-returns-then-not-same : goal.type_while-returns-then-not-same
 type_while-returns-then-not-same t c =
     λ u.
-    while_changes u c.requires.starts (c.in_ok-need_reference.ensures u.side u.places u.entry u.is) c.in_ok-body.ensures c.same.ensures c.at.ensures c.if-not-same.true
+    let reference = c.in_ok-need_reference.ensures u.side u.places u.entry u.is in
+    while_changes u c.requires.starts reference c.in_ok-body.ensures c.same.ensures c.at.ensures c.if-not-same.true
 
 pub type_while-returns : goal.type_while-returns
 type_while-returns t c =
     λ u.
-    while_again u c.requires.starts (c.in_ok-need_reference.ensures u.side u.places u.entry u.is) c.in_ok-body.ensures c.same.ensures refl refl c.if-not-same.false
+    let reference = c.in_ok-need_reference.ensures u.side u.places u.entry u.is in
+    while_again u c.requires.starts reference c.in_ok-body.ensures c.same.ensures refl refl c.if-not-same.false
 
 pub type_statement-bounds-s-at : goal.type_statement-bounds-s-at
 type_statement-bounds-s-at t c = let y = statement_byte c.requires.stands in omega arith
@@ -143,13 +168,19 @@ pub type_statement-gate-requires : goal.type_statement-gate-requires
 type_statement-gate-requires t c = let v = of_kind Gate (statement_view c.requires.stands) c.known-kind.ensures c.in-Gate.is in omega arith
 
 pub type_statement-bounds-s-at-in-Measure : goal.type_statement-bounds-s-at-in-Measure
-type_statement-bounds-s-at-in-Measure t c = let v = of_kind Measure (statement_view c.requires.stands) c.known-kind.ensures c.in-Measure.is in omega arith
+type_statement-bounds-s-at-in-Measure t c =
+    let v = of_kind Measure (statement_view c.requires.stands) c.known-kind.ensures c.in-Measure.is in
+    omega arith
 
 pub type_statement-bounds-s-at-in-Measure-2 : goal.type_statement-bounds-s-at-in-Measure-2
-type_statement-bounds-s-at-in-Measure-2 t c = let v = of_kind Measure (statement_view c.requires.stands) c.known-kind.ensures c.in-Measure.is in omega arith
+type_statement-bounds-s-at-in-Measure-2 t c =
+    let v = of_kind Measure (statement_view c.requires.stands) c.known-kind.ensures c.in-Measure.is in
+    omega arith
 
 pub type_statement-measure-requires : goal.type_statement-measure-requires
-type_statement-measure-requires t c = let v = of_kind Measure (statement_view c.requires.stands) c.known-kind.ensures c.in-Measure.is in (omega arith, omega arith)
+type_statement-measure-requires t c =
+    let v = of_kind Measure (statement_view c.requires.stands) c.known-kind.ensures c.in-Measure.is in
+    (omega arith, omega arith)
 
 pub type_statement-bounds-s-at-in-Merge : goal.type_statement-bounds-s-at-in-Merge
 type_statement-bounds-s-at-in-Merge t c = let v = of_kind Merge (statement_view c.requires.stands) c.known-kind.ensures c.in-Merge.is in omega arith
@@ -161,7 +192,9 @@ pub type_statement-bounds-s-at-in-Merge-3 : goal.type_statement-bounds-s-at-in-M
 type_statement-bounds-s-at-in-Merge-3 t c = let v = of_kind Merge (statement_view c.requires.stands) c.known-kind.ensures c.in-Merge.is in omega arith
 
 pub type_statement-merge-requires : goal.type_statement-merge-requires
-type_statement-merge-requires t c = let v = of_kind Merge (statement_view c.requires.stands) c.known-kind.ensures c.in-Merge.is in (omega arith, omega arith, omega arith)
+type_statement-merge-requires t c =
+    let v = of_kind Merge (statement_view c.requires.stands) c.known-kind.ensures c.in-Merge.is in
+    (omega arith, omega arith, omega arith)
 
 pub type_statement-bounds-s-at-in-Ref : goal.type_statement-bounds-s-at-in-Ref
 type_statement-bounds-s-at-in-Ref t c = let v = of_kind Ref (statement_view c.requires.stands) c.known-kind.ensures c.in-Ref.is in omega arith
@@ -170,7 +203,9 @@ pub type_statement-bounds-s-at-in-Ref-2 : goal.type_statement-bounds-s-at-in-Ref
 type_statement-bounds-s-at-in-Ref-2 t c = let v = of_kind Ref (statement_view c.requires.stands) c.known-kind.ensures c.in-Ref.is in omega arith
 
 pub type_statement-new_reference-requires : goal.type_statement-new_reference-requires
-type_statement-new_reference-requires t c = let v = of_kind Ref (statement_view c.requires.stands) c.known-kind.ensures c.in-Ref.is in (omega arith, omega arith)
+type_statement-new_reference-requires t c =
+    let v = of_kind Ref (statement_view c.requires.stands) c.known-kind.ensures c.in-Ref.is in
+    (omega arith, omega arith)
 
 pub type_statement-bounds-s-at-in-Get : goal.type_statement-bounds-s-at-in-Get
 type_statement-bounds-s-at-in-Get t c = let v = of_kind Get (statement_view c.requires.stands) c.known-kind.ensures c.in-Get.is in omega arith
@@ -179,7 +214,9 @@ pub type_statement-bounds-s-at-in-Get-2 : goal.type_statement-bounds-s-at-in-Get
 type_statement-bounds-s-at-in-Get-2 t c = let v = of_kind Get (statement_view c.requires.stands) c.known-kind.ensures c.in-Get.is in omega arith
 
 pub type_statement-get_reference-requires : goal.type_statement-get_reference-requires
-type_statement-get_reference-requires t c = let v = of_kind Get (statement_view c.requires.stands) c.known-kind.ensures c.in-Get.is in (omega arith, omega arith)
+type_statement-get_reference-requires t c =
+    let v = of_kind Get (statement_view c.requires.stands) c.known-kind.ensures c.in-Get.is in
+    (omega arith, omega arith)
 
 pub type_statement-bounds-s-at-in-Set : goal.type_statement-bounds-s-at-in-Set
 type_statement-bounds-s-at-in-Set t c = let v = of_kind Set (statement_view c.requires.stands) c.known-kind.ensures c.in-Set.is in omega arith
@@ -188,7 +225,9 @@ pub type_statement-bounds-s-at-in-Set-2 : goal.type_statement-bounds-s-at-in-Set
 type_statement-bounds-s-at-in-Set-2 t c = let v = of_kind Set (statement_view c.requires.stands) c.known-kind.ensures c.in-Set.is in omega arith
 
 pub type_statement-set_reference-requires : goal.type_statement-set_reference-requires
-type_statement-set_reference-requires t c = let v = of_kind Set (statement_view c.requires.stands) c.known-kind.ensures c.in-Set.is in (omega arith, omega arith)
+type_statement-set_reference-requires t c =
+    let v = of_kind Set (statement_view c.requires.stands) c.known-kind.ensures c.in-Set.is in
+    (omega arith, omega arith)
 
 pub type_statement-bounds-s-at-in-Bool : goal.type_statement-bounds-s-at-in-Bool
 type_statement-bounds-s-at-in-Bool t c = let v = of_kind Bool (statement_view c.requires.stands) c.known-kind.ensures c.in-Bool.is in omega arith
@@ -199,50 +238,58 @@ type_statement-constant-requires t c = let v = of_kind Bool (statement_view c.re
 pub type_statement-returns-in-Free : goal.type_statement-returns-in-Free
 type_statement-returns-in-Free t c =
     λ u.
+    let b : ℕ → ℕ = λ n. byte c.args.self.now.bytes.now (c.args.at + n) in
     let v = of_kind Free (statement_view u.stands) c.known-kind.ensures c.in-Free.is in
-    performed u (λ d. free (byte c.args.self.now.bytes.now (c.args.at + 1))) c.free.ensures v.2 (v.3 ∙ sized Free c.args.at c.size.ensures.value c.in-Free.is)
+    performed u (λ d. free (b 1)) c.free.ensures v.2 (v.3 ∙ sized Free c.args.at c.size.ensures.value c.in-Free.is)
 
 pub type_statement-returns-in-Gate : goal.type_statement-returns-in-Gate
 type_statement-returns-in-Gate t c =
     λ u.
+    let b : ℕ → ℕ = λ n. byte c.args.self.now.bytes.now (c.args.at + n) in
     let v = of_kind Gate (statement_view u.stands) c.known-kind.ensures c.in-Gate.is in
-    performed u (λ d. gate (byte c.args.self.now.bytes.now (c.args.at + 1)) (byte c.args.self.now.bytes.now (c.args.at + 2))) (c.gate.ensures (byte c.args.self.now.bytes.now (c.args.at + 1))) v.2 (v.3 ∙ sized Gate c.args.at c.size.ensures.value c.in-Gate.is)
+    performed u (λ d. gate (b 1) (b 2)) (c.gate.ensures (b 1)) v.2 (v.3 ∙ sized Gate c.args.at c.size.ensures.value c.in-Gate.is)
 
 pub type_statement-returns-in-Measure : goal.type_statement-returns-in-Measure
 type_statement-returns-in-Measure t c =
     λ u.
+    let b : ℕ → ℕ = λ n. byte c.args.self.now.bytes.now (c.args.at + n) in
     let v = of_kind Measure (statement_view u.stands) c.known-kind.ensures c.in-Measure.is in
-    performed u (λ d. measure (byte c.args.self.now.bytes.now (c.args.at + 1)) (byte c.args.self.now.bytes.now (c.args.at + 2)) (byte c.args.self.now.bytes.now (c.args.at + 3))) (c.measure.ensures (byte c.args.self.now.bytes.now (c.args.at + 2))) v.3 (v.4 ∙ sized Measure c.args.at c.size.ensures.value c.in-Measure.is)
+    performed u (λ d. measure (b 1) (b 2) (b 3)) (c.measure.ensures (b 2)) v.3 (v.4 ∙ sized Measure c.args.at c.size.ensures.value c.in-Measure.is)
 
 pub type_statement-returns-in-Merge : goal.type_statement-returns-in-Merge
 type_statement-returns-in-Merge t c =
     λ u.
+    let b : ℕ → ℕ = λ n. byte c.args.self.now.bytes.now (c.args.at + n) in
     let v = of_kind Merge (statement_view u.stands) c.known-kind.ensures c.in-Merge.is in
-    performed u (λ d. merge (byte c.args.self.now.bytes.now (c.args.at + 1)) (byte c.args.self.now.bytes.now (c.args.at + 2)) (byte c.args.self.now.bytes.now (c.args.at + 3)) (byte c.args.self.now.bytes.now (c.args.at + 4)) (byte c.args.self.now.bytes.now (c.args.at + 5))) (c.merge.ensures (byte c.args.self.now.bytes.now (c.args.at + 2)) (byte c.args.self.now.bytes.now (c.args.at + 4))) v.4 (v.5 ∙ sized Merge c.args.at c.size.ensures.value c.in-Merge.is)
+    performed u (λ d. merge (b 1) (b 2) (b 3) (b 4) (b 5)) (c.merge.ensures (b 2) (b 4)) v.4 (v.5 ∙ sized Merge c.args.at c.size.ensures.value c.in-Merge.is)
 
 pub type_statement-returns-in-Ref : goal.type_statement-returns-in-Ref
 type_statement-returns-in-Ref t c =
     λ u.
+    let b : ℕ → ℕ = λ n. byte c.args.self.now.bytes.now (c.args.at + n) in
     let v = of_kind Ref (statement_view u.stands) c.known-kind.ensures c.in-Ref.is in
-    performed u (λ d. new_ref (byte c.args.self.now.bytes.now (c.args.at + 1)) (byte c.args.self.now.bytes.now (c.args.at + 2))) c.new_reference.ensures v.3 (v.4 ∙ sized Ref c.args.at c.size.ensures.value c.in-Ref.is)
+    performed u (λ d. new_ref (b 1) (b 2)) c.new_reference.ensures v.3 (v.4 ∙ sized Ref c.args.at c.size.ensures.value c.in-Ref.is)
 
 pub type_statement-returns-in-Get : goal.type_statement-returns-in-Get
 type_statement-returns-in-Get t c =
     λ u.
+    let b : ℕ → ℕ = λ n. byte c.args.self.now.bytes.now (c.args.at + n) in
     let v = of_kind Get (statement_view u.stands) c.known-kind.ensures c.in-Get.is in
-    performed u (λ d. get_ref (byte c.args.self.now.bytes.now (c.args.at + 1)) (byte c.args.self.now.bytes.now (c.args.at + 2))) c.get_reference.ensures v.3 (v.4 ∙ sized Get c.args.at c.size.ensures.value c.in-Get.is)
+    performed u (λ d. get_ref (b 1) (b 2)) c.get_reference.ensures v.3 (v.4 ∙ sized Get c.args.at c.size.ensures.value c.in-Get.is)
 
 pub type_statement-returns-in-Set : goal.type_statement-returns-in-Set
 type_statement-returns-in-Set t c =
     λ u.
+    let b : ℕ → ℕ = λ n. byte c.args.self.now.bytes.now (c.args.at + n) in
     let v = of_kind Set (statement_view u.stands) c.known-kind.ensures c.in-Set.is in
-    performed u (λ d. set_ref (byte c.args.self.now.bytes.now (c.args.at + 1)) (byte c.args.self.now.bytes.now (c.args.at + 2))) c.set_reference.ensures v.3 (v.4 ∙ sized Set c.args.at c.size.ensures.value c.in-Set.is)
+    performed u (λ d. set_ref (b 1) (b 2)) c.set_reference.ensures v.3 (v.4 ∙ sized Set c.args.at c.size.ensures.value c.in-Set.is)
 
 pub type_statement-returns-in-Bool : goal.type_statement-returns-in-Bool
 type_statement-returns-in-Bool t c =
     λ u.
+    let b : ℕ → ℕ = λ n. byte c.args.self.now.bytes.now (c.args.at + n) in
     let v = of_kind Bool (statement_view u.stands) c.known-kind.ensures c.in-Bool.is in
-    performed u (λ d. constant (byte c.args.self.now.bytes.now (c.args.at + 1)) (eqb (byte c.args.self.now.bytes.now (c.args.at + 2)) 1)) (c.constant.ensures (eqb (byte c.args.self.now.bytes.now (c.args.at + 2)) 1)) v.2 (v.3 ∙ sized Bool c.args.at c.size.ensures.value c.in-Bool.is)
+    performed u (λ d. constant (b 1) (eqb (b 2) 1)) (c.constant.ensures (eqb (b 2) 1)) v.2 (v.3 ∙ sized Bool c.args.at c.size.ensures.value c.in-Bool.is)
 
 pub type_statement-bounds-s-at-in-Init : goal.type_statement-bounds-s-at-in-Init
 type_statement-bounds-s-at-in-Init t c = let v = made (statement_view c.requires.stands) c.known-kind.ensures c.in-Init.is in omega arith
@@ -256,5 +303,6 @@ type_statement-init-requires t c = let v = made (statement_view c.requires.stand
 pub type_statement-returns-in-Init : goal.type_statement-returns-in-Init
 type_statement-returns-in-Init t c =
     λ u.
+    let b : ℕ → ℕ = λ n. byte c.args.self.now.bytes.now (c.args.at + n) in
     let v = made (statement_view u.stands) c.known-kind.ensures c.in-Init.is in
-    placed u (λ d. init v.0 (byte c.args.self.now.bytes.now (c.args.at + 1)) (record { no = byte c.args.self.now.bytes.now (c.args.at + 2) })) (c.init.ensures v.0) v.3 (v.4 ∙ made_sized c.args.at c.size.ensures.value c.in-Init.is)
+    placed u (λ d. init v.0 (b 1) (record { no = b 2 })) (c.init.ensures v.0) v.3 (v.4 ∙ made_sized c.args.at c.size.ensures.value c.in-Init.is)

@@ -7,7 +7,8 @@ use Rattle.sets.specs.Bytes.{all_apart}
 use Rattle.typing.proofs.CallLists.{inside_row, twice_row, free_row}
 use Rattle.typing.proofs.Rows.{then_gives, then_refused, need_yes, need_no}
 use Rattle.typing.proofs.calls.Call.need_callable.Goals as goal
-use Rattle.typing.proofs.calls.Call.need_callable.Goals.{then-not-no_repeat-via-then-not-no_repeat, then-not-no_repeat-via-else-not-no_repeat+then-not-no_repeat-2}
+use Rattle.typing.proofs.calls.Call.need_callable.Goals.{then-not-no_repeat-via-then-not-no_repeat}
+use Rattle.typing.proofs.calls.Call.need_callable.Goals.{then-not-no_repeat-via-else-not-no_repeat+then-not-no_repeat-2}
 
 pub returns-then-not-all_in : goal.returns-then-not-all_in
 returns-then-not-all_in c =
@@ -21,9 +22,11 @@ returns-then-not-no_repeat c =
     let twice : (all_apart c.args.self.now.places.now && all_apart c.args.self.now.slots.now) ≡ false =
     elim c.then-not-no_repeat.branch [
       | then-not-no_repeat-via-then-not-no_repeat v ↦ rw (sym c.no_repeat.ensures ∙ v.if-not-no_repeat.true)
-      | then-not-no_repeat-via-else-not-no_repeat+then-not-no_repeat-2 v ↦ rw (sym v.no_repeat-else-not-no_repeat.ensures ∙ v.if-not-no_repeat-2.true) (and-false _)
+      | then-not-no_repeat-via-else-not-no_repeat+then-not-no_repeat-2 v ↦
+          rw (sym v.no_repeat-else-not-no_repeat.ensures ∙ v.if-not-no_repeat-2.true) (and-false _)
     ] in
-    then_gives (need_yes 13 _ in_all) (then_refused _ (need_no 15 _ c.at-then-not-no_repeat.ensures (twice_row d c.args.self.now.places.now c.args.self.now.slots.now ∙ twice)))
+    let rows = twice_row d c.args.self.now.places.now c.args.self.now.slots.now in
+    then_gives (need_yes 13 _ in_all) (then_refused _ (need_no 15 _ c.at-then-not-no_repeat.ensures (rows ∙ twice)))
 
 pub returns-in_err-need_arguments : goal.returns-in_err-need_arguments
 returns-in_err-need_arguments c =

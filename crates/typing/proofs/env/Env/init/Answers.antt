@@ -14,17 +14,22 @@ returns-in_err-need_unbound c =
 pub returns-then-not-contains : goal.returns-then-not-contains
 returns-then-not-contains c =
     λ q d n C Γ w is.
-    refuses_as (first_refused _ (then_gives (c.in_ok-need_unbound.ensures d n Γ is) (then_refused _ (need_no 13 _ c.at.ensures (w.same _ ∙ sym c.contains.ensures ∙ c.if-not-contains.true)))))
+    let outside = need_no 13 _ c.at.ensures (w.same _ ∙ sym c.contains.ensures ∙ c.if-not-contains.true) in
+    refuses_as (first_refused _ (then_gives (c.in_ok-need_unbound.ensures d n Γ is) (then_refused _ outside)))
 
 pub returns-then-not-contains-2 : goal.returns-then-not-contains-2
 returns-then-not-contains-2 c =
     λ q d n C Γ w is.
-    refuses_as
-    (first_refused _
-    (then_gives (c.in_ok-need_unbound.ensures d n Γ is) (then_gives (need_yes 13 _ (w.same _ ∙ sym c.contains.ensures ∙ c.if-not-contains.false)) (then_refused _ (need_no 14 _ c.at-then-not-contains-2.ensures (is.free _ ∙ sym c.contains-2.ensures ∙ c.if-not-contains-2.true))))))
+    let inside = need_yes 13 _ (w.same _ ∙ sym c.contains.ensures ∙ c.if-not-contains.false) in
+    let taken = need_no 14 _ c.at-then-not-contains-2.ensures (is.free _ ∙ sym c.contains-2.ensures ∙ c.if-not-contains-2.true) in
+    refuses_as (first_refused _ (then_gives (c.in_ok-need_unbound.ensures d n Γ is) (then_gives inside (then_refused _ taken))))
 
 pub returns : goal.returns
 returns c =
     λ q d n C Γ w is.
-    accepts (first_gives _ (then_gives (c.in_ok-need_unbound.ensures d n Γ is) (then_gives (need_yes 13 _ (w.same _ ∙ sym c.contains.ensures ∙ c.if-not-contains.false)) (then_gives (need_yes 14 _ (is.free _ ∙ sym c.contains-2.ensures ∙ c.if-not-contains-2.false)) refl))) refl) refl
-    (take_is (bound_qubit is _ c.requires _ c.bind.ensures _ refl (w.few _ (sym c.contains.ensures ∙ c.if-not-contains.false))) _ c.take-env.ensures.slots _ (w.few _ (sym c.contains.ensures ∙ c.if-not-contains.false)) c.take-env.ensures.free)
+    let inside = need_yes 13 _ (w.same _ ∙ sym c.contains.ensures ∙ c.if-not-contains.false) in
+    let free = need_yes 14 _ (is.free _ ∙ sym c.contains-2.ensures ∙ c.if-not-contains-2.false) in
+    let place = w.few _ (sym c.contains.ensures ∙ c.if-not-contains.false) in
+    let bound = bound_qubit is _ c.requires _ c.bind.ensures _ refl place in
+    accepts (first_gives _ (then_gives (c.in_ok-need_unbound.ensures d n Γ is) (then_gives inside (then_gives free refl))) refl) refl
+    (take_is bound _ c.take-env.ensures.slots _ place c.take-env.ensures.free)

@@ -22,16 +22,26 @@ returns-in_err-need_qubit c =
 pub returns-in_err-need_qubit-2 : goal.returns-in_err-need_qubit-2
 returns-in_err-need_qubit-2 c =
     λ b e d n C Γ is.
-    refuses (first_refused _ (then_gives (c.in_ok-need_unbound.ensures d n Γ is) (first_gives _ (c.in_ok-need_qubit.ensures.place d n Γ is) (first_refused _ (c.in_err-need_qubit-2.ensures.place d n Γ is)))))
+    let unbound = c.in_ok-need_unbound.ensures d n Γ is in
+    let one = c.in_ok-need_qubit.ensures.place d n Γ is in
+    refuses (first_refused _ (then_gives unbound (first_gives _ one (first_refused _ (c.in_err-need_qubit-2.ensures.place d n Γ is)))))
     (passed_as _ c.from_residual-in_err-need_qubit-2.ensures.1)
 
 pub returns-then-x-z : goal.returns-then-x-z
 returns-then-x-z c =
     λ b e d n C Γ is.
-    refuses_as (first_refused _ (then_gives (c.in_ok-need_unbound.ensures d n Γ is) (first_gives _ (c.in_ok-need_qubit.ensures.place d n Γ is) (first_gives _ (c.in_ok-need_qubit-2.ensures.place d n Γ is) (then_refused _ (need_no 15 _ c.at.ensures (ap not (eq-eqb _ _ c.if-x-z.true))))))))
+    let unbound = c.in_ok-need_unbound.ensures d n Γ is in
+    let one = c.in_ok-need_qubit.ensures.place d n Γ is in
+    let two = c.in_ok-need_qubit-2.ensures.place d n Γ is in
+    let twice = need_no 15 _ c.at.ensures (ap not (eq-eqb _ _ c.if-x-z.true)) in
+    refuses_as (first_refused _ (then_gives unbound (first_gives _ one (first_gives _ two (then_refused _ twice)))))
 
 pub returns : goal.returns
 returns c =
     λ b e d n C Γ is.
-    accepts (first_gives _ (then_gives (c.in_ok-need_unbound.ensures d n Γ is) (first_gives _ (c.in_ok-need_qubit.ensures.place d n Γ is) (first_gives _ (c.in_ok-need_qubit-2.ensures.place d n Γ is) (then_gives (need_yes 15 _ (ap not (ne_eqb _ _ c.if-x-z.false))) refl)))) refl) refl
+    let unbound = c.in_ok-need_unbound.ensures d n Γ is in
+    let one = c.in_ok-need_qubit.ensures.place d n Γ is in
+    let two = c.in_ok-need_qubit-2.ensures.place d n Γ is in
+    let apart = need_yes 15 _ (ap not (ne_eqb _ _ c.if-x-z.false)) in
+    accepts (first_gives _ (then_gives unbound (first_gives _ one (first_gives _ two (then_gives apart refl)))) refl) refl
     (bound_is is _ c.requires.0 _ c.bind-env.ensures refl)

@@ -1,12 +1,13 @@
-mod Sets
-mod Follow
-mod Whole
-mod NameLaws
-mod QuietLaws
-mod Views
-mod Ends
-mod Steps
-mod Arms
-mod Inner
-mod QuietRuns
-mod Main
+pub mod Sets
+pub mod Follow
+pub mod Whole
+pub mod Bytes
+pub mod Views
+pub mod Ends
+pub mod NameLaws
+pub mod QuietLaws
+pub mod Steps
+pub mod Arms
+pub mod Inner
+pub mod QuietRuns
+pub mod Main

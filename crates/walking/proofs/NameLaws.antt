@@ -1,5 +1,4 @@
 -- Arrays of locations that a loop fills from the front: what is filled stays, and the rest is as it was.
-use mathlib.Core.Bool.{false}
 use mathlib.Core.List.{List}
 use mathlib.Core.Path.{◌≡◌, refl, ◌∙◌}
 use native.Mathlib.Decide.{ℕ_discrete}
@@ -7,7 +6,7 @@ use native.Mathlib.Omega.{arith}
 use Prim.Native.Nat.{ℕ, zero, suc, ◌+◌, ◌≤◌, ◌<◌}
 use lib.ListN.{set, length, replicate}
 use lib.Seq.{get_or-set_same, get_or-set_other}
-use Rattle.walking.specs.Stands.{Names, placed, named}
+use Rattle.walking.specs.Names.{placed}
 
 pub none_placed : (n j : ℕ) → placed (replicate n 0) j ≡ 0
 none_placed zero j = refl
@@ -25,7 +24,3 @@ filled f v i l r e h j k = go (ℕ_discrete j i)
 -- the rest is as it was
 pub unfilled : (f : List ℕ) (v : ℕ → ℕ) (i l : ℕ) → ((j : ℕ) → i ≤ j → placed f j ≡ v j) → (j : ℕ) → i + 1 ≤ j → placed (set f i l) j ≡ v j
 unfilled f v i l h j k = get_or-set_other f i j l 0 (λ e. omega arith) ∙ h j (omega arith)
-
--- in a function a place is the location that the call named
-pub in_function : (n : Names) (b b' : ℕ) → n.main ≡ false → b ≡ b' → placed n.at b ≡ named n b'
-in_function n b b' h e = rw (h, e)

@@ -5,58 +5,67 @@ use mathlib.Core.Path.{◌≡◌, sym, subst}
 use native.Mathlib.Decide.{dec_lt}
 use native.Mathlib.Omega.{arith}
 use Prim.Native.Nat.{ℕ, ◌+◌, ◌<◌, ◌≤◌}
-use lib.ListN.{length}
 use Rattle.rules.specs.Basics.{word}
 use Rattle.sets.specs.declared.LocationSet.{LocationSet}
 use Rattle.program.proofs.In.{statement_view, statements_next}
-use Rattle.walking.specs.Quiet.{Quiet, none, operation, call, Skips, Stepped}
-use Rattle.walking.specs.Stands.{Names, BlockAt, StatementsAt}
+use Rattle.walking.specs.Quiet.{Run, none, operation, call, Steps}
+use Rattle.walking.specs.declared.walk.Walk.{Walk}
+use Rattle.walking.specs.Names.{Names}
+use Rattle.walking.specs.Stands.{standing, BlockAt, StatementAt, StatementsAt}
+use Rattle.answers.specs.Check.{ok}
 use Rattle.walking.proofs.Views.{view_size, view_call}
-use Rattle.walking.proofs.QuietLaws.{quiet_rises, stepped_bounds}
-use Rattle.walking.proofs.Steps.{statements_of, Left, left_on, statement_in, Rest, Turn}
+use Rattle.walking.proofs.QuietLaws.{run_rises, stepped_bounds}
+use Rattle.walking.proofs.Steps.{Gives, statements_of, Left, left_on, statement_in, Rest, rest_on, turn}
 use Rattle.walking.proofs.Arms.{on_quiet}
 use Rattle.walking.proofs.Inner.{call_quiet}
 
-module _ (s bodies quiet rows : List ℕ) (g : ℕ) (n : Names) (from stop : ℕ) (f₀ : List ℕ) (F₀ : LocationSet) (b : StatementsAt s bodies quiet g n from stop) (f : List ℕ) (F : LocationSet) where
+module _ {w : Walk} {g : ℕ} {n : Names} {from stop : ℕ} (f₀ : List ℕ) (F₀ : LocationSet) (b : StatementsAt w g n from stop) (f : List ℕ) (F : LocationSet) where
   abbrev Here : ℕ → Type 0
-  Here p = Left s bodies quiet rows g n from stop f₀ F₀ b p f F
+  Here p = Left w g n from stop f₀ F₀ b p f F
 
   -- at or past the block's end the step stays
   stays : {p q r : ℕ} → (p < stop → ⊥) → p ≤ stop → p ≤ q → (stop ≤ q → r ≡ stop) → Here p → Here r
   stays {p} {q} {r} d l a o H = let e : p ≡ r = omega (arith, o (omega (arith, d, a))) in subst Here e H
 
-  run_left : {p q r : ℕ} → Quiet s b.counts p q → Dec (p < stop) → p ≤ stop → (q < stop → r ≡ q) → (stop ≤ q → r ≡ stop) → Here p → Here r
+  run_left : {p q r : ℕ} → Run w.bytes.now b.counts p q → Dec (p < stop) → p ≤ stop → (q < stop → r ≡ q) → (stop ≤ q → r ≡ stop) → Here p → Here r
   run_left none (yes h) l i o H = subst Here (sym (i h)) H
   run_left none (no d) l i o H = stays d l (omega arith) o H
   run_left (operation z k) (yes h) l i o H =
-      let t = statement_in s bodies quiet rows g n from stop f₀ F₀ b H h in
+      let t = statement_in b H h in
       let e = view_size (statement_view t.stands) z in
-      run_left k (dec_lt _ stop) (omega (arith, e, (statements_next H.stands h).7)) i o
-      (left_on s bodies quiet rows g n from stop f₀ F₀ b H _ f F h (sym e) λ R W σ O. on_quiet f F t R W σ O (omega (arith, z.above)) (λ w. omega (arith, w, z.above)) z.no_merge z.no_inner)
-  run_left (operation z k) (no d) l i o H = stays d l (omega (arith, quiet_rises k)) o H
+      run_left k (dec_lt _ stop) (omega (arith, e, (statements_next H.stands h).7)) i o (left_on H h (sym e) λ R W σ O. (on_quiet z).gives t R W σ O)
+  run_left (operation z k) (no d) l i o H = stays d l (omega (arith, run_rises k)) o H
   run_left (call c z k) (yes h) l i o H =
-      let t = statement_in s bodies quiet rows g n from stop f₀ F₀ b H h in
+      let t = statement_in b H h in
       let e = (view_call (statement_view t.stands) c).next in
-      run_left k (dec_lt _ stop) (omega (arith, e, (statements_next H.stands h).7)) i o (left_on s bodies quiet rows g n from stop f₀ F₀ b H _ f F h (sym e) λ R W σ O. call_quiet f F c t z R W σ O)
-  run_left (call c z k) (no d) l i o H = stays d l (omega (arith, quiet_rises k)) o H
-
--- what a table of runs says of a step, whatever bytes and counts it is for
-abbrev pub Steps : List ℕ → ℕ → ℕ → ℕ → Type 0
-Steps quiet p stop r = (s counts : List ℕ) → stop ≤ length s → Skips s counts quiet → Stepped s counts p stop r
+      run_left k (dec_lt _ stop) (omega (arith, e, (statements_next H.stands h).7)) i o (left_on H h (sym e) λ R W σ O. call_quiet f F c t z R W σ O)
+  run_left (call c z k) (no d) l i o H = stays d l (omega (arith, run_rises k)) o H
 
 -- what is left after the step, and where it ends
-pub rest_run : {s bodies quiet rows : List ℕ} {g : ℕ} {n : Names} {from stop : ℕ} {f₀ : List ℕ} {F₀ : LocationSet} {p r : ℕ} {f : List ℕ} {F : LocationSet} → Steps quiet p stop r → p ≤ stop
-    → Rest s bodies quiet rows g n from stop f₀ F₀ p f F → Rest s bodies quiet rows g n from stop f₀ F₀ r f F
-rest_run {s} {bodies} {quiet} {rows} {g} {n} {from} {stop} {f₀} {F₀} {p} {r} {f} {F} k l H = record {
+pub rest_run : {w : Walk} {g : ℕ} {n : Names} {from stop : ℕ} {f₀ : List ℕ} {F₀ : LocationSet} {p r : ℕ} {f : List ℕ} {F : LocationSet}
+    → Steps w.quiet.now.ends p stop r → p ≤ stop → Rest w g n from stop f₀ F₀ p f F → Rest w g n from stop f₀ F₀ r f F
+rest_run {w} {stop = stop} {f₀ = f₀} {F₀ = F₀} {p = p} {f = f} {F = F} k l H = record {
   left = λ b.
-      let S = k s b.counts b.stands.within b.body.table in
-      run_left s bodies quiet rows g n from stop f₀ F₀ b f F S.quiet (dec_lt p stop) l S.inside S.outside (H.left b);
+      let S = k.steps w.bytes.now b.counts b.stands.within b.body.table in
+      run_left f₀ F₀ b f F S.run (dec_lt p stop) l S.inside S.outside (H.left b);
 }
 
-pub run_bounds : {s bodies quiet : List ℕ} {g : ℕ} {n : Names} {at stop p r : ℕ} → BlockAt s bodies quiet g n at → stop ≡ at + 2 + word s at → Steps quiet p stop r → p ≤ stop → (p ≤ r) × (r ≤ stop)
-run_bounds {s = s} {stop = stop} b e k l = let c = statements_of stop e b in stepped_bounds (k s b.counts c.stands.within b.body.table) l
+pub run_bounds : {w : Walk} {g : ℕ} {n : Names} {at stop p r : ℕ} → BlockAt w g n at → stop ≡ at + 2 + word w.bytes.now at
+    → Steps w.quiet.now.ends p stop r → p ≤ stop → (p ≤ r) × (r ≤ stop)
+run_bounds {w} {stop = stop} b e k l = let c = statements_of stop e b in stepped_bounds (k.steps w.bytes.now b.counts c.stands.within b.body.table) l
 
--- a turn of the loop and the step after it
-pub turn_bounds : {s bodies quiet : List ℕ} {g : ℕ} {n : Names} {at stop p q r : ℕ} → BlockAt s bodies quiet g n at → stop ≡ at + 2 + word s at → (T : Turn s bodies quiet g n p stop) → q ≡ T.here.next
-    → Steps quiet q stop r → (q ≤ stop) × (p < r) × (r ≤ stop)
-turn_bounds b e T h k = let l = run_bounds b e k (omega (arith, h, T.fits)) in (omega (arith, h, T.fits), omega (arith, h, T.further, l.0), l.1)
+-- What a turn of the loop does, and the step after it: the walk goes on behind the statement at p, which every statement there lets it do.
+pub record GoesOn (w : Walk) (g : ℕ) (n : Names) (from stop : ℕ) (f₀ : List ℕ) (F₀ : LocationSet) (p r : ℕ) (f : List ℕ) (F : LocationSet) : Type 0 where
+  pub further : p < r
+  pub inside : r ≤ stop
+  pub rest : Rest w g n from stop f₀ F₀ r f F
+
+pub goes_on : {w : Walk} {g : ℕ} {n : Names} {at stop : ℕ} {f₀ : List ℕ} {F₀ : LocationSet} {p q r : ℕ} {f f' : List ℕ} {F F' : LocationSet}
+    → BlockAt w g n at → stop ≡ at + 2 + word w.bytes.now at → p ≤ stop → (p ≡ stop → ⊥) → Rest w g n (at + 2) stop f₀ F₀ p f F
+    → ((t : StatementAt w g n p) → q ≡ t.next) → Steps w.quiet.now.ends q stop r → Gives w g n p f F (ok (standing f' F'))
+    → GoesOn w g n (at + 2) stop f₀ F₀ p r f' F'
+goes_on b e l d H ends k h =
+    let T = turn b e l d H in
+    let a = ends T.here in
+    let c = run_bounds b e k (omega (arith, a, T.fits)) in
+    record { further = omega (arith, a, T.further, c.0); inside = c.1; rest = rest_run k (omega (arith, a, T.fits)) (rest_on H T.inside ends h) }

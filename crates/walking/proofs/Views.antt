@@ -15,7 +15,8 @@ use Rattle.rules.specs.Region.{Region}
 use Rattle.rules.specs.Syntax.{Side, device, Place, Preparation, plain, magic, Op, init, free, merge, Statement, op, if, while, call, Block, function}
 use Rattle.rules.specs.Program.{Scope}
 use Rattle.rules.specs.Table.{size_of}
-use Rattle.program.specs.In.{BlockIn, View, is_init, is_magic, is_free, is_gate, is_measure, is_merge, is_new, is_get, is_set, is_if, is_while, is_call, is_bool}
+use Rattle.program.specs.In.{BlockIn, View}
+use Rattle.program.specs.In.{is_init, is_magic, is_free, is_gate, is_measure, is_merge, is_new, is_get, is_set, is_if, is_while, is_call, is_bool}
 use Rattle.walking.specs.Quiet.{Silent}
 use Rattle.walking.specs.Walk.{Standing, Walker, walk_op}
 
@@ -176,70 +177,42 @@ view_call (is_while e l a b) h = apart 11 12 refl e h
 view_call (is_call e l a b k f g) h = record { is = refl; next = refl; fits = l; callee = a; ks = b; places = f }
 view_call (is_bool e l a b) h = apart 13 12 refl e h
 
--- a measurement
-pub view_measure : {d : Side} {s : List ℕ} {S : Scope} {depths at q : ℕ} {t : Statement d} → View s S depths at t q → byte s at ≡ 5
-    → (q ≡ at + 4) × (at + 4 ≤ length s)
-view_measure (is_init e l a b) h = apart 1 5 refl e h
-view_measure (is_magic e l a b) h = apart 2 5 refl e h
-view_measure (is_free e l a) h = apart 3 5 refl e h
-view_measure (is_gate e l a b) h = apart 4 5 refl e h
-view_measure (is_measure e l a b k) h = (refl, l)
-view_measure (is_merge e l a b k f g) h = apart 6 5 refl e h
-view_measure (is_new e l a b) h = apart 7 5 refl e h
-view_measure (is_get e l a b) h = apart 8 5 refl e h
-view_measure (is_set e l a b) h = apart 9 5 refl e h
-view_measure (is_if e l a b k) h = apart 10 5 refl e h
-view_measure (is_while e l a b) h = apart 11 5 refl e h
-view_measure (is_call e l a b k f g) h = apart 12 5 refl e h
-view_measure (is_bool e l a b) h = apart 13 5 refl e h
-
--- the statements of three bytes
-pub view_three : {d : Side} {s : List ℕ} {S : Scope} {depths at q : ℕ} {t : Statement d} → View s S depths at t q → byte s at ≢ 3 → byte s at ≢ 5 → byte s at ≢ 6 → byte s at ≢ 10 → byte s at ≢ 11 → byte s at ≢ 12
-    → (q ≡ at + 3) × (at + 3 ≤ length s)
-view_three (is_init e l a b) n3 n5 n6 n10 n11 n12 = (refl, l)
-view_three (is_magic e l a b) n3 n5 n6 n10 n11 n12 = (refl, l)
-view_three (is_free e l a) n3 n5 n6 n10 n11 n12 = absurd (n3 e)
-view_three (is_gate e l a b) n3 n5 n6 n10 n11 n12 = (refl, l)
-view_three (is_measure e l a b k) n3 n5 n6 n10 n11 n12 = absurd (n5 e)
-view_three (is_merge e l a b k f g) n3 n5 n6 n10 n11 n12 = absurd (n6 e)
-view_three (is_new e l a b) n3 n5 n6 n10 n11 n12 = (refl, l)
-view_three (is_get e l a b) n3 n5 n6 n10 n11 n12 = (refl, l)
-view_three (is_set e l a b) n3 n5 n6 n10 n11 n12 = (refl, l)
-view_three (is_if e l a b k) n3 n5 n6 n10 n11 n12 = absurd (n10 e)
-view_three (is_while e l a b) n3 n5 n6 n10 n11 n12 = absurd (n11 e)
-view_three (is_call e l a b k f g) n3 n5 n6 n10 n11 n12 = absurd (n12 e)
-view_three (is_bool e l a b) n3 n5 n6 n10 n11 n12 = (refl, l)
+-- where an operation ends, by the table
+pub view_end : {d : Side} {s : List ℕ} {S : Scope} {depths at q : ℕ} {t : Statement d} → View s S depths at t q
+    → byte s at ≢ 10 → byte s at ≢ 11 → byte s at ≢ 12 → q ≡ at + size_of (byte s at)
+view_end {at = at} (is_init e l a b) n10 n11 n12 = ap (λ (o : ℕ). at + size_of o) (sym e)
+view_end {at = at} (is_magic e l a b) n10 n11 n12 = ap (λ (o : ℕ). at + size_of o) (sym e)
+view_end {at = at} (is_free e l a) n10 n11 n12 = ap (λ (o : ℕ). at + size_of o) (sym e)
+view_end {at = at} (is_gate e l a b) n10 n11 n12 = ap (λ (o : ℕ). at + size_of o) (sym e)
+view_end {at = at} (is_measure e l a b k) n10 n11 n12 = ap (λ (o : ℕ). at + size_of o) (sym e)
+view_end {at = at} (is_merge e l a b k f g) n10 n11 n12 = ap (λ (o : ℕ). at + size_of o) (sym e)
+view_end {at = at} (is_new e l a b) n10 n11 n12 = ap (λ (o : ℕ). at + size_of o) (sym e)
+view_end {at = at} (is_get e l a b) n10 n11 n12 = ap (λ (o : ℕ). at + size_of o) (sym e)
+view_end {at = at} (is_set e l a b) n10 n11 n12 = ap (λ (o : ℕ). at + size_of o) (sym e)
+view_end (is_if e l a b k) n10 n11 n12 = absurd (n10 e)
+view_end (is_while e l a b) n10 n11 n12 = absurd (n11 e)
+view_end (is_call e l a b k f g) n10 n11 n12 = absurd (n12 e)
+view_end {at = at} (is_bool e l a b) n10 n11 n12 = ap (λ (o : ℕ). at + size_of o) (sym e)
 
 -- what the walk passes over
-pub view_quiet : {d : Side} {s : List ℕ} {S : Scope} {depths at q : ℕ} {t : Statement d} → View s S depths at t q → 3 ≤ byte s at → byte s at ≢ 3 → byte s at ≢ 6 → ((9 < byte s at) × (byte s at < 13) → ⊥)
+pub view_quiet : {d : Side} {s : List ℕ} {S : Scope} {depths at q : ℕ} {t : Statement d} → View s S depths at t q → Silent (byte s at)
     → IsQuiet at t
 unfolding walk_op
-view_quiet (is_init e l a b) m n3 n6 n = absurd (omega arith)
-view_quiet (is_magic e l a b) m n3 n6 n = absurd (omega arith)
-view_quiet (is_free e l a) m n3 n6 n = absurd (n3 e)
-view_quiet (is_gate e l a b) m n3 n6 n = record { act = _; is = refl; still = λ R W σ st. refl }
-view_quiet (is_measure e l a b k) m n3 n6 n = record { act = _; is = refl; still = λ R W σ st. refl }
-view_quiet (is_merge e l a b k f g) m n3 n6 n = absurd (n6 e)
-view_quiet (is_new e l a b) m n3 n6 n = record { act = _; is = refl; still = λ R W σ st. refl }
-view_quiet (is_get e l a b) m n3 n6 n = record { act = _; is = refl; still = λ R W σ st. refl }
-view_quiet (is_set e l a b) m n3 n6 n = record { act = _; is = refl; still = λ R W σ st. refl }
-view_quiet (is_if e l a b k) m n3 n6 n = absurd (n (omega arith))
-view_quiet (is_while e l a b) m n3 n6 n = absurd (n (omega arith))
-view_quiet (is_call e l a b k f g) m n3 n6 n = absurd (n (omega arith))
-view_quiet (is_bool e l a b) m n3 n6 n = record { act = _; is = refl; still = λ R W σ st. refl }
+view_quiet (is_init e l a b) z = absurd (omega (arith, e, z.above))
+view_quiet (is_magic e l a b) z = absurd (omega (arith, e, z.above))
+view_quiet (is_free e l a) z = absurd (omega (arith, e, z.above))
+view_quiet (is_gate e l a b) z = record { act = _; is = refl; still = λ R W σ st. refl }
+view_quiet (is_measure e l a b k) z = record { act = _; is = refl; still = λ R W σ st. refl }
+view_quiet (is_merge e l a b k f g) z = absurd (z.no_merge e)
+view_quiet (is_new e l a b) z = record { act = _; is = refl; still = λ R W σ st. refl }
+view_quiet (is_get e l a b) z = record { act = _; is = refl; still = λ R W σ st. refl }
+view_quiet (is_set e l a b) z = record { act = _; is = refl; still = λ R W σ st. refl }
+view_quiet (is_if e l a b k) z = absurd (z.no_inner (omega arith))
+view_quiet (is_while e l a b) z = absurd (z.no_inner (omega arith))
+view_quiet (is_call e l a b k f g) z = absurd (z.no_inner (omega arith))
+view_quiet (is_bool e l a b) z = record { act = _; is = refl; still = λ R W σ st. refl }
 
 -- and its size, by the table
-pub view_size : {d : Side} {s : List ℕ} {S : Scope} {depths at q : ℕ} {t : Statement d} → View s S depths at t q → Silent (byte s at) → q ≡ at + size_of (byte s at)
-view_size (is_init e l a b) z = absurd (omega (arith, e, z.above))
-view_size (is_magic e l a b) z = absurd (omega (arith, e, z.above))
-view_size (is_free e l a) z = absurd (omega (arith, e, z.above))
-view_size {at = at} (is_gate e l a b) z = ap (λ (o : ℕ). at + size_of o) (sym e)
-view_size {at = at} (is_measure e l a b k) z = ap (λ (o : ℕ). at + size_of o) (sym e)
-view_size (is_merge e l a b k f g) z = absurd (z.no_merge e)
-view_size {at = at} (is_new e l a b) z = ap (λ (o : ℕ). at + size_of o) (sym e)
-view_size {at = at} (is_get e l a b) z = ap (λ (o : ℕ). at + size_of o) (sym e)
-view_size {at = at} (is_set e l a b) z = ap (λ (o : ℕ). at + size_of o) (sym e)
-view_size (is_if e l a b k) z = absurd (z.no_inner (omega arith))
-view_size (is_while e l a b) z = absurd (z.no_inner (omega arith))
-view_size (is_call e l a b k f g) z = absurd (z.no_inner (omega arith))
-view_size {at = at} (is_bool e l a b) z = ap (λ (o : ℕ). at + size_of o) (sym e)
+pub view_size : {d : Side} {s : List ℕ} {S : Scope} {depths at q : ℕ} {t : Statement d} → View s S depths at t q → Silent (byte s at)
+    → q ≡ at + size_of (byte s at)
+view_size v z = view_end v (λ e. z.no_inner (omega (arith, e))) (λ e. z.no_inner (omega (arith, e))) (λ e. z.no_inner (omega (arith, e)))

@@ -10,6 +10,7 @@ use native.Mathlib.Omega.{arith}
 use Prim.Native.Nat.{ℕ, zero, suc, ◌+◌, ◌≤◌, ◌<◌}
 use lib.Dec.{ltb}
 use lib.ListN.{get_or, set, length}
+use Rattle.std.specs.Prelude.{Option, Some, None}
 use Rattle.answers.specs.Check.{Check, ok, ◌>>◌}
 use Rattle.rules.specs.Region.{Region}
 use Rattle.rules.specs.Syntax.{Side, device, parameter, Place, at, Op, Statement, op, if, while, call, Statements, done, ◌⨾◌, Block, block, Function, function, Program}
@@ -185,7 +186,7 @@ module _ (R : Region) (p : Program) (d : Typed device) (e : Derives R.owned p d)
   good : Good R (by_commands R e.signatures) e.signatures
   good = record { by_commands_lem = λ f h τ F. refl; keeps = tidy.keeps }
 
-  pub callees : (counts : List ℕ) → ((f : ℕ) → f < length p.functions → get_or counts f 0 ≡ 0 → size_of (signature e.signatures f).commands ≡ 0)
+  pub callees : (counts : List (Option ℕ)) → ((f : ℕ) → f < length p.functions → get_or counts f None ≡ Some 0 → size_of (signature e.signatures f).commands ≡ 0)
       → Callees R p.functions counts (length p.functions) (by_commands R e.signatures)
   callees counts z = record {
     walks = λ f h τ F. ap (λ (i : ℕ). by_commands R e.signatures i τ F) (sym (zero-add f)) ∙ functions_walked R (by_commands R e.signatures) p.functions a e.functions good f h τ F;

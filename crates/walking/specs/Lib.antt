@@ -1,3 +1,4 @@
+pub mod Names
 pub mod Quiet
 pub mod Walk
 pub mod Stands

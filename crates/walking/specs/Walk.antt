@@ -1,7 +1,7 @@
 -- The walk over a program's tree at device locations: the statements in order, each slot's qubit at its location, the then-block before the
 -- else-block, a loop's body once, a callee at the call's actual locations. Only a merge is tested. A block hands on which locations are free and
 -- nothing else: at its end a qubit sits in a slot only where it sat there on entry.
-use Rattle.std.specs.Prelude.{Bool, not, ◌&&◌, ◌||◌, cond, List, ◌≡◌, ℕ, ◌<◌, eqb, ltb, get_or}
+use Rattle.std.specs.Prelude.{Option, Some, None, Bool, not, ◌&&◌, ◌||◌, cond, List, ◌≡◌, ℕ, ◌<◌, eqb, ltb, get_or}
 use Rattle.answers.specs.Check.{Check, ok, ◌>>=◌, ◌>>◌}
 use Rattle.rules.specs.Region.{Region}
 use Rattle.rules.specs.Path.{route}
@@ -69,7 +69,7 @@ module _ {s : Side} (R : Region) (W : Walker) (σ : Place s → Place device) wh
     walk_block (block o ts) st = walk_statements ts st
 
 -- W walks each function before number g by its body, and where the function's count is 0 it changes nothing
-pub record Callees (R : Region) (fs : List Function) (counts : List ℕ) (g : ℕ) (W : Walker) : Type 0 where
+pub record Callees (R : Region) (fs : List Function) (counts : List (Option ℕ)) (g : ℕ) (W : Walker) : Type 0 where
   pub walks : (f : ℕ) → f < g → (τ : Place parameter → Place device) (F : ℕ → Bool)
       → W f τ F ≡ walk_block R W τ (function fs f).body (entered_at (function fs f).k τ F)
-  pub skips : (f : ℕ) → f < g → get_or counts f 0 ≡ 0 → (τ : Place parameter → Place device) (F : ℕ → Bool) → W f τ F ≡ ok F
+  pub skips : (f : ℕ) → f < g → get_or counts f None ≡ Some 0 → (τ : Place parameter → Place device) (F : ℕ → Bool) → W f τ F ≡ ok F

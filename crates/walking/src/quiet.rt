@@ -1,98 +1,74 @@
 // Quiet statements have no commands: the walk goes on as it stands. A table says for each byte of a program how far a run of them goes, so that
 // the walk steps over a run in one move.
-ghost use Rattle.std.specs.Prelude.{true, List, ◌≡◌, ℕ, ◌+◌, ◌<◌, ◌≤◌, length};
+ghost use Rattle.std.specs.Prelude.{IfSome, ◌≡◌, ℕ, ◌+◌, ◌<◌, ◌≤◌, length};
 ghost use Rattle.rules.specs.Basics.{byte};
-ghost use Rattle.walking.specs.Quiet.{Silent, Quiet, Skips, Stepped};
+ghost use Rattle.walking.specs.Quiet.{Run, Skips, Steps};
 
-use rules::bytes::wide;
-use rules::statements::fixed_size;
+use rules::positions::call_end;
+use rules::statements::Kind;
 
-// Whether a statement byte is that of an operation without a command: no init, no free, no merge.
-fn is_silent(op: u8) -> bool
-    ensures { result ≡ true → Silent op }
-{
-    if op < 4 {
-        return false;
-    }
-    if op == 6 {
-        return false;
-    }
-    if op < 10 {
-        return true;
-    }
-    op == 13
+// For each byte of a program, where a run of quiet statements that begins there ends. No heap: a program has at most 4,096 bytes.
+#[derive(Drop)]
+pub struct Quiet {
+    pub ends: [u16; 4096],
 }
 
-// The size of the call at i, where its callee has no commands; 0 where it has some, or where no call fits.
-fn call_size(s: &[u8], counts: &[usize; 16], i: usize) -> usize
-    requires { (byte s.now i ≡ 12) × (i < length s.now) × (length s.now ≤ 4096) }
-    ensures quiet { Quiet s.now counts.now i (i + result) }
-    ensures upper_bound { result < 1000 }
-{
-    if s.len() <= i + 3 {
-        return 0;
+impl Quiet {
+    // Fills the table from the last byte of the program to the first, for every byte as if a statement began there. A run ends before a statement
+    // that ends the file.
+    pub fn mark(&mut self, s: &[u8], counts: &[Option<usize>; 16])
+        requires { length s.now ≤ 4096 }
+        ensures { Skips s.now counts.now self.new.ends }
+    {
+        for i in (0..s.len()).rev() {
+            self.ends[i] = match quiet_end(s, counts, i) {
+                Some(next) if next < s.len() => self.ends[next],
+                _ => i as u16,
+            };
+        }
     }
-    let f = wide(s[i + 1]);
-    if 15 < f {
-        return 0;
+
+    // The position after the run of quiet statements from p on, or the block's end where the run goes on past it.
+    pub fn skip(&self, p: usize, stop: usize) -> usize
+        requires { (p ≤ stop) × (stop ≤ 4096) }
+        ensures { Steps self.now.ends p stop result }
+    {
+        if p == stop {
+            return stop;
+        }
+        stop.min(self.ends[p] as usize)
     }
-    if counts[f] != 0 {
-        return 0;
-    }
-    4 + wide(s[i + 2]) + wide(s[i + 3])
 }
 
-// The size of the statement at i where it is quiet, 0 where it is not.
-fn quiet_size(s: &[u8], counts: &[usize; 16], i: usize) -> usize
+// The end of the statement at i, where it is quiet.
+fn quiet_end(s: &[u8], counts: &[Option<usize>; 16], i: usize) -> Option<usize>
     requires { (i < length s.now) × (length s.now ≤ 4096) }
-    ensures quiet { Quiet s.now counts.now i (i + result) }
-    ensures upper_bound { result < 1000 }
+    ensures { IfSome result (λ next. (i < next) × Run s.now counts.now i next) }
 {
-    let op = s[i];
-    if is_silent(op) {
-        return fixed_size(op);
-    }
-    if op == 12 {
-        return call_size(s, counts, i);
-    }
-    0
-}
-
-// Fills the table from the last byte of the program to the first, for every byte as if a statement began there. A run ends before a statement
-// that ends the file.
-pub fn mark_quiet(quiet: &mut [u16; 4096], s: &[u8], counts: &[usize; 16])
-    requires { (length s.now ≤ 4096) × (length quiet.old ≡ 4096) }
-    ensures { Skips s.now counts.now quiet.new }
-{
-    let mut i = s.len();
-    while i != 0 {
-        i -= 1;
-        quiet[i] = i as u16;
-        let j = i + quiet_size(s, counts, i);
-        if j < s.len() {
-            quiet[i] = quiet[j];
+    let Ok(kind) = Kind::try_from(s[i]) else {
+        return None;
+    };
+    match kind {
+        Kind::Init | Kind::Magic | Kind::Free | Kind::Merge | Kind::If | Kind::While => None,
+        Kind::Call => quiet_call_end(s, counts, i),
+        Kind::Gate | Kind::Measure | Kind::Ref | Kind::Get | Kind::Set | Kind::Bool => {
+            Some(i + kind.size())
         }
     }
 }
 
-// An entry of the table as a position.
-fn position(x: u16) -> usize
-    ensures { result ≡ x }
+// The end of the call at i, where it fits and its callee has no commands.
+fn quiet_call_end(s: &[u8], counts: &[Option<usize>; 16], i: usize) -> Option<usize>
+    requires { (byte s.now i ≡ 12) × (length s.now ≤ 4096) }
+    ensures { IfSome result (λ next. (i < next) × Run s.now counts.now i next) }
 {
-    x as usize
-}
-
-// The position after the run of quiet statements from p on, or the block's end where the run goes on past it.
-pub fn skip(quiet: &[u16; 4096], p: usize, stop: usize) -> usize
-    requires { (p ≤ stop) × (stop ≤ 4096) }
-    ensures { (s counts : List ℕ) → stop ≤ length s → Skips s counts quiet.now → Stepped s counts p stop result }
-{
-    if p == stop {
-        return stop;
+    if s.len() < i + 4 {
+        return None;
     }
-    let q = position(quiet[p]);
-    if q < stop {
-        return q;
+    let callee = s[i + 1] as usize;
+    if callee < 16 && counts[callee] == Some(0) {
+        Some(call_end(s, i))
+    } else {
+        None
     }
-    stop
 }

@@ -1,204 +1,133 @@
-// The walk over blocks: a loop goes over a block's statements, runs of quiet ones in one move; only nesting and callees recurse. The free
-// locations are lent, as the words of their set, and each walk leaves there what is free after it. A frame is lent too, as the numbers of its
-// slots' locations, to the one block that may change it.
-ghost use Rattle.std.specs.Prelude.{true, false, ◌≡◌, ◌<◌, length};
+// The walk over blocks: a loop goes over a block's statements, runs of quiet ones in one move; only nesting and callees recurse. The free locations are
+// lent, and each walk leaves there what is free after it. A frame is lent too, as the locations of its slots, to the one block that may change it.
+ghost use Rattle.std.specs.Prelude.{◌≡◌};
 ghost use Rattle.rules.specs.Basics.{byte};
-ghost use Rattle.walking.specs.Stands.{names_of, set_of, leaves, BlockAt, StatementAt, BlockWalked, StatementWalked, CallWalked};
+ghost use Rattle.walking.specs.Names.{names_of};
+ghost use Rattle.walking.specs.Stands.{BlockAt, StatementAt, BlockWalked, StatementWalked, CallWalked};
 
-use super::free::{add, no_path, remove};
-use super::names::{enter, location_of};
-use super::positions::{block_end, statement_end};
-use super::quiet::skip;
-use rules::bytes::wide;
-use rules::place::Location;
+use super::body::Body;
+use super::positions::statement_end;
+use super::quiet::Quiet;
+use program::functions::FunctionTable;
+use route::distance;
+use rules::positions::block_end;
+use rules::statements::Kind;
+use sets::LocationSet;
+use sets::rows::Rows;
 
-// Whether a statement has blocks of its own or is a call: an if, a while, a call.
-fn is_inner(op: u8) -> bool
-    ensures lt_op { result ≡ true → (9 < op) × (op < 13) }
-    ensures fact { result ≡ false → (9 < op) × (op < 13) → ⊥ }
-{
-    if op < 10 {
-        return false;
-    }
-    op < 13
+// What a walk goes over: a program's bytes, its functions, its runs of quiet statements, and the rows of the region.
+#[derive(Clone, Copy)]
+pub struct Walk<'a> {
+    pub bytes: &'a [u8],
+    pub functions: &'a FunctionTable,
+    pub quiet: &'a Quiet,
+    pub rows: &'a Rows,
 }
 
-// The block at `at` of function number g, main having the number of functions: its slots are where the frame says, its places where the names
-// say. The place of the first merge that has no path, 0 where each has one.
-#[cycle(walk_block_walk_call_walk_if_walk_while)]
-pub fn walk_block(
-    s: &[u8],
-    bodies: &[usize; 16],
-    quiet: &[u16; 4096],
-    rows: &[u64; 1024],
-    g: usize,
-    in_main: bool,
-    names: &[u8; 16],
-    at: usize,
-    frame: &mut [u8; 32],
-    free: &mut [u64; 4],
-) -> usize
-    requires block_at { BlockAt s.now bodies.now quiet.now g (names_of in_main names.now) at }
-    requires free_len { (length free.old ≡ 4) × (length frame.old ≡ 32) }
-    ensures long { length free.new ≡ 4 }
-    ensures walks { BlockWalked s.now bodies.now quiet.now rows.now g
-        (names_of in_main names.now) at frame.old (set_of free.old) (leaves result free.new) }
-{
-    let stop = block_end(s, at);
-    let mut p = skip(quiet, at + 2, stop);
-    while p != stop {
-        let op = s[p];
-        let next = skip(quiet, statement_end(s, p), stop);
-        // an init, a free, a merge, what recurses; a quiet one is met where it ends the file
-        if op < 3 {
-            let l = location_of(in_main, names, s[p + 2]);
-            frame[wide(s[p + 1])] = l.0;
-            remove(free, l);
-        } else if op == 3 {
-            let l = frame[wide(s[p + 1])];
-            add(free, Location(l));
-        } else if op == 6 {
-            let a = frame[wide(s[p + 3])];
-            let b = frame[wide(s[p + 5])];
-            if no_path(rows, free, Location(a), Location(b)) {
-                return p;
+// No path joins the qubits of the merge at a place.
+#[derive(Clone, Copy, Debug, PartialEq, Eq)]
+pub struct NoPath {
+    pub place: usize,
+}
+
+impl Walk<'_> {
+    // The block at `at` of a body: its slots are where the frame says.
+    #[cycle(walk_block_walk_call_walk_if_walk_while)]
+    pub fn walk_block(
+        &self,
+        body: Body<'_>,
+        at: usize,
+        frame: &mut [u8; 32],
+        free: &mut LocationSet,
+    ) -> Result<(), NoPath>
+        requires { BlockAt self.now body.before (names_of body) at }
+        ensures { BlockWalked self.now body.entry.before (names_of body.entry) at frame.old free.old result free.new }
+    {
+        let stop = block_end(self.bytes, at);
+        let mut p = self.quiet.skip(at + 2, stop);
+        while p != stop {
+            let next = self.quiet.skip(statement_end(self.bytes, p), stop);
+            match Kind::known(self.bytes[p]) {
+                Kind::Init | Kind::Magic => {
+                    let location = body.location_of(self.bytes[p + 2]);
+                    frame[self.bytes[p + 1] as usize] = location;
+                    free.erase(location);
+                }
+                Kind::Free => free.insert(frame[self.bytes[p + 1] as usize]),
+                Kind::Merge => {
+                    let a = frame[self.bytes[p + 3] as usize];
+                    let b = frame[self.bytes[p + 5] as usize];
+                    if distance(self.rows, *free, a, b).is_none() {
+                        return Err(NoPath { place: p });
+                    }
+                }
+                Kind::If => self.walk_if(body, p, frame, free)?,
+                Kind::While => self.walk_while(body, p, frame, free)?,
+                Kind::Call => self.walk_call(body, p, free)?,
+                // a quiet one is met where it ends the file
+                Kind::Gate | Kind::Measure | Kind::Ref | Kind::Get | Kind::Set | Kind::Bool => {}
             }
-        } else if is_inner(op) {
-            let fault = if op == 10 {
-                walk_if(s, bodies, quiet, rows, g, in_main, names, p, frame, free)
-            } else if op == 11 {
-                walk_while(s, bodies, quiet, rows, g, in_main, names, p, frame, free)
-            } else {
-                walk_call(s, bodies, quiet, rows, g, in_main, names, p, free)
-            };
-            if fault != 0 {
-                return fault;
-            }
+            p = next;
         }
-        p = next;
+        Ok(())
     }
-    0
-}
 
-// The then-block, then the else-block; on with what the then-block left free.
-#[cycle(walk_block_walk_call_walk_if_walk_while)]
-fn walk_if(
-    s: &[u8],
-    bodies: &[usize; 16],
-    quiet: &[u16; 4096],
-    rows: &[u64; 1024],
-    g: usize,
-    in_main: bool,
-    names: &[u8; 16],
-    at: usize,
-    frame: &[u8; 32],
-    free: &mut [u64; 4],
-) -> usize
-    requires statement_at { StatementAt s.now bodies.now quiet.now g (names_of in_main names.now) at × (byte s.now at ≡ 10) }
-    requires free_len { (length free.old ≡ 4) × (length frame.now ≡ 32) }
-    ensures long { length free.new ≡ 4 }
-    ensures walks { StatementWalked s.now bodies.now quiet.now rows.now g
-        (names_of in_main names.now) at frame.now (set_of free.old) (leaves result free.new) }
-{
-    let mut other = *free;
-    let mut first_frame = *frame;
-    let first = walk_block(
-        s,
-        bodies,
-        quiet,
-        rows,
-        g,
-        in_main,
-        names,
-        at + 2,
-        &mut first_frame,
-        free,
-    );
-    if first != 0 {
-        return first;
+    // The then-block, then the else-block; on with what the then-block left free.
+    #[cycle(walk_block_walk_call_walk_if_walk_while)]
+    fn walk_if(
+        &self,
+        body: Body<'_>,
+        at: usize,
+        frame: &[u8; 32],
+        free: &mut LocationSet,
+    ) -> Result<(), NoPath>
+        requires { StatementAt self.now body.before (names_of body) at × (byte self.now.bytes.now at ≡ 10) }
+        ensures { StatementWalked self.now body.entry.before (names_of body.entry) at frame.now free.old result free.new }
+    {
+        let mut other = *free;
+        let mut inner = *frame;
+        self.walk_block(body, at + 2, &mut inner, free)?;
+        inner = *frame;
+        self.walk_block(body, block_end(self.bytes, at + 2), &mut inner, &mut other)
     }
-    let mut other_frame = *frame;
-    walk_block(
-        s,
-        bodies,
-        quiet,
-        rows,
-        g,
-        in_main,
-        names,
-        block_end(s, at + 2),
-        &mut other_frame,
-        &mut other,
-    )
-}
 
-// The body once; on with what was free before it.
-#[cycle(walk_block_walk_call_walk_if_walk_while)]
-fn walk_while(
-    s: &[u8],
-    bodies: &[usize; 16],
-    quiet: &[u16; 4096],
-    rows: &[u64; 1024],
-    g: usize,
-    in_main: bool,
-    names: &[u8; 16],
-    at: usize,
-    frame: &[u8; 32],
-    free: &[u64; 4],
-) -> usize
-    requires statement_at { StatementAt s.now bodies.now quiet.now g (names_of in_main names.now) at × (byte s.now at ≡ 11) }
-    requires free_len { (length free.now ≡ 4) × (length frame.now ≡ 32) }
-    ensures { StatementWalked s.now bodies.now quiet.now rows.now g
-        (names_of in_main names.now) at frame.now (set_of free.now) (leaves result free.now) }
-{
-    let mut inside = *free;
-    let mut inner_frame = *frame;
-    walk_block(
-        s,
-        bodies,
-        quiet,
-        rows,
-        g,
-        in_main,
-        names,
-        at + 2,
-        &mut inner_frame,
-        &mut inside,
-    )
-}
+    // The body once; on with what was free before it.
+    #[cycle(walk_block_walk_call_walk_if_walk_while)]
+    fn walk_while(
+        &self,
+        body: Body<'_>,
+        at: usize,
+        frame: &[u8; 32],
+        free: &LocationSet,
+    ) -> Result<(), NoPath>
+        requires { StatementAt self.now body.before (names_of body) at × (byte self.now.bytes.now at ≡ 11) }
+        ensures { StatementWalked self.now body.entry.before (names_of body.entry) at frame.now free.now result free.now }
+    {
+        let mut inside = *free;
+        let mut inner = *frame;
+        self.walk_block(body, at + 2, &mut inner, &mut inside)
+    }
 
-// The callee's body at the call's locations; the caller's frame stays.
-#[cycle(walk_block_walk_call_walk_if_walk_while)]
-fn walk_call(
-    s: &[u8],
-    bodies: &[usize; 16],
-    quiet: &[u16; 4096],
-    rows: &[u64; 1024],
-    g: usize,
-    in_main: bool,
-    names: &[u8; 16],
-    at: usize,
-    free: &mut [u64; 4],
-) -> usize
-    requires statement_at { StatementAt s.now bodies.now quiet.now g (names_of in_main names.now) at × (byte s.now at ≡ 12) }
-    requires free_len { length free.old ≡ 4 }
-    ensures long { length free.new ≡ 4 }
-    ensures walks { CallWalked s.now bodies.now quiet.now rows.now g
-        (names_of in_main names.now) at (set_of free.old) (leaves result free.new) }
-{
-    let f = wide(s[at + 1]);
-    let mut inner = [0; 16];
-    let mut entry = [0; 32];
-    enter(
-        &mut inner,
-        &mut entry,
-        in_main,
-        names,
-        s,
-        at + 4,
-        wide(s[at + 2]),
-    );
-    walk_block(
-        s, bodies, quiet, rows, f, false, &inner, bodies[f], &mut entry, free,
-    )
+    // The callee's body at the call's locations; the caller's frame stays.
+    #[cycle(walk_block_walk_call_walk_if_walk_while)]
+    fn walk_call(&self, body: Body<'_>, at: usize, free: &mut LocationSet) -> Result<(), NoPath>
+        requires { StatementAt self.now body.before (names_of body) at × (byte self.now.bytes.now at ≡ 12) }
+        ensures { CallWalked self.now body.entry.before (names_of body.entry) at free.old result free.new }
+    {
+        let f = self.bytes[at + 1];
+        let mut inner = [0; 16];
+        let mut entry = [0; 32];
+        body.enter(
+            self.bytes,
+            at + 4,
+            self.bytes[at + 2] as usize,
+            &mut inner,
+            &mut entry,
+        );
+        let callee = Body {
+            before: f as usize,
+            names: Some(&inner),
+        };
+        self.walk_block(callee, self.functions.head(f).body, &mut entry, free)
+    }
 }

@@ -1,28 +1,20 @@
 -- The walk over a program: that over main's block, with all of the region's locations free, and the table of quiet runs made before.
-use mathlib.Core.Bool.{true}
-use mathlib.Core.Path.{refl}
-use lib.ListN.{replicate}
-use Rattle.walking.specs.Stands.{names_of, leaves}
-use Rattle.walking.proofs.Main.{main_block, main_walked, main_refused}
-use borrow.Author.Rules.{rules}
+use mathlib.Core.Path.{refl, ap, ◌∙◌}
+use Rattle.answers.specs.Check.{refused, ◌>>◌}
+use Rattle.program.proofs.Whole.{whole}
+use Rattle.walking.proofs.Main.{main_block, main_walked}
 use Rattle.walking.proofs.walk_program.Goals as goal
 
-pub mark_quiet-requires : goal.mark_quiet-requires
-mark_quiet-requires c = (c.requires.1.size, refl)
+pub mark-requires : goal.mark-requires
+mark-requires c = (whole c.args.program.now.reading).stands.size
 
-pub walk_block-fault-requires : goal.walk_block-fault-requires
-walk_block-fault-requires c =
-    record {
-      block_at = main_block (names_of true (replicate 16 0)) refl c.mark_quiet.ensures c.requires.1 c.requires.2;
-      free_len = (search rules, refl);
-    }
+pub walk_block-requires : goal.walk_block-requires
+walk_block-requires c = let p = whole c.args.program.now.reading in main_block _ refl c.mark.ensures p.stands p.tabled
 
-pub returns-then-fault-ne0 : goal.returns-then-fault-ne0
-returns-then-fault-ne0 c =
-    λ p R d e P T O r z.
-    main_refused (names_of true (replicate 16 0)) refl c.mark_quiet.ensures (replicate 32 0) _ (leaves c.walk_block-fault.result _) c.walk_block-fault.ensures.walks p R d e P T O r z _ c.if-fault-ne0.true c.new.ensures
+pub returns-in-Ok : goal.returns-in-Ok
+unfolding ◌>>◌
+returns-in-Ok c = main_walked refl c.mark.ensures c.in-Ok.ensures
 
-pub returns : goal.returns
-returns c =
-    λ p R d e P T O r z.
-    main_walked (names_of true (replicate 16 0)) refl c.mark_quiet.ensures (replicate 32 0) _ (leaves c.walk_block-fault.result _) c.walk_block-fault.ensures.walks p R d e P T O r z c.if-fault-ne0.false
+pub returns-in-Err : goal.returns-in-Err
+unfolding ◌>>◌
+returns-in-Err c = λ p R d e P T O r z. ap refused c.at.ensures ∙ main_walked refl c.mark.ensures c.in-Err.ensures p R d e P T O r z

@@ -12,9 +12,8 @@ use lib.ListN.{length}
 use Rattle.answers.specs.Check.{Check, ok, refused, refusal, ◌>>=◌, ◌>>◌, need, within}
 use Rattle.answers.specs.declared.File.TheVariants.{Device}
 use Rattle.answers.specs.declared.Refusal.{Refusal}
-use Rattle.answers.specs.Said.{route_said}
-use Rattle.answers.specs.declared.RouteAnswer.{RouteAnswer}
-use Rattle.answers.specs.declared.RouteAnswer.TheVariants.{Routed, Refused}
+use Rattle.answers.specs.Said.{said}
+use Rattle.std.specs.Prelude.{Result, Ok, Err}
 use Rattle.answers.proofs.Laws.{ok_not_refused}
 use Rattle.rules.specs.Device as rules
 use Rattle.rules.specs.Device.{read_device}
@@ -24,25 +23,25 @@ use Rattle.rules.specs.Promises.{routed, route_written, route_of}
 use Rattle.sets.specs.declared.LocationSet.{LocationSet}
 use Rattle.sets.specs.Sets.{has}
 use Rattle.device.specs.Reader.{Owned}
-use Rattle.route.specs.declared.Found.{Found}
-use Rattle.route.specs.declared.Found.TheVariants.{Written, NoPath, Short}
+use Rattle.route.specs.declared.NoRoute.{NoRoute}
+use Rattle.route.specs.declared.NoRoute.TheVariants.{NoPath, Short}
 use Rattle.route.specs.Found.{found_said, fitted, Answers}
 use Rattle.abwakiris.specs.Routing.{told, asked, Finds, Routes}
 
 -- ---- the search
 -- what the call answers for each answer of the search
-abbrev pub answered : Found → RouteAnswer
-answered (Written n) = Routed n
-answered NoPath = Refused (refusal 21 0)
-answered Short = Refused (refusal 24 0)
+abbrev pub answered : Result ℕ NoRoute → Result ℕ Refusal
+answered (Ok n) = Ok n
+answered (Err NoPath) = Err (refusal 21 0)
+answered (Err Short) = Err (refusal 24 0)
 
 -- both say the same
-same_said : (f : Found) → route_said (answered f) ≡ found_said f
-same_said (Written n) = refl
-same_said NoPath = refl
-same_said Short = refl
+same_said : (f : Result ℕ NoRoute) → said (answered f) ≡ found_said f
+same_said (Ok n) = refl
+same_said (Err NoPath) = refl
+same_said (Err Short) = refl
 
-pub finds_as : (o : Option (List ℕ)) (before after : List ℕ) (f : Found) (r : RouteAnswer)
+pub finds_as : (o : Option (List ℕ)) (before after : List ℕ) (f : Result ℕ NoRoute) (r : Result ℕ Refusal)
     → Answers o before f after → r ≡ answered f → Finds o before r after
 finds_as o before after f r a q = rw (q, same_said f) a.said
 
@@ -91,12 +90,12 @@ module _ (R : Region) (owned : LocationSet) (O : Owned R owned) (n : ℕ) (occup
   same_asked = ap (λ (f : ℕ → Bool). asked f n occupancy a b) (fun_ext λ x. O.owned x)
 
   pub routes_refused : (x : Refusal) (before : List ℕ) → refused x ≡ asked (has owned) n occupancy a b
-      → Routes R n occupancy a b before (Refused x) before
+      → Routes R n occupancy a b before (Err x) before
   unfolding ◌>>◌
   routes_refused x before e = rw (sym (e ∙ same_asked)) refl
 
   pub routes_found : (free : LocationSet) → has free ≡ free_in R occupancy → ok tt ≡ asked (has owned) n occupancy a b
-      → (before after : List ℕ) (r : RouteAnswer)
+      → (before after : List ℕ) (r : Result ℕ Refusal)
       → Finds (route R (has free) a b) before r after → Routes R n occupancy a b before r after
   unfolding ◌>>◌
   routes_found free f e before after r h = rw (sym (e ∙ same_asked), sym f) h
@@ -110,16 +109,16 @@ one_or_two j e = go (ℕ_discrete j 1)
     go (no h) = let k = eqb-true j 2 (rw (ne_eqb j 1 h) at e) in omega arith
 
 module _ (device : List ℕ) (job : ℕ) (occupancy : List ℕ) (a b : ℕ) (before : List ℕ) where
-  pub route_no_job : (eqb job 1 || eqb job 2) ≡ false → told (Refused (refusal 25 0)) before ≡ route_of device job occupancy a b before
+  pub route_no_job : (eqb job 1 || eqb job 2) ≡ false → told (Err (refusal 25 0)) before ≡ route_of device job occupancy a b before
   unfolding ◌>>◌
   route_no_job e = rw e refl
 
   pub route_no_device : (x : Refusal) → (eqb job 1 || eqb job 2) ≡ true → refused x ≡ within Device (read_device device)
-      → told (Refused x) before ≡ route_of device job occupancy a b before
+      → told (Err x) before ≡ route_of device job occupancy a b before
   unfolding ◌>>◌ ◌>>=◌
   route_no_device x e q = rw (e, sym q) refl
 
-  pub route_done : (D : rules.Device) → (eqb job 1 || eqb job 2) ≡ true → read_device device ≡ ok D → (r : RouteAnswer) (after : List ℕ)
+  pub route_done : (D : rules.Device) → (eqb job 1 || eqb job 2) ≡ true → read_device device ≡ ok D → (r : Result ℕ Refusal) (after : List ℕ)
       → Routes (region_of D job) (length D.owners) occupancy a b before r after → told r after ≡ route_of device job occupancy a b before
   unfolding ◌>>◌ ◌>>=◌ asked fitted
   route_done D e q r after h = h ∙ ap (λ c. route_written before c) (in_order_lem ∙ sym whole)

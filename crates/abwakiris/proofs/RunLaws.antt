@@ -11,8 +11,7 @@ use Rattle.answers.specs.Check.{Check, ok, refused, refusal, ◌>>=◌, ◌>>◌
 use Rattle.answers.specs.declared.File.TheVariants.{Device, Schedule, Program}
 use Rattle.answers.specs.declared.Moved.{Moved}
 use Rattle.answers.specs.declared.Refusal.{Refusal}
-use Rattle.answers.specs.declared.RunAnswer.{RunAnswer}
-use Rattle.answers.specs.declared.RunAnswer.TheVariants.{Ran, Refused}
+use Rattle.std.specs.Prelude.{Result, Ok, Err}
 use Rattle.answers.proofs.Laws.{ok_not_refused}
 use Rattle.rules.specs.declared.device.DeviceHeader.{DeviceHeader}
 use Rattle.rules.specs.Device as rules
@@ -55,25 +54,25 @@ pub record Inputs (device s₁ s₂ schedule : List ℕ) : Type 0 where
   pub may_run : Scheduled schedule
 
 module _ (device s₁ s₂ schedule before₁ before₂ : List ℕ) where
-  abbrev Promised : RunAnswer → List ℕ → List ℕ → Type 0
+  abbrev Promised : Result Moved Refusal → List ℕ → List ℕ → Type 0
   Promised r now₁ now₂ = ended r now₁ now₂ ≡ run_of device s₁ s₂ schedule before₁ before₂
 
-  pub run_no_device : (x : Refusal) → refused x ≡ within Device (read_device device) → Promised (Refused x) before₁ before₂
+  pub run_no_device : (x : Refusal) → refused x ≡ within Device (read_device device) → Promised (Err x) before₁ before₂
   unfolding ◌>>=◌
   run_no_device x e = rw (sym e) refl
 
   module _ (D : rules.Device) (d : read_device device ≡ ok D) where
-    pub run_no_first : (x : Refusal) → refused x ≡ within (Program 1) (read_program s₁) → Promised (Refused x) before₁ before₂
+    pub run_no_first : (x : Refusal) → refused x ≡ within (Program 1) (read_program s₁) → Promised (Err x) before₁ before₂
     unfolding ◌>>=◌
     run_no_first x e = rw (d, sym e) refl
 
     module _ (p : syntax.Program) (a : read_program s₁ ≡ ok p) where
-      pub run_no_second : (x : Refusal) → refused x ≡ within (Program 2) (read_program s₂) → Promised (Refused x) before₁ before₂
+      pub run_no_second : (x : Refusal) → refused x ≡ within (Program 2) (read_program s₂) → Promised (Err x) before₁ before₂
       unfolding ◌>>=◌
       run_no_second x e = rw (d, a, sym e) refl
 
       module _ (q : syntax.Program) (b : read_program s₂ ≡ ok q) where
-        pub run_no_schedule : (x : Refusal) → refused x ≡ scheduled schedule → Promised (Refused x) before₁ before₂
+        pub run_no_schedule : (x : Refusal) → refused x ≡ scheduled schedule → Promised (Err x) before₁ before₂
         unfolding ◌>>=◌
         run_no_schedule x e = rw (d, a, b) (ap (λ c. run_written before₁ before₂ c) (schedule_refuses schedule x _ e))
 
@@ -82,14 +81,14 @@ module _ (device s₁ s₂ schedule before₁ before₂ : List ℕ) where
     in_time : leb (length schedule) 4096 ≡ true
     in_time = le-leb (length schedule) 4096 I.may_run.short
 
-    pub run_no_records : length before₁ / 4 < length schedule → Promised (Refused (refusal 24 0)) before₁ before₂
+    pub run_no_records : length before₁ / 4 < length schedule → Promised (Err (refusal 24 0)) before₁ before₂
     unfolding ◌>>=◌ ◌>>◌
     run_no_records h =
         let room = lt-leb (4 * length schedule) (length before₁) (omega (arith, h)) in
         rw (I.reads, I.first, I.second, in_time, I.may_run.turns_so, room) refl
 
     pub run_no_map : length schedule ≤ length before₁ / 4 → length before₂ < length I.D.owners
-        → Promised (Refused (refusal 24 0)) before₁ before₂
+        → Promised (Err (refusal 24 0)) before₁ before₂
     unfolding ◌>>=◌ ◌>>◌
     run_no_map h k =
         let room = le-leb (4 * length schedule) (length before₁) (omega (arith, h)) in
@@ -98,7 +97,7 @@ module _ (device s₁ s₂ schedule before₁ before₂ : List ℕ) where
     pub run_done : length schedule ≤ length before₁ / 4 → length I.D.owners ≤ length before₂
         → (h : DeviceHeader) (t₁ : FunctionTable) (main₁ : ℕ) (t₂ : FunctionTable) (main₂ : ℕ) (r : Moved) (now₁ now₂ : List ℕ)
         → Reads device h I.D → Loaded s₁ t₁ main₁ I.p → Loaded s₂ t₂ main₂ I.q
-        → Runs device h s₁ t₁ main₁ s₂ t₂ main₂ schedule before₁ before₂ r now₁ now₂ → Promised (Ran r) now₁ now₂
+        → Runs device h s₁ t₁ main₁ s₂ t₂ main₂ schedule before₁ before₂ r now₁ now₂ → Promised (Ok r) now₁ now₂
     unfolding ◌>>=◌ ◌>>◌
     run_done l k h t₁ main₁ t₂ main₂ r now₁ now₂ Q L₁ L₂ R =
         let room = le-leb (4 * length schedule) (length before₁) (omega (arith, l)) in

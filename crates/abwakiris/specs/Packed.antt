@@ -19,22 +19,23 @@ file_code (Program j) = 16 + j
 abbrev pub packed_refusal : Refusal → ℕ
 packed_refusal r = r.place % 2 ^ 32 + r.number * 2 ^ 32 + file_code r.file * 2 ^ 40
 
--- a read of a program has no value; a read of a device, a route and a listing written or read have one; a check and a run have two, each in 16 bits
-abbrev pub packed_read : Check (Unit {0}) → ℕ
-packed_read (ok u) = 0
-packed_read (refused r) = packed_refusal r
-
-abbrev pub packed_value : Check ℕ → ℕ
-packed_value (ok v) = v % 2 ^ 32
-packed_value (refused r) = packed_refusal r
+-- an answer in one number, its value being packed by what is given
+abbrev pub packed : {A : Type 0} → (A → ℕ) → Check A → ℕ
+packed value (ok a) = value a
+packed value (refused r) = packed_refusal r
 
 abbrev pub packed_pair : ℕ → ℕ → ℕ
 packed_pair a b = a % 65536 + (b % 65536) * 65536
 
+-- a read of a program has no value; a read of a device, a route and a listing written or read have one; a check and a run have two, each in 16 bits
+abbrev pub packed_read : Check (Unit {0}) → ℕ
+packed_read = packed λ u. 0
+
+abbrev pub packed_value : Check ℕ → ℕ
+packed_value = packed λ v. v % 2 ^ 32
+
 abbrev pub packed_counted : Check Counted → ℕ
-packed_counted (ok a) = packed_pair a.count a.live
-packed_counted (refused r) = packed_refusal r
+packed_counted = packed λ a. packed_pair a.count a.live
 
 abbrev pub packed_moved : Check Moved → ℕ
-packed_moved (ok m) = packed_pair m.first m.second
-packed_moved (refused r) = packed_refusal r
+packed_moved = packed λ m. packed_pair m.first m.second

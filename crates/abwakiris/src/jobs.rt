@@ -1,15 +1,17 @@
 // The number of a job, as a caller gives it.
-ghost use Rattle.std.specs.Prelude.{◌||◌, ◌≡◌, ◌≤◌, eqb};
+ghost use Rattle.std.specs.Prelude.{true, false, ◌||◌, ◌≡◌, eqb, IfOk, IfErr};
+ghost use Rattle.answers.specs.Check.{refusal};
 
-pub fn is_job(job: u64) -> bool
-    ensures { result ≡ (eqb job 1 || eqb job 2) }
-{
-    job == 1 || job == 2
-}
+use answers::{Fault, Refusal};
 
-pub fn narrow(job: u64) -> u8
-    requires { job ≤ 2 }
-    ensures { result ≡ job }
+// Job 1 or 2; 25 for any other.
+pub fn job_of(number: u64) -> Result<u8, Refusal>
+    ensures ok { IfOk result (λ job. (job ≡ number) × ((eqb number 1 || eqb number 2) ≡ true)) }
+    ensures err { IfErr result (λ x. (x ≡ refusal 25 0) × ((eqb number 1 || eqb number 2) ≡ false)) }
 {
-    job as u8
+    match number {
+        1 => Ok(1),
+        2 => Ok(2),
+        _ => Err(Fault::NoJob.at(0)),
+    }
 }

@@ -1,8 +1,45 @@
 // An answer in one u64.
-ghost use Rattle.std.specs.Prelude.{◌≡◌, ◌<◌};
-ghost use Rattle.abwakiris.specs.Packed.{file_code, packed_refusal};
+ghost use Rattle.std.specs.Prelude.{◌≡◌, ◌<◌, ◌%◌, ◌^◌, ℕ};
+ghost use Rattle.answers.specs.Said.{said};
+ghost use Rattle.abwakiris.specs.Packed.{file_code, packed_refusal, packed_pair, packed};
 
-use answers::{File, Refusal};
+use answers::{Counted, File, Moved, Refusal};
+
+// What a call answers has a value of 32 bits.
+pub trait Value {
+    ghost value: { Self → ℕ };
+    fn value(self) -> u64
+        ensures value { result ≡ value self }
+        ensures small { result < 2 ^ 32 };
+}
+
+impl Value for () {
+    ghost value = { λ _. 0 };
+    fn value(self) -> u64 {
+        0
+    }
+}
+
+impl Value for usize {
+    ghost value = { λ n. n % 2 ^ 32 };
+    fn value(self) -> u64 {
+        self as u64 % 4294967296
+    }
+}
+
+impl Value for Counted {
+    ghost value = { λ a. packed_pair a.count a.live };
+    fn value(self) -> u64 {
+        self.count as u64 % 65536 + self.live as u64 % 65536 * 65536
+    }
+}
+
+impl Value for Moved {
+    ghost value = { λ m. packed_pair m.first m.second };
+    fn value(self) -> u64 {
+        self.first as u64 % 65536 + self.second as u64 % 65536 * 65536
+    }
+}
 
 fn file_code(file: File) -> u64
     ensures { (result ≡ file_code file) × (result < 272) }
@@ -12,15 +49,22 @@ fn file_code(file: File) -> u64
         File::Device => 1,
         File::Schedule => 2,
         File::Listing => 3,
-        File::Program(job) => 16 + (job as u64),
+        File::Program(job) => 16 + job as u64,
     }
 }
 
-pub fn packed_refusal(x: Refusal) -> u64
+fn packed_refusal(x: Refusal) -> u64
     ensures { result ≡ packed_refusal x }
 {
-    let place = x.place;
-    let number = x.number;
-    let file = x.file;
-    (place as u64) % 4294967296 + (number as u64) * 4294967296 + file_code(file) * 1099511627776
+    x.place as u64 % 4294967296 + x.number as u64 * 4294967296 + file_code(x.file) * 1099511627776
+}
+
+// The value of an answer, or its refusal.
+pub fn packed<T: Value>(answer: Result<T, Refusal>) -> u64
+    ensures { result ≡ packed T.value (said answer) }
+{
+    match answer {
+        Ok(value) => value.value(),
+        Err(x) => packed_refusal(x),
+    }
 }

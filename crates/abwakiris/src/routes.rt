@@ -1,24 +1,21 @@
 // The route search between two locations of a job's region.
-ghost use Rattle.std.specs.Prelude.{◌≡◌, ℕ, ◌<◌, length};
-ghost use Rattle.answers.specs.Said.{read_said};
+ghost use Rattle.std.specs.Prelude.{true, false, ◌≡◌, ℕ, length, IfOk, IfErr, IfSome, IfNone};
+ghost use Rattle.answers.specs.Said.{passed};
 ghost use Rattle.rules.specs.Device.{Device};
 ghost use Rattle.rules.specs.Region.{Region, region_of};
 ghost use Rattle.rules.specs.Path as path;
 ghost use Rattle.rules.specs.Promises.{route_of};
 ghost use Rattle.sets.specs.Sets.{has};
-ghost use Rattle.device.specs.Reader.{Reads, Rows};
-ghost use Rattle.abwakiris.specs.Packed.{packed_value};
+ghost use Rattle.device.specs.Reader.{Reads, RowsOf};
 ghost use Rattle.abwakiris.specs.Routing.{asked, told, Finds, Routes};
 
-use crate::jobs::{is_job, narrow};
-use crate::packed::packed_refusal;
-use answers::{ReadAnswer, Refusal, RouteAnswer};
-use device::DeviceAnswer;
+use crate::jobs::job_of;
+use answers::{Fault, Refusal};
+use device::file::DeviceFile;
 use device::free::free_in;
-use device::region::{owned_by, region_rows};
-use route::{Found, find_route};
-use rules::device::DeviceHeader;
+use route::{NoRoute, find_route};
 use sets::LocationSet;
+use sets::rows::Rows;
 
 // Job, device, 26, the two ends, then the search. The buffer is written only where a route is answered.
 pub fn route(
@@ -28,111 +25,84 @@ pub fn route(
     first: u64,
     second: u64,
     buffer: &mut [u8],
-) -> RouteAnswer
+) -> Result<usize, Refusal>
     ensures { told result buffer.new ≡ route_of device.now job occupancy.now first second buffer.old }
 {
-    if !is_job(job) {
-        return RouteAnswer::Refused(Refusal::new(25, 0));
-    }
-    match device::read_device(device) {
-        DeviceAnswer::Read(h) => route_in(device, h, narrow(job), occupancy, first, second, buffer),
-        DeviceAnswer::Refused(x) => RouteAnswer::Refused(x),
-    }
-}
-
-// Value: the number of locations.
-pub fn abwakiris_route(
-    device: &[u8],
-    job: u64,
-    occupancy: &[u8],
-    first: u64,
-    second: u64,
-    buffer: &mut [u8],
-) -> u64
-    ensures answer { result ≡ packed_value (route_of device.now job occupancy.now first second buffer.old).answer }
-    ensures written { buffer.new
-        ≡ (route_of device.now job occupancy.now first second buffer.old).buffer }
-{
-    match route(device, job, occupancy, first, second, buffer) {
-        RouteAnswer::Routed(n) => (n as u64) % 4294967296,
-        RouteAnswer::Refused(x) => packed_refusal(x),
-    }
+    let job = job_of(job)?;
+    let device = device::read_device(device)?;
+    route_in(device, job, occupancy, first, second, buffer)
 }
 
 // On a device that was read, for a job that is one.
 fn route_in(
-    device: &[u8],
-    h: DeviceHeader,
+    device: DeviceFile<'_>,
     job: u8,
     occupancy: &[u8],
     first: u64,
     second: u64,
     buffer: &mut [u8],
-) -> RouteAnswer
-    requires { (D : Device) × Reads device.now h D }
-    ensures { (D : Device) → Reads device.now h D
+) -> Result<usize, Refusal>
+    ensures { (D : Device) → Reads device.entry.bytes.now device.entry.header D
         → Routes (region_of D job) (length D.owners) occupancy.now first second buffer.old result buffer.new }
 {
-    let owned = owned_by(device, h, job);
-    let asked = asks(owned, h.locations, occupancy, first, second);
-    if let ReadAnswer::Refused(x) = asked {
-        return RouteAnswer::Refused(x);
-    }
-    let mut rows = [0u64; 1024];
-    region_rows(device, h, job, &mut rows);
-    search(
-        &rows,
-        free_in(owned, occupancy),
-        first as usize,
-        second as usize,
-        buffer,
-    )
+    let owned = device.owned_by(job);
+    let (a, b) = ends(owned, device.header.locations, occupancy, first, second)?;
+    let mut rows = Rows::empty();
+    device.region_rows(job, &mut rows);
+    search(&rows, free_in(owned, occupancy), a, b, buffer)
 }
 
-// What is asked before the search: 26, 13 for each end, 15.
-fn asks(owned: LocationSet, n: usize, occupancy: &[u8], first: u64, second: u64) -> ReadAnswer
-    ensures { read_said result ≡ asked (has owned) n occupancy.now first second }
+// What is asked before the search: 26, 13 for each end, 15. The ends are two locations.
+fn ends(
+    owned: LocationSet,
+    n: usize,
+    occupancy: &[u8],
+    first: u64,
+    second: u64,
+) -> Result<(u8, u8), Refusal>
+    ensures asked { passed result ≡ asked (has owned) n occupancy.now first second }
+    ensures same { IfOk result (λ ends. (ends.0 ≡ first) × (ends.1 ≡ second)) }
 {
     if occupancy.len() != n {
-        return ReadAnswer::Refused(Refusal::new(26, 0));
+        return Err(Fault::MapLength.at(0));
     }
-    if !is_inside(owned, first) {
-        return ReadAnswer::Refused(Refusal::new(13, 0));
+    let Some(a) = inside(owned, first) else {
+        return Err(Fault::Outside.at(0));
+    };
+    let Some(b) = inside(owned, second) else {
+        return Err(Fault::Outside.at(1));
+    };
+    if a == b {
+        return Err(Fault::Twice.at(0));
     }
-    if !is_inside(owned, second) {
-        return ReadAnswer::Refused(Refusal::new(13, 1));
-    }
-    if first == second {
-        return ReadAnswer::Refused(Refusal::new(15, 0));
-    }
-    ReadAnswer::Readable
+    Ok((a, b))
 }
 
-// Whether a number, however large, is a location of the set.
-fn is_inside(owned: LocationSet, x: u64) -> bool
-    ensures { result ≡ has owned x }
+// The location of the set that a number is, however large.
+fn inside(owned: LocationSet, x: u64) -> Option<u8>
+    ensures some { IfSome result (λ l. (l ≡ x) × (has owned x ≡ true)) }
+    ensures none { IfNone result (has owned x ≡ false) }
 {
-    if x < 256 {
-        owned.contains(x as usize)
+    if x < 256 && owned.contains(x as u8) {
+        Some(x as u8)
     } else {
-        false
+        None
     }
 }
 
 // The search: 21, then 24 where the route is longer than the buffer.
 fn search(
-    rows: &[u64; 1024],
+    rows: &Rows,
     free: LocationSet,
-    a: usize,
-    b: usize,
+    a: u8,
+    b: u8,
     buffer: &mut [u8],
-) -> RouteAnswer
-    requires { (a < 256) × (b < 256) }
-    ensures { (R : Region) → Rows R rows.now → Finds (path.route R (has free) a b) buffer.old result buffer.new }
+) -> Result<usize, Refusal>
+    ensures { (R : Region) → RowsOf R rows.now → Finds (path.route R (has free) a b) buffer.old result buffer.new }
 {
     match find_route(rows, free, a, b, buffer) {
-        Found::Written(n) => RouteAnswer::Routed(n),
-        Found::NoPath => RouteAnswer::Refused(Refusal::new(21, 0)),
-        Found::Short => RouteAnswer::Refused(Refusal::new(24, 0)),
+        Ok(n) => Ok(n),
+        Err(NoRoute::NoPath) => Err(Fault::NoPath.at(0)),
+        Err(NoRoute::Short) => Err(Fault::NoSpace.at(0)),
     }
 }

@@ -9,6 +9,7 @@ use Prim.Native.Nat.{ℕ, ◌≤◌, ◌<◌, min}
 use borrow.Author.Tests.{le-leb, lt-leb}
 use lib.Dec.{leb}
 use lib.ListN.{length, get_or}
+use Rattle.std.specs.Prelude.{Some, None}
 use Rattle.answers.specs.Check.{Check, ok, refused, refusal, ◌>>=◌, ◌>>◌, need}
 use Rattle.answers.specs.declared.Refusal.{Refusal}
 use Rattle.answers.proofs.Laws.{ok_not_refused}
@@ -30,7 +31,6 @@ use Rattle.typing.specs.Functions.{typing}
 
 -- a capped count is too large exactly where the count is
 capped_small : (n : ℕ) → cap n ≤ 65535 → cap n ≡ n
-unfolding cap
 capped_small n h = go (dec_le n 65536)
   where
     go : Dec (n ≤ 65536) → min n 65536 ≡ n
@@ -38,11 +38,9 @@ capped_small n h = go (dec_le n 65536)
     go (no l) = absurd (omega (arith, l, h))
 
 capped_large : (n : ℕ) → 65535 < cap n → 65535 < n
-unfolding cap
 capped_large n h = omega (arith, h)
 
 zero_capped : (n : ℕ) → cap n ≡ 0 → n ≡ 0
-unfolding cap
 zero_capped n h = omega (arith, h)
 
 -- 20, 21 and the answer of a typed program
@@ -95,9 +93,9 @@ module _ (R : Region) (p : Program) where
       main_count : c.main ≡ cap (size_of j.typed.commands)
       main_count = C.main ∙ ap cap (sym commands_size)
 
-      pub no_commands : (f : ℕ) → f < length p.functions → get_or c.memory.counts f 0 ≡ 0
+      pub no_commands : (f : ℕ) → f < length p.functions → get_or c.functions f None ≡ Some 0
           → size_of (signature j.derives.signatures f).commands ≡ 0
-      no_commands f h z = zero_capped _ (sym (C.functions f h) ∙ z)
+      no_commands f h z = let q : Some (cap (sizes f)) ≡ Some 0 = sym (C.functions f h) ∙ z in zero_capped _ cc
 
       pub too_many : 65535 < c.main → refused (refusal 20 0) ≡ judged R p
       unfolding ◌>>◌ ◌>>=◌

@@ -1,9 +1,11 @@
--- The number of locations, of the numbers that the device reader hands on.
+-- The number of locations of the header that the reader hands on, or its refusal.
+use mathlib.Core.Path.{◌∙◌}
+use Rattle.answers.proofs.Passed.{passed_on}
 use Rattle.abwakiris.proofs.ReadLaws.{device_said}
 use Rattle.abwakiris.proofs.reads.read_device.Goals as goal
 
-pub returns-in-Read : goal.returns-in-Read
-returns-in-Read c = device_said _ (rw c.in-Read.is at c.read_device.ensures)
+pub returns-in_err-device : goal.returns-in_err-device
+returns-in_err-device c = passed_on _ c.from_residual.ensures.1 ∙ device_said c.args.bytes.now c.in_err-device.ensures.said
 
-pub returns-in-Refused : goal.returns-in-Refused
-returns-in-Refused c = device_said _ (rw c.in-Refused.is at c.read_device.ensures)
+pub returns : goal.returns
+returns c = device_said c.args.bytes.now c.in_ok-device.ensures.said

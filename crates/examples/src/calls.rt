@@ -9,58 +9,46 @@ pub fn refusals(rt: &impl Print) -> io::Result<()> {
     schedules(rt)
 }
 
+// What takes each location: nothing, and a qubit in both corridors.
+const FREE: [u8; 6] = [0; 6];
+
+const CORRIDORS: [u8; 6] = [0, 1, 0, 0, 1, 0];
+
 fn routes(rt: &impl Print) -> io::Result<()> {
-    let mut five = [0xaa; 5];
-    let mut two = [0xaa; 2];
+    route(rt, "from 0 to 2", &FREE, 0, 2, &mut [0xaa; 5])?;
     route(
         rt,
-        b"from 0 to 2",
-        b"\x00\x00\x00\x00\x00\x00",
+        "from 0 to 2 past 1 and 4",
+        &CORRIDORS,
         0,
         2,
-        &mut five,
+        &mut [0xaa; 5],
     )?;
     route(
         rt,
-        b"from 0 to 2 past 1 and 4",
-        b"\x00\x01\x00\x00\x01\x00",
+        "from 0 to 2 into two bytes",
+        &FREE,
         0,
         2,
-        &mut five,
+        &mut [0xaa; 2],
     )?;
     route(
         rt,
-        b"from 0 to 2 into two bytes",
-        b"\x00\x00\x00\x00\x00\x00",
+        "with five occupancy bytes",
+        &[0; 5],
         0,
         2,
-        &mut two,
-    )?;
-    route(
-        rt,
-        b"with five occupancy bytes",
-        b"\x00\x00\x00\x00\x00",
-        0,
-        2,
-        &mut two,
+        &mut [0xaa; 2],
     )
 }
 
 fn ends(rt: &impl Print) -> io::Result<()> {
-    let mut five = [0xaa; 5];
-    let free = b"\x00\x00\x00\x00\x00\x00";
-    route(rt, b"from 0 to 256", free, 0, 256, &mut five)?;
-    route(rt, b"from 0 to 0", free, 0, 0, &mut five)
+    route(rt, "from 0 to 256", &FREE, 0, 256, &mut [0xaa; 5])?;
+    route(rt, "from 0 to 0", &FREE, 0, 0, &mut [0xaa; 5])
 }
 
 fn schedules(rt: &impl Print) -> io::Result<()> {
-    let mut seven = [0xaa; 7];
-    run_a(rt, b"A under 4,097 steps", &[0x10; 4097], &mut seven)?;
-    run_a(rt, b"A under a step of job 3", b"\x10\x30", &mut seven)?;
-    run_a(
-        rt,
-        b"A with seven bytes for two records",
-        b"\x10\x10",
-        &mut seven,
-    )
+    run_a(rt, "A under 4,097 steps", &[0x10; 4097])?;
+    run_a(rt, "A under a step of job 3", b"\x10\x30")?;
+    run_a(rt, "A with seven bytes for two records", b"\x10\x10")
 }

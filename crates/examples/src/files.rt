@@ -13,25 +13,25 @@ pub fn refusals(rt: &impl Print) -> io::Result<()> {
 }
 
 fn device_headers(rt: &impl Print) -> io::Result<()> {
-    read_device(rt, b"a device of 8 bytes", b"QLG\x00\x01\x00\x01\x00")?;
+    read_device(rt, "a device of 8 bytes", b"QLG\x00\x01\x00\x01\x00")?;
     read_device(
         rt,
-        b"a device marked as a program",
+        "a device marked as a program",
         b"QLS\x00\x01\x00\x01\x00\x00\x01",
     )?;
     read_device(
         rt,
-        b"a device of version 2",
+        "a device of version 2",
         b"QLG\x00\x02\x00\x01\x00\x00\x01",
     )?;
     read_device(
         rt,
-        b"a device with no location",
+        "a device with no location",
         b"QLG\x00\x01\x00\x00\x00\x00",
     )?;
     read_device(
         rt,
-        b"a device with 1,025 edges",
+        "a device with 1,025 edges",
         b"QLG\x00\x01\x00\x01\x04\x01\x01",
     )
 }
@@ -39,46 +39,46 @@ fn device_headers(rt: &impl Print) -> io::Result<()> {
 fn device_bodies(rt: &impl Print) -> io::Result<()> {
     read_device(
         rt,
-        b"a device with a byte too many",
+        "a device with a byte too many",
         b"QLG\x00\x01\x00\x01\x00\x00\x01\x00",
     )?;
     read_device(
         rt,
-        b"a device with a third owner",
+        "a device with a third owner",
         b"QLG\x00\x01\x00\x02\x00\x00\x01\x03",
     )?;
     read_device(
         rt,
-        b"an edge from 1 to 0",
+        "an edge from 1 to 0",
         b"QLG\x00\x01\x00\x02\x00\x01\x01\x01\x01\x00",
     )?;
     read_device(
         rt,
-        b"an edge twice",
+        "an edge twice",
         b"QLG\x00\x01\x00\x02\x00\x02\x01\x01\x00\x01\x00\x01",
     )
 }
 
 fn program_lengths(rt: &impl Print) -> io::Result<()> {
-    read_program(rt, b"a program of 7 bytes", b"QLS\x00\x01\x00\x00")?;
-    read_program(rt, b"a program of 4,097 bytes", &[0; 4097])
+    read_program(rt, "a program of 7 bytes", b"QLS\x00\x01\x00\x00")?;
+    read_program(rt, "a program of 4,097 bytes", &[0; 4097])
 }
 
 fn program_headers(rt: &impl Print) -> io::Result<()> {
     read_program(
         rt,
-        b"a program marked as a device",
+        "a program marked as a device",
         b"QLG\x00\x01\x00\x00\x00",
     )?;
-    read_program(rt, b"a program of version 2", b"QLS\x00\x02\x00\x00\x00")?;
+    read_program(rt, "a program of version 2", b"QLS\x00\x02\x00\x00\x00")?;
     read_program(
         rt,
-        b"a program with 16 functions",
+        "a program with 16 functions",
         b"QLS\x00\x01\x10\x00\x00",
     )?;
     read_program(
         rt,
-        b"two arguments of one parameter",
+        "two arguments of one parameter",
         b"QLS\x00\x01\x01\x01\x02\x00\x00\x00\x00",
     )
 }
@@ -88,29 +88,25 @@ fn nested(rt: &impl Print) -> io::Result<()> {
     let program = b"QLS\x00\x01\x00\x00\x20\
         \x0b\x00\x00\x1c\x0b\x00\x00\x18\x0b\x00\x00\x14\x0b\x00\x00\x10\
         \x0b\x00\x00\x0c\x0b\x00\x00\x08\x0b\x00\x00\x04\x0b\x00\x00\x00";
-    read_program(rt, b"eight nested loops", program)
+    read_program(rt, "eight nested loops", program)
 }
 
 fn cut_short(rt: &impl Print) -> io::Result<()> {
-    read_program(rt, b"an init cut short", b"QLS\x00\x01\x00\x00\x02\x01\x00")?;
+    read_program(rt, "an init cut short", b"QLS\x00\x01\x00\x00\x02\x01\x00")?;
     read_program(
         rt,
-        b"a main block longer than its file",
+        "a main block longer than its file",
         b"QLS\x00\x01\x00\x00\x01",
     )?;
-    read_program(rt, b"a byte after main", b"QLS\x00\x01\x00\x00\x00\x00")
+    read_program(rt, "a byte after main", b"QLS\x00\x01\x00\x00\x00\x00")
 }
 
 fn statements(rt: &impl Print) -> io::Result<()> {
+    read_program(rt, "a statement of kind 14", b"QLS\x00\x01\x00\x00\x01\x0e")?;
+    read_program(rt, "a free of slot 32", b"QLS\x00\x01\x00\x00\x02\x03\x20")?;
     read_program(
         rt,
-        b"a statement of kind 14",
-        b"QLS\x00\x01\x00\x00\x01\x0e",
-    )?;
-    read_program(rt, b"a free of slot 32", b"QLS\x00\x01\x00\x00\x02\x03\x20")?;
-    read_program(
-        rt,
-        b"a call of a function not there",
+        "a call of a function not there",
         b"QLS\x00\x01\x00\x00\x04\x0c\x00\x00\x00",
     )
 }

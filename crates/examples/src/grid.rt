@@ -2,109 +2,96 @@
 use crate::say;
 use std::io;
 
-const GRID: [u8; 29] = *b"QLG\x00\x01\x00\x06\x00\x07\
+const GRID: &[u8] = b"QLG\x00\x01\x00\x06\x00\x07\
     \x01\x01\x01\x01\x01\x01\
     \x00\x01\x00\x03\x01\x02\x01\x04\x02\x05\x03\x04\x04\x05";
 
 // Program A: qubits at 0 and 2, their merge, and both freed.
-const A: [u8; 24] = *b"QLS\x00\x01\x00\x00\x10\
+const A: &[u8] = b"QLS\x00\x01\x00\x00\x10\
     \x01\x00\x00\x01\x01\x02\x06\x02\x00\x00\x00\x01\x03\x00\x03\x01";
 
 // A without its last free.
-const LIVE: [u8; 22] = *b"QLS\x00\x01\x00\x00\x0e\
+const LIVE: &[u8] = b"QLS\x00\x01\x00\x00\x0e\
     \x01\x00\x00\x01\x01\x02\x06\x02\x00\x00\x00\x01\x03\x00";
 
-const EMPTY: [u8; 8] = *b"QLS\x00\x01\x00\x00\x00";
+const EMPTY: &[u8] = b"QLS\x00\x01\x00\x00\x00";
 
 // A with qubits at 1 and 4 made before the merge, which then has no path.
-const TAKEN: [u8; 34] = *b"QLS\x00\x01\x00\x00\x1a\
+const TAKEN: &[u8] = b"QLS\x00\x01\x00\x00\x1a\
     \x01\x00\x00\x01\x01\x02\x01\x02\x01\x01\x03\x04\
     \x06\x04\x00\x00\x00\x01\x03\x00\x03\x01\x03\x02\x03\x03";
 
 pub fn examples(rt: &impl Print) -> io::Result<()> {
-    say::read_device(rt, b"the grid", &GRID)?;
-    check(rt, b"A", &A, 1)?;
-    check(rt, b"A without its last free", &LIVE, 1)?;
-    check(rt, b"A with both corridors taken", &TAKEN, 1)?;
-    runs(rt)?;
-    run_taken(rt)?;
-    run_live(rt)?;
-    check(rt, b"all doubling functions and a loop", &DOUBLING_ALL, 1)?;
-    check(rt, b"the last doubling function twice", &DOUBLING_TWICE, 1)
-}
-
-fn runs(rt: &impl Print) -> io::Result<()> {
-    let mut records = [0xaa; 16];
-    run_a(
+    say::read_device(rt, "the grid", GRID)?;
+    check(rt, "A", A, 1)?;
+    check(rt, "A without its last free", LIVE, 1)?;
+    check(rt, "A with both corridors taken", TAKEN, 1)?;
+    run(
         rt,
-        b"A beside the empty program",
+        "A beside the empty program",
+        A,
         b"\x10\x10\x20\x10",
-        &mut records,
-    )
-}
-
-// The merge is stuck, and stays so.
-fn run_taken(rt: &impl Print) -> io::Result<()> {
-    let mut records = [0xaa; 24];
-    let mut map = [0xaa; 6];
-    let schedule = b"\x10\x10\x10\x10\x10\x10";
-    say::run(
+        &mut [0xaa; 16],
+    )?;
+    // The merge is stuck, and stays so.
+    run(
         rt,
-        b"A with both corridors taken",
-        &GRID,
-        &TAKEN,
-        &EMPTY,
-        schedule,
-        &mut records,
-        &mut map,
-    )
-}
-
-// At the end, which the last record tells, the job occupies the one location that its check answered to be left live.
-fn run_live(rt: &impl Print) -> io::Result<()> {
-    let mut records = [0xaa; 20];
-    let mut map = [0xaa; 6];
-    let schedule = b"\x10\x10\x10\x10\x10";
-    say::run(
+        "A with both corridors taken",
+        TAKEN,
+        &[0x10; 6],
+        &mut [0xaa; 24],
+    )?;
+    // At the end, which the last record tells, the job occupies the one location that its check answered to be left live.
+    run(
         rt,
-        b"A without its last free",
-        &GRID,
-        &LIVE,
-        &EMPTY,
-        schedule,
-        &mut records,
-        &mut map,
-    )
+        "A without its last free",
+        LIVE,
+        &[0x10; 5],
+        &mut [0xaa; 20],
+    )?;
+    check(rt, "all doubling functions and a loop", DOUBLING_ALL, 1)?;
+    check(rt, "the last doubling function twice", DOUBLING_TWICE, 1)
 }
 
 pub fn third_job(rt: &impl Print) -> io::Result<()> {
-    check(rt, b"A for job 3", &A, 3)
+    check(rt, "A for job 3", A, 3)
 }
 
-pub fn check(rt: &impl Print, what: &[u8], program: &[u8], job: u64) -> io::Result<()> {
-    say::check(rt, what, &GRID, program, job)
+pub fn check(rt: &impl Print, what: &str, program: &[u8], job: u64) -> io::Result<()> {
+    say::check(rt, what, GRID, program, job)
 }
 
 // For job 1.
 pub fn route(
     rt: &impl Print,
-    what: &[u8],
+    what: &str,
     occupancy: &[u8],
     first: u64,
     second: u64,
     buffer: &mut [u8],
 ) -> io::Result<()> {
-    say::route(rt, what, &GRID, 1, occupancy, first, second, buffer)
+    say::route(rt, what, GRID, 1, occupancy, first, second, buffer)
 }
 
 // Beside the empty program.
-pub fn run_a(rt: &impl Print, what: &[u8], schedule: &[u8], records: &mut [u8]) -> io::Result<()> {
+pub fn run(
+    rt: &impl Print,
+    what: &str,
+    program: &[u8],
+    schedule: &[u8],
+    records: &mut [u8],
+) -> io::Result<()> {
     let mut map = [0xaa; 6];
-    say::run(rt, what, &GRID, &A, &EMPTY, schedule, records, &mut map)
+    say::run(rt, what, GRID, program, EMPTY, schedule, records, &mut map)
+}
+
+// Program A beside the empty one, with room for less than two records.
+pub fn run_a(rt: &impl Print, what: &str, schedule: &[u8]) -> io::Result<()> {
+    run(rt, what, A, schedule, &mut [0xaa; 7])
 }
 
 // Function 0 is one init and one free at its parameter; each other calls the one before it twice. Main calls all 15, and has one empty loop.
-const DOUBLING_ALL: [u8; 298] = *b"QLS\x00\x01\x0f\
+const DOUBLING_ALL: &[u8] = b"QLS\x00\x01\x0f\
     \x01\x00\x00\x05\x01\x00\x00\x03\x00\
     \x01\x00\x00\x0a\x0c\x00\x01\x00\x00\x0c\x00\x01\x00\x00\
     \x01\x00\x00\x0a\x0c\x01\x01\x00\x00\x0c\x01\x01\x00\x00\
@@ -129,7 +116,7 @@ const DOUBLING_ALL: [u8; 298] = *b"QLS\x00\x01\x0f\
     \x0d\x00\x00\x07\x01\x00\x0b\x01\x00\x00";
 
 // The same functions; main calls the last twice.
-const DOUBLING_TWICE: [u8; 223] = *b"QLS\x00\x01\x0f\
+const DOUBLING_TWICE: &[u8] = b"QLS\x00\x01\x0f\
     \x01\x00\x00\x05\x01\x00\x00\x03\x00\
     \x01\x00\x00\x0a\x0c\x00\x01\x00\x00\x0c\x00\x01\x00\x00\
     \x01\x00\x00\x0a\x0c\x01\x01\x00\x00\x0c\x01\x01\x00\x00\

@@ -1,8 +1,9 @@
--- Text that is put into a buffer.
-use Rattle.std.specs.Prelude.{List, ◌++◌, ◌≡◌, ℕ, ◌+◌, ◌≤◌, length, take}
+-- What a line of the program writes, with numbers as std writes them.
+use Rattle.std.specs.Prelude.{List, ◌++◌, ℕ, codes, decimal}
+use Rattle.print_check.specs.declared.text.Line.{Line}
+use Rattle.print_check.specs.declared.text.Line.TheVariants.{Accepted, Refused, Bad}
 
--- from `at` on, up to r
-pub record Put (before : List ℕ) (at : ℕ) (text : List ℕ) (r : ℕ) (after : List ℕ) : Type 0 where
-  pub end : r ≡ at + length text
-  pub room : r ≤ length after
-  pub bytes : take r after ≡ take at before ++ text
+abbrev pub text_of : Line → List ℕ
+text_of (Accepted n) = codes "OK " ++ (decimal n.count ++ (codes " " ++ (decimal n.live ++ codes "\n")))
+text_of (Refused x) = codes "NO " ++ (decimal x.number ++ (codes " " ++ (decimal x.place ++ codes "\n")))
+text_of Bad = codes "BAD\n"

@@ -1,49 +1,42 @@
 // A bundle: u16 length and device, u16 length and program, nothing more; at most 8,192 bytes.
-ghost use Rattle.std.specs.Prelude.{◌≡◌, ◌+◌, ◌<◌, length};
-ghost use Rattle.rules.specs.Basics.{word as Basics·word};
+ghost use Rattle.std.specs.Prelude.{◌≡◌};
 ghost use Rattle.print_check.specs.Printed.{bundle_of};
+ghost use Rattle.print_check.specs.Parts.{files_of, file_in, split_as};
 
-// The lengths of a bundle's device and program.
+use rules::bytes::word_at;
+
+pub const MOST_BYTES: usize = 8192;
+
+// The two files of a bundle.
 #[derive(Clone, Copy)]
-pub enum Bundle {
-    Files(usize, usize),
-    Bad,
+pub struct Bundle<'a> {
+    pub device: &'a [u8],
+    pub program: &'a [u8],
 }
 
-#[tactic(auto, using(crate::proofs::BundleLaws::exits))]
-pub fn split(bytes: &[u8]) -> Bundle
-    ensures { result ≡ bundle_of bytes.now }
-{
-    let n = bytes.len();
-    if n > 8192 {
-        return Bundle::Bad;
-    }
-    if n < 4 {
-        return Bundle::Bad;
-    }
-    let d = word(bytes, 0);
-    if n < 4 + d {
-        return Bundle::Bad;
-    }
-    let p = word(bytes, 2 + d);
-    if n == 4 + d + p {
-        Bundle::Files(d, p)
-    } else {
-        Bundle::Bad
+impl<'a> Bundle<'a> {
+    pub fn split(bytes: &'a [u8]) -> Option<Bundle<'a>>
+        ensures { files_of result ≡ bundle_of bytes.now }
+    {
+        if bytes.len() > MOST_BYTES {
+            return None;
+        }
+        let (device, rest) = split_file(bytes)?;
+        let (program, rest) = split_file(rest)?;
+        if rest.is_empty() {
+            Some(Bundle { device, program })
+        } else {
+            None
+        }
     }
 }
 
-// A u16, big-endian.
-fn word(bytes: &[u8], at: usize) -> usize
-    requires { at + 1 < length bytes.now }
-    ensures value { result ≡ Basics·word bytes.now at }
-    ensures upper_bound { result < 65536 }
+// A u16 length and a file of so many bytes, and what follows it.
+fn split_file(bytes: &[u8]) -> Option<(&[u8], &[u8])>
+    ensures { split_as result ≡ file_in bytes.now }
 {
-    wide(bytes[at]) * 256 + wide(bytes[at + 1])
-}
-
-fn wide(x: u8) -> usize
-    ensures { (result ≡ x) × (result < 256) }
-{
-    x as usize
+    if bytes.len() < 2 {
+        return None;
+    }
+    bytes[2..].split_at_checked(word_at(bytes, 0))
 }

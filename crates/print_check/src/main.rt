@@ -8,21 +8,19 @@ mod text;
 ghost use Rattle.std.specs.Prelude.{◌≡◌, ◌<◌, ◌≤◌, length, take, IfOk};
 ghost use Rattle.std.specs.Io.{ReadsAtMost};
 ghost use Rattle.std.specs.Io.KnownBytes.{Consumes, IsAtEnd};
-ghost use Rattle.std.specs.Counts.{IsPrefixLen};
 ghost use Rattle.print_check.specs.Printed.{printed};
+ghost use Rattle.print_check.specs.Text.{text_of};
 
-use bundle::{Bundle, split};
+use bundle::{Bundle, MOST_BYTES};
 use std::io;
 use std::io::Read;
-use text::{put, put_verdict};
+use text::Line;
 
 // One byte more than a bundle may have, so that a longer one is seen to be longer.
 fn main(rt: HostRuntime) -> io::Result<()> {
-    let mut bytes = [0u8; 8193];
+    let mut bytes = [0u8; MOST_BYTES + 1];
     let n = read_full(&mut rt.stdin(), &mut bytes)?;
-    let mut line = [0u8; 64];
-    let k = put_line(&bytes[..n], &mut line);
-    rt.write_all(&line[..k])
+    rt.print(answer(&bytes[..n]))
 }
 
 // Reads until buf is full or the input ends, and answers how many bytes it put at the start of buf. One read may give fewer bytes than there is room for,
@@ -43,22 +41,15 @@ fn read_full<R: Read>(input: &mut R, buf: &mut [u8]) -> io::Result<usize>
     Ok(done)
 }
 
-// Puts the line for a bundle at the start of out, and answers its length.
-fn put_line(bytes: &[u8], out: &mut [u8]) -> usize
-    requires { 64 ≤ length out.old }
-    ensures prefix_len { IsPrefixLen result out.new }
-    ensures out_after { take result out.new ≡ printed bytes.now }
+// The line for a bundle.
+fn answer(bytes: &[u8]) -> Line
+    ensures { text_of result ≡ printed bytes.now }
 {
-    match split(bytes) {
-        Bundle::Files(d, p) => {
-            let device_end = 2 + d;
-            let start = 4 + d;
-            let end = start + p;
-            put_verdict(
-                abwakiris::checks::check(&bytes[2..device_end], &bytes[start..end], 1),
-                out,
-            )
-        },
-        Bundle::Bad => put(b"BAD\n", 0, out),
+    let Some(bundle) = Bundle::split(bytes) else {
+        return Line::Bad;
+    };
+    match abwakiris::checks::check(bundle.device, bundle.program, 1) {
+        Ok(n) => Line::Accepted(n),
+        Err(x) => Line::Refused(x),
     }
 }

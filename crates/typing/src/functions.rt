@@ -13,7 +13,7 @@ use super::endings::Endings;
 use super::env::Env;
 use super::slots::Slot;
 use answers::Refusal;
-use program::functions::FunctionTable;
+use program::file::ReadProgram;
 use sets::LocationSet;
 
 // The first k numbers.
@@ -40,16 +40,15 @@ fn entered(k: u8, m: u8) -> Env
 }
 
 // What the functions end with, or the first refusal in them.
-pub fn type_functions(s: &[u8], table: &FunctionTable) -> Result<Endings, Refusal>
-    requires { (p : Program) × ProgramIn s.now p × Heads p.functions table.now }
-    ensures { (p : Program) → ProgramIn s.now p → Heads p.functions table.now
+pub fn type_functions(program: &ReadProgram) -> Result<Endings, Refusal>
+    ensures { (p : Program) → ProgramIn program.now.bytes.now p → Heads p.functions program.now.functions
         → Learns p.functions (type_functions [] p.functions) result }
 {
     let mut endings = Endings::new();
-    for f in 0..table.count as u8 {
-        let head = table.head(f);
+    for f in 0..program.functions.count as u8 {
+        let head = program.functions.head(f);
         let body = Body {
-            bytes: s,
+            bytes: program.bytes,
             endings,
             inside: first(head.locations),
         };

@@ -34,10 +34,12 @@ module _ (c : Players) (schedule before : List ℕ) (D : Device) (p q : Program)
   pub record Going (i : ℕ) (m : Machine) (ones twos : ℕ) (now : List ℕ) : Type 0 where
     pub M : run.Machine
     pub holds : Holds c D p q M m
-    pub written : sets before 0 (record_bytes (records D (programs p q) (map turn_of schedule) M₀)) ≡ sets now (4 * i) (record_bytes (records D (programs p q) (map turn_of (drop i schedule)) M))
+    pub written : sets before 0 (record_bytes (records D (programs p q) (map turn_of schedule) M₀)) ≡ sets now (4 * i)
+        (record_bytes (records D (programs p q) (map turn_of (drop i schedule)) M))
     pub ends : final D (programs p q) (map turn_of schedule) M₀ ≡ final D (programs p q) (map turn_of (drop i schedule)) M
     pub first : moved_by 1 (records D (programs p q) (map turn_of schedule) M₀) ≡ ones + moved_by 1 (records D (programs p q) (map turn_of (drop i schedule)) M)
-    pub second : moved_by 2 (records D (programs p q) (map turn_of schedule) M₀) ≡ twos + moved_by 2 (records D (programs p q) (map turn_of (drop i schedule)) M)
+    pub second : moved_by 2 (records D (programs p q) (map turn_of schedule) M₀) ≡ twos + moved_by 2
+        (records D (programs p q) (map turn_of (drop i schedule)) M)
 
   pub going_start : (m : Machine) → Holds c D p q M₀ m → Going 0 m 0 0 before
   going_start m H = record { M = M₀; holds = H; written = refl; ends = refl; first = omega arith; second = omega arith }
@@ -105,7 +107,8 @@ module _ (c : Players) (schedule before : List ℕ) (m₀ : Machine) where
     going = λ D p q M B H. going_start c schedule before D p q M m₀ H;
   }
 
-  pub under_on : (i : ℕ) (m : Machine) (ones twos x y : ℕ) (now next : List ℕ) (n : Machine) (r : Record) → Under i m ones twos now → i < length schedule → Turns c m (byte schedule i) n r
+  pub under_on : (i : ℕ) (m : Machine) (ones twos x y : ℕ) (now next : List ℕ) (n : Machine) (r : Record) → Under i m ones twos now → i < length schedule
+      → Turns c m (byte schedule i) n r
       → x ≡ counts (byte schedule i) 1 r → x ≤ 1 → y ≡ counts (byte schedule i) 2 r → y ≤ 1 → next ≡ sets now (4 * i) (bytes_of r)
       → Under (i + 1) n (ones + x) (twos + y) next
   under_on i m ones twos x y now next n r U h T e k f l g = record {

@@ -49,7 +49,8 @@ module _ (s : List ℕ) (i : ℕ) (h : i < length s) where
       let k : suc i ≡ i + 1 = omega arith in
       subst (λ (j : ℕ). from s i ≡ from s j) k (rw (opened, e) (go (turns 2 (suc i) (drop (suc i) s))))
     where
-      go : (m : Check (List Turn)) → ◌≡◌ {A = Check (Unit {0})} (within Schedule (m >>= λ ts. ok (turn_of (byte s i) ∷ ts)) >> ok tt) (within Schedule m >> ok tt)
+      go : (m : Check (List Turn))
+          → ◌≡◌ {A = Check (Unit {0})} (within Schedule (m >>= λ ts. ok (turn_of (byte s i) ∷ ts)) >> ok tt) (within Schedule m >> ok tt)
       go (ok ts) = refl
       go (refused x) = refl
 

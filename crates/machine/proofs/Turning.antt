@@ -25,7 +25,8 @@ use Rattle.theory.specs.TheRun.{is_turn}
 use Rattle.machine.specs.Running.{programs, Ready, Takes, Holds, Running, Turns}
 use Rattle.theory.proofs.TheRun.{turn_bounds}
 
-pub taken : (c : Player) (before : List ℕ) (j i : Job) (number : ℕ) (v : Bool) (r : Stepped) (now : List ℕ) → Steps c.bytes.now c.functions.now c.rows.now c.owned before v j i r
+pub taken : (c : Player) (before : List ℕ) (j i : Job) (number : ℕ) (v : Bool) (r : Stepped) (now : List ℕ)
+    → Steps c.bytes.now c.functions.now c.rows.now c.owned before v j i r
     → Applies r.act number before now → Takes c before j number v i r.record now
 taken c before j i number v r now S A p J R occ T st M h =
     let F = S p J R occ T.program T.heads st T.owned T.rows_are M in
@@ -49,16 +50,35 @@ module _ (c : Players) (m : Machine) (b : ℕ) where
   module _ (i : Job) (r : Record) (now : List ℕ) where
     pub turned_first : b / 16 ≡ 1 → Takes c.first m.map m.first 1 (eqb (b % 16) 1) i r now → Turns c m b (record { map = now; first = i; second = m.second }) r
     turned_first e T D p q M B H =
-        subst (λ (j : ℕ). Holds c D p q (after D (programs p q) (record { job = j; outcome = eqb (b % 16) 1 }) M) (record { map = now; first = i; second = m.second })
+        subst (λ (j : ℕ). Holds c D p q (after D (programs p q) (record { job = j; outcome = eqb (b % 16) 1 }) M)
+        (record { map = now; first = i; second = m.second })
         × (r ≡ record_of (step_of D (programs p q) (record { job = j; outcome = eqb (b % 16) 1 }) M).answer))
         (sym e)
-        (let F = T p (M.jobs 1) (region_of D 1) M.occupancy B.first H.first H.maps (long_enough D p q M 1 H) in
-        (record { first = F.0; second = H.second; maps = F.2; long = length_written 1 (step_of D (programs p q) (record { job = 1; outcome = eqb (b % 16) 1 }) M).act M.occupancy ∙ H.long }, F.1))
+        (let F = T p (M.jobs 1) (region_of D 1) M.occupancy B.first H.first H.maps (long_enough D p q M 1 H) in (
+          record {
+            first = F.0;
+            second = H.second;
+            maps = F.2;
+            long = length_written 1
+                (step_of D (programs p q) (record { job = 1; outcome = eqb (b % 16) 1 }) M).act M.occupancy ∙ H.long;
+          },
+          F.1,
+        ))
 
-    pub turned_second : b / 16 ≡ 2 → Takes c.second m.map m.second 2 (eqb (b % 16) 1) i r now → Turns c m b (record { map = now; first = m.first; second = i }) r
+    pub turned_second : b / 16 ≡ 2 → Takes c.second m.map m.second 2 (eqb (b % 16) 1) i r now
+        → Turns c m b (record { map = now; first = m.first; second = i }) r
     turned_second e T D p q M B H =
-        subst (λ (j : ℕ). Holds c D p q (after D (programs p q) (record { job = j; outcome = eqb (b % 16) 1 }) M) (record { map = now; first = m.first; second = i })
+        subst (λ (j : ℕ). Holds c D p q (after D (programs p q) (record { job = j; outcome = eqb (b % 16) 1 }) M)
+        (record { map = now; first = m.first; second = i })
         × (r ≡ record_of (step_of D (programs p q) (record { job = j; outcome = eqb (b % 16) 1 }) M).answer))
         (sym e)
-        (let F = T q (M.jobs 2) (region_of D 2) M.occupancy B.second H.second H.maps (long_enough D p q M 2 H) in
-        (record { first = H.first; second = F.0; maps = F.2; long = length_written 2 (step_of D (programs p q) (record { job = 2; outcome = eqb (b % 16) 1 }) M).act M.occupancy ∙ H.long }, F.1))
+        (let F = T q (M.jobs 2) (region_of D 2) M.occupancy B.second H.second H.maps (long_enough D p q M 2 H) in (
+          record {
+            first = H.first;
+            second = F.0;
+            maps = F.2;
+            long = length_written 2
+                (step_of D (programs p q) (record { job = 2; outcome = eqb (b % 16) 1 }) M).act M.occupancy ∙ H.long;
+          },
+          F.1,
+        ))

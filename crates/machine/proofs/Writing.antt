@@ -1,10 +1,10 @@
 -- Bytes written one after the other from a position on: what is still to be written, over what is written, gives what the whole gives over what was there
 -- before.
-use mathlib.Core.List.{List, [], ◌∷◌, ◌++◌}
-use mathlib.Core.Path.{◌≡◌, refl, sym, ap, ◌∙◌}
+use mathlib.Core.List.{List, ◌∷◌, ◌++◌}
+use mathlib.Core.Path.{◌≡◌, sym, ap, ◌∙◌}
 use native.Mathlib.Omega.{arith}
 use Prim.Native.Nat.{ℕ, suc, ◌+◌, ◌/◌, ◌%◌, ◌≤◌}
-use lib.ListN.{length, set, take, drop}
+use lib.ListN.{length, take, drop}
 use lib.Seq.{sets, sets-eq, length-take-le}
 use Rattle.rules.specs.Promises.{over}
 use Rattle.steps.specs.declared.Record.{Record}
@@ -23,7 +23,8 @@ map_written occupied map n h k =
     ap (λ (m : ℕ). take n occupied ++ drop m map) (sym l) ∙ sym (sets_over (take n occupied) map (omega (arith, l, k)))
 
 -- a record's four bytes, and what comes after them
-pub four_more : (out : List ℕ) (p q : ℕ) (r : Record) (rest : List ℕ) → q ≡ p + 4 → sets out p (r.code ∷ r.edges ∷ r.offset / 256 ∷ r.offset % 256 ∷ rest) ≡ sets (sets out p (bytes_of r)) q rest
+pub four_more : (out : List ℕ) (p q : ℕ) (r : Record) (rest : List ℕ) → q ≡ p + 4
+    → sets out p (r.code ∷ r.edges ∷ r.offset / 256 ∷ r.offset % 256 ∷ rest) ≡ sets (sets out p (bytes_of r)) q rest
 four_more out p q r rest e =
     let k : suc (suc (suc (suc p))) ≡ q = omega (arith, e) in
     ap (λ (z : ℕ). sets (sets out p (bytes_of r)) z rest) k

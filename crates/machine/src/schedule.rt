@@ -15,7 +15,7 @@ fn is_turn(b: u8) -> bool
     1 <= b / 16 && b / 16 <= 2 && b % 16 <= 1
 }
 
-// 22, then 23 at the first byte that is none.
+// Refuses a schedule that is too long, then the first byte that is no turn.
 pub fn read_schedule(schedule: &[u8]) -> Result<(), Refusal>
     ensures { said result ≡ scheduled schedule.now }
 {

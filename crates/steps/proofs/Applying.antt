@@ -45,7 +45,8 @@ stored : (map occ : List ℕ) (x v : ℕ) → x < 256 → x < length occ → Map
 stored map occ x v h k M = record { long = length-set map x v ∙ M.long; same = λ y. go y (ℕ_discrete y x) }
   where
     go : (y : ℕ) → Dec (y ≡ x) → get_or (set map x v) y 0 ≡ get_or (set occ x v) y 0
-    go y (yes e) = subst (λ (z : ℕ). get_or (set map x v) z 0 ≡ get_or (set occ x v) z 0) (sym e) (get_or-set_same map x v 0 (omega (arith, M.long)) ∙ sym (get_or-set_same occ x v 0 k))
+    go y (yes e) = subst (λ (z : ℕ). get_or (set map x v) z 0 ≡ get_or (set occ x v) z 0) (sym e)
+        (get_or-set_same map x v 0 (omega (arith, M.long)) ∙ sym (get_or-set_same occ x v 0 k))
     go y (no n) = get_or-set_other map x y v 0 n ∙ M.same y ∙ sym (get_or-set_other occ x y v 0 n)
 
 -- a store of 0, wherever
@@ -91,7 +92,11 @@ length_written j (merges b l e k) occ = refl
 
 -- the map of an empty device, and what the map has of the device's n locations
 pub maps_empty : (n : ℕ) → Maps (replicate 256 0) (replicate n 0)
-maps_empty n = record { long = length-replicate {A = ℕ} 256 0; same = λ x. get_d_replicate_default {A = ℕ} 256 x 0 ∙ sym (get_d_replicate_default {A = ℕ} n x 0) }
+maps_empty n = record {
+  long = length-replicate {A = ℕ} 256 0;
+  same = λ x. get_d_replicate_default {A = ℕ} 256 x 0
+      ∙ sym (get_d_replicate_default {A = ℕ} n x 0);
+}
 
 pub maps_first : (map occ : List ℕ) → length occ ≤ 256 → Maps map occ → take (length occ) map ≡ occ
 maps_first map occ h M =
@@ -105,7 +110,8 @@ module _ (R : Region) (fs : List Function) (v : Bool) (occ : List ℕ) (n : ℕ)
 
   within_perform : {d : Side} (σ : Actual d) (o : ℕ) (φ : Frame) (a : Op d) → Holds (λ r. Within n r.act) (perform (floor R fs v (free_in R occ) σ) o φ a)
   within_perform σ o φ (init q x l) =
-      holds_then (holds_any _) λ _ _. holds_then (holds_any _) λ _ _. holds_then (holds_need (free_in R occ (locate σ l).no) 14 o) λ _ p. by (free_within (locate σ l).no p)
+      holds_then (holds_any _) λ _ _. holds_then (holds_any _) λ _ _. holds_then (holds_need (free_in R occ (locate σ l).no) 14 o) λ _ p. by
+      (free_within (locate σ l).no p)
   within_perform σ o φ (free x) = holds_bind (holds_any _) λ _ _. by tt
   within_perform σ o φ (gate g x) = holds_bind (holds_any _) λ _ _. by tt
   within_perform σ o φ (measure y b x) = holds_then (holds_any _) λ _ _. holds_bind (holds_any _) λ _ _. by tt
@@ -137,6 +143,9 @@ module _ (R : Region) (fs : List Function) (v : Bool) (occ : List ℕ) (n : ℕ)
   step_within J = within_items J.top J.below J.items
 
 -- the map after a step that follows the rules', by what was applied
-pub step_applied : (s : List ℕ) (p : Program) (R : Region) (v : Bool) (occ map after : List ℕ) (j : ℕ) (J : rules.Job) (i : Job) (r : Stepped) → length R.owned ≤ length occ → Maps map occ
-    → Follows s p (step R p.functions v (free_in R occ) J) i r → Applies r.act j map after → Maps after (written j (step R p.functions v (free_in R occ) J).act occ)
-step_applied s p R v occ map after j J i r h M F A = A (step R p.functions v (free_in R occ) J).act occ (sym F.2) (step_within R p.functions v occ (length occ) h J) M
+pub step_applied : (s : List ℕ) (p : Program) (R : Region) (v : Bool) (occ map after : List ℕ) (j : ℕ) (J : rules.Job) (i : Job) (r : Stepped)
+    → length R.owned ≤ length occ → Maps map occ
+    → Follows s p (step R p.functions v (free_in R occ) J) i r → Applies r.act j map after
+    → Maps after (written j (step R p.functions v (free_in R occ) J).act occ)
+step_applied s p R v occ map after j J i r h M F A = A (step R p.functions v (free_in R occ) J).act occ (sym F.2)
+    (step_within R p.functions v occ (length occ) h J) M

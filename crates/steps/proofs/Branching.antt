@@ -48,7 +48,8 @@ module _ (s : List ℕ) (p : Program) (J : rules.Job) (j : Job) (at : ℕ) (N : 
     pub ends : N.q ≡ stop
     pub tree : N.t ≡ if at (byte s (at + 1)) (block (at + 2) ts) (block mid us)
 
-  if_of : (k : ℕ) (b c : Block N.d) → byte s (at + 1) < 32 → BlockIn s N.S N.depths (at + 2) b k → BlockIn s N.S N.depths k c N.q → N.t ≡ if at (byte s (at + 1)) b c → If
+  if_of : (k : ℕ) (b c : Block N.d) → byte s (at + 1) < 32 → BlockIn s N.S N.depths (at + 2) b k → BlockIn s N.S N.depths k c N.q
+      → N.t ≡ if at (byte s (at + 1)) b c → If
   if_of k b c l B C e =
       let x = block_in B in
       let C' : BlockIn s N.S N.depths mid c N.q = subst (λ (z : ℕ). BlockIn s N.S N.depths z c N.q) x.4 C in
@@ -111,12 +112,15 @@ module _ (s : List ℕ) (p : Program) (J : rules.Job) (j : Job) (at : ℕ) (N : 
     going t = move R p.functions v is_free (slots_of j.top.slots) J.below (run N.σ t) N.rest
 
     -- a block before what comes after the frame f
-    before : (f : Frame) (is : List Item) (inside a e : ℕ) (ts : Statements N.d) → f.slots ≡ j.top.slots → f.call ≡ j.top.call → f.places ≡ j.top.places → f.n + inside < 8
-        → StatementsIn s N.S inside a e ts → FrameIn s N.S N.σ f N.after is → going N.t ≡ ok (silent (slots_of j.top.slots) J.below (statements_before N.σ ts is))
+    before : (f : Frame) (is : List Item) (inside a e : ℕ) (ts : Statements N.d) → f.slots ≡ j.top.slots → f.call ≡ j.top.call → f.places ≡ j.top.places
+        → f.n + inside < 8
+        → StatementsIn s N.S inside a e ts → FrameIn s N.S N.σ f N.after is
+        → going N.t ≡ ok (silent (slots_of j.top.slots) J.below (statements_before N.σ ts is))
         → Ends (with_top j (pushed f a e)) (Ok told.silent)
     before f is inside a e ts b c d l w F m =
         let h = pushed_kept f a e in
-        frame_goes s p J j at N St R v is_free (silent (slots_of j.top.slots) J.below (statements_before N.σ ts is)) (pushed f a e) m refl (sym (ap slots_of (h.slots ∙ b))) (h.call ∙ c) (h.places ∙ d)
+        frame_goes s p J j at N St R v is_free (silent (slots_of j.top.slots) J.below (statements_before N.σ ts is)) (pushed f a e) m refl
+        (sym (ap slots_of (h.slots ∙ b))) (h.call ∙ c) (h.places ∙ d)
         (put s N.S N.σ N.after f is F inside a e ts l w.starts w)
 
     module _ (isIf : byte s at ≡ 10) (x : ℕ) (ex : x ≡ byte s (at + 1)) where
@@ -130,14 +134,16 @@ module _ (s : List ℕ) (p : Program) (J : rules.Job) (j : Job) (at : ℕ) (N : 
       unfolding ◌>>=◌ ◌>>◌
       if_stuck r reason k e = stays s p J j at N St R v is_free r reason at k (if_tree ∙ rw (sym (e at)) refl)
 
-      module _ (b : Bool) (h : Gives b (bool_of j.top.slots x)) (e q : ℕ) (ee : e ≡ at + 2 + 2 + word s (at + 2)) (eq : q ≡ e + 2 + word s e) (g f : Frame) (eg : g ≡ advanced j.top q) where
+      module _ (b : Bool) (h : Gives b (bool_of j.top.slots x)) (e q : ℕ) (ee : e ≡ at + 2 + 2 + word s (at + 2)) (eq : q ≡ e + 2 + word s e) (g f : Frame)
+          (eg : g ≡ advanced j.top q) where
         to_stop : q ≡ stop
         to_stop = eq ∙ ap (λ (z : ℕ). z + 2 + word s z) ee
 
         past : g ≡ advanced j.top N.q
         past = eg ∙ ap (advanced j.top) (to_stop ∙ sym I.ends)
 
-        if_goes : (a z : ℕ) (ts : Statements N.d) → StatementsIn s N.S I.inside a z ts → going N.t ≡ ok (silent (slots_of j.top.slots) J.below (statements_before N.σ ts N.rest))
+        if_goes : (a z : ℕ) (ts : Statements N.d) → StatementsIn s N.S I.inside a z ts
+            → going N.t ≡ ok (silent (slots_of j.top.slots) J.below (statements_before N.σ ts N.rest))
             → f ≡ pushed g a z → Ends (with_top j f) (Ok told.silent)
         if_goes a z ts y m ef =
             let l = advanced_kept j.top N.q in
@@ -154,7 +160,8 @@ module _ (s : List ℕ) (p : Program) (J : rules.Job) (j : Job) (at : ℕ) (N : 
         unfolding ◌>>=◌ ◌>>◌
         if_else t ef =
             if_goes (e + 2) q I.us
-            (subst (λ (z : ℕ). StatementsIn s N.S I.inside (z + 2) q I.us) (sym ee) (subst (λ (z : ℕ). StatementsIn s N.S I.inside (mid + 2) z I.us) (sym to_stop) I.second))
+            (subst (λ (z : ℕ). StatementsIn s N.S I.inside (z + 2) q I.us) (sym ee)
+            (subst (λ (z : ℕ). StatementsIn s N.S I.inside (mid + 2) z I.us) (sym to_stop) I.second))
             (if_tree ∙ rw (sym (h at), t) refl) ef
 
     module _ (isWhile : byte s at ≡ 11) (x : ℕ) (ex : x ≡ byte s (at + 1)) where
@@ -174,7 +181,8 @@ module _ (s : List ℕ) (p : Program) (J : rules.Job) (j : Job) (at : ℕ) (N : 
         while_ends t ef =
             let l = advanced_kept j.top N.q in
             subst (λ (w : Frame). Ends (with_top j w) (Ok told.silent)) (sym (ef ∙ ap (advanced j.top) (eq ∙ sym W.ends)))
-            (frame_goes s p J j at N St R v is_free (silent (slots_of j.top.slots) J.below N.rest) (advanced j.top N.q) (while_tree ∙ rw (sym (h at), t) refl) refl
+            (frame_goes s p J j at N St R v is_free (silent (slots_of j.top.slots) J.below N.rest) (advanced j.top N.q)
+            (while_tree ∙ rw (sym (h at), t) refl) refl
             (sym (ap slots_of l.slots)) l.call l.places N.past)
 
         same_while : run N.σ (while at x (block (at + 2) W.ts)) ≡ run N.σ N.t
@@ -190,7 +198,8 @@ module _ (s : List ℕ) (p : Program) (J : rules.Job) (j : Job) (at : ℕ) (N : 
             (ap (λ (z : Item). ok (silent (slots_of j.top.slots) J.below (statements_before N.σ W.ts (z ∷ N.rest)))) same_while)))
 
 -- the exits of the code
-module _ {s : List ℕ} {j : Job} {at : ℕ} (C : Comes s j at) (x : ℕ) (ex : x ≡ byte s (at + 1)) (r : Result Effect Fault) (reason : Fault) (k : r ≡ Err reason) where
+module _ {s : List ℕ} {j : Job} {at : ℕ} (C : Comes s j at) (x : ℕ) (ex : x ≡ byte s (at + 1)) (r : Result Effect Fault) (reason : Fault)
+    (k : r ≡ Err reason) where
   pub branch_stuck : byte s at ≡ 10 → Refuses reason (bool_of j.top.slots x) → Anyway s at j j r
   branch_stuck isIf e p J R v is_free P St = if_stuck s p J j at (next s p J j at P St C.some C.here) St R v is_free isIf x ex r reason k e
 
@@ -198,7 +207,8 @@ module _ {s : List ℕ} {j : Job} {at : ℕ} (C : Comes s j at) (x : ℕ) (ex : 
   repeat_stuck isWhile e p J R v is_free P St = while_stuck s p J j at (next s p J j at P St C.some C.here) St R v is_free isWhile x ex r reason k e
 
 module _ {s : List ℕ} {j : Job} {at : ℕ} (C : Comes s j at) (x : ℕ) (ex : x ≡ byte s (at + 1)) (b : Bool) where
-  module _ (isIf : byte s at ≡ 10) (h : Gives b (bool_of j.top.slots x)) (e q : ℕ) (ee : e ≡ at + 2 + 2 + word s (at + 2)) (eq : q ≡ e + 2 + word s e) (g f : Frame) (eg : g ≡ advanced j.top q) where
+  module _ (isIf : byte s at ≡ 10) (h : Gives b (bool_of j.top.slots x)) (e q : ℕ) (ee : e ≡ at + 2 + 2 + word s (at + 2)) (eq : q ≡ e + 2 + word s e)
+      (g f : Frame) (eg : g ≡ advanced j.top q) where
     pub branch_then : b ≡ true → f ≡ pushed g (at + 2 + 2) e → Anyway s at j (with_top j f) (Ok told.silent)
     branch_then t ef p J R v is_free P St = if_then s p J j at (next s p J j at P St C.some C.here) St R v is_free isIf x ex b h e q ee eq g f eg t ef
 
@@ -242,5 +252,6 @@ module _ {s : List ℕ} {j : Job} {at : ℕ} (C : Comes s j at) where
   while_there k = let f = while_facts s C.steady.p C.steady.J j at M k in fits_by f.inside _ f.deep f.slot f.fits
 
 -- the end of the second block, in the code's terms
-pub stop_is : (s : List ℕ) (at e q : ℕ) → e ≡ at + 2 + 2 + word s (at + 2) → q ≡ e + 2 + word s e → q ≡ at + 2 + 2 + word s (at + 2) + 2 + word s (at + 2 + 2 + word s (at + 2))
+pub stop_is : (s : List ℕ) (at e q : ℕ) → e ≡ at + 2 + 2 + word s (at + 2) → q ≡ e + 2 + word s e
+    → q ≡ at + 2 + 2 + word s (at + 2) + 2 + word s (at + 2 + 2 + word s (at + 2))
 stop_is s at e q ee eq = eq ∙ ap (λ (z : ℕ). z + 2 + word s z) ee

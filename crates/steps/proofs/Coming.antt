@@ -165,7 +165,8 @@ module _ (s : List ℕ) (p : Program) (J : rules.Job) (j : Job) (at : ℕ) (N : 
       })
 
   -- an operation, by what it told
-  told_stuck : (r : Result Effect Fault) (a : Answer) (reason : Fault) (c : Check Move) → moved ≡ c → Tells a J.below N.rest c → a ≡ Err reason → r ≡ Err reason → Leaves j r
+  told_stuck : (r : Result Effect Fault) (a : Answer) (reason : Fault) (c : Check Move) → moved ≡ c → Tells a J.below N.rest c → a ≡ Err reason
+      → r ≡ Err reason → Leaves j r
   told_stuck r a reason c e (moves u b) t k = absurd (not_both (sym u ∙ t))
   told_stuck r a reason c e (fails {reason = i} {o = q} u) t k = stays r i q (k ∙ ap Err (same_reason (sym t ∙ u))) e
 
@@ -175,7 +176,8 @@ module _ (s : List ℕ) (p : Program) (J : rules.Job) (j : Job) (at : ℕ) (N : 
       let l = advanced_kept j.top N.q in
       let p = N.past in
       let same : performed ψ i (act_of x) ≡ performed φ n act = same_value (sym w ∙ t) in
-      let goes = frame_goes (record { next = record { top = χ; below = J.below; items = N.rest }; act = x; edges = i }) (with_slots (advanced j.top N.q) ψ) u refl (sym b) l.call l.places
+      let goes = frame_goes (record { next = record { top = χ; below = J.below; items = N.rest }; act = x; edges = i }) (with_slots (advanced j.top N.q) ψ) u
+      refl (sym b) l.call l.places
       (record { sized = p.sized; room = p.room; ranges = p.ranges }) in
       subst (λ (z : Performed). Leaves (with_top j (with_slots (advanced j.top N.q) z.slots)) (Ok (record { edges = z.edges; act = z.act }))) same goes
   told_moved a φ n act c u (fails w) t = absurd (not_both (sym t ∙ w))

@@ -119,7 +119,8 @@ module _ (s : List ℕ) (t : FunctionTable) (rows : Rows) (owned : LocationSet) 
   pub by_return : (at : ℕ) → Returns s j i at → r ≡ told.told (Ok told.silent) at → Steps s t rows owned map v j i r
   by_return at A e = subst (Steps s t rows owned map v j i) (sym e) (λ p J R occ P H St O W M. A p J R v (free_in R occ) P St)
 
-pub by_end : (s : List ℕ) (t : FunctionTable) (rows : Rows) (owned : LocationSet) (map : List ℕ) (v : Bool) (j : Job) (r : Stepped) → j.top.n ≡ 0 → j.depth ≡ 0 → r ≡ told.finished → Steps s t rows owned map v j j r
+pub by_end : (s : List ℕ) (t : FunctionTable) (rows : Rows) (owned : LocationSet) (map : List ℕ) (v : Bool) (j : Job) (r : Stepped) → j.top.n ≡ 0
+    → j.depth ≡ 0 → r ≡ told.finished → Steps s t rows owned map v j j r
 by_end s t rows owned map v j r n d e = subst (Steps s t rows owned map v j j) (sym e) (λ p J R occ P H St O W M. finished s p J j St n R v (free_in R occ) d)
 
 -- where main is
@@ -131,7 +132,8 @@ main_there {s} {main} B =
 pub fresh_room : (φ : Slots) (places : List Location) (f : Frame) → f ≡ empty_frame φ places 0 → f.n < 8
 fresh_room φ places f e = let z = ap (λ (g : Frame). g.n) e in omega arith
 
-pub starts : (s : List ℕ) (main e : ℕ) (places : List Location) (φ : Slots) (f g : Frame) (below : List Frame) → length below ≡ 15 → slots_of φ ≡ replicate 32 unbound → f ≡ empty_frame φ places 0
+pub starts : (s : List ℕ) (main e : ℕ) (places : List Location) (φ : Slots) (f g : Frame) (below : List Frame) → length below ≡ 15
+    → slots_of φ ≡ replicate 32 unbound → f ≡ empty_frame φ places 0
     → e ≡ main + 2 + word s main → g ≡ pushed f (main + 2) e → Starts s main (record { top = g; below = below; depth = 0 })
 unfolding FramesIn RangesIn
 starts s main e places φ f g below l eφ ef ee eg p P m = record {
@@ -143,7 +145,8 @@ starts s main e places φ f g below l eφ ef ee eg p P m = record {
     S : Scope
     S = main_scope p.functions
 
-    b : (ts : Statements device) × (inside : ℕ) × (p.main ≡ block (offset_of p.main) ts) × (8 ≡ suc inside) × (length s ≡ offset_of p.main + 2 + word s (offset_of p.main)) × (length s ≤ length s)
+    b : (ts : Statements device) × (inside : ℕ) × (p.main ≡ block (offset_of p.main) ts) × (8 ≡ suc inside)
+        × (length s ≡ offset_of p.main + 2 + word s (offset_of p.main)) × (length s ≤ length s)
         × StatementsIn s S inside (offset_of p.main + 2) (length s) ts
     b = block_in P.main
 

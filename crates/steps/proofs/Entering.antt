@@ -57,7 +57,8 @@ given_more places i h =
     ap (λ (n : ℕ). take n (map place_of places)) (add-one i) ∙ take-suc (map place_of places) i (record { no = 0 }) (omega (arith, length-map places place_of))
     ∙ ap (λ (z : Place device). take i (map place_of places) ++ (z ∷ [])) (get_or-map place_of places i (record { 0 = 0 }))
 
-entered_more : (ls : List (Place device)) (l : Place device) (i : ℕ) → length ls ≡ i → i < 32 → set (entered {B = Bool} ls) i (qubit l) ≡ entered (ls ++ (l ∷ []))
+entered_more : (ls : List (Place device)) (l : Place device) (i : ℕ) → length ls ≡ i → i < 32
+    → set (entered {B = Bool} ls) i (qubit l) ≡ entered (ls ++ (l ∷ []))
 entered_more ls l i e h =
     let n : 32 - length ls ≡ suc (32 - (i + 1)) = omega arith in
     let z : length (ls ++ (l ∷ [])) ≡ i + 1 = length-append ls (l ∷ []) ∙ omega (arith, e) in
@@ -67,11 +68,13 @@ entered_more ls l i e h =
     ∙ ap (λ (φ : rules.Frame). φ ++ replicate (32 - (i + 1)) unbound) (sym (map-append qubit ls (l ∷ [])))
     ∙ ap (λ (k : ℕ). map qubit (ls ++ (l ∷ [])) ++ replicate (32 - k) unbound) (sym z)
 
-pub bound_more : (places : List Location) (i : ℕ) (φ ψ : Slots) → Bound places i φ → length places ≡ 16 → i < 16 → slots_of ψ ≡ set (slots_of φ) i (qubit (place_of (location_at places i))) → Bound places (i + 1) ψ
+pub bound_more : (places : List Location) (i : ℕ) (φ ψ : Slots) → Bound places i φ → length places ≡ 16 → i < 16
+    → slots_of ψ ≡ set (slots_of φ) i (qubit (place_of (location_at places i))) → Bound places (i + 1) ψ
 bound_more places i φ ψ B l h e = record {
   same =
       e ∙ ap (λ (χ : rules.Frame). set χ i (qubit (place_of (location_at places i)))) B.same
-      ∙ entered_more (given places i) (place_of (location_at places i)) i (given_length places i l (omega arith)) (omega arith) ∙ ap entered (sym (given_more places i (omega arith)));
+      ∙ entered_more (given places i) (place_of (location_at places i)) i (given_length places i l (omega arith)) (omega arith)
+      ∙ ap entered (sym (given_more places i (omega arith)));
 }
 
 pub bound_all : (places : List Location) (i m at : ℕ) (φ : Slots) (f : Frame) → Bound places i φ → i ≡ m → f ≡ empty_frame φ places at → Enters places m at f
@@ -85,7 +88,8 @@ map_up_to : {A B : Type 0} (f : A → B) (h : ℕ → A) (p k : ℕ) → map f (
 map_up_to f h p zero = refl
 map_up_to f h p (suc k) = ap (λ (l : List _). f (h p) ∷ l) (map_up_to f h (suc p) k)
 
-up_to_given : (h : ℕ → Place device) (places : List Location) (p k : ℕ) → length places ≡ 16 → k ≤ 16 → ((i : ℕ) → i < k → h (p + i) ≡ place_of (location_at places i)) → up_to p k h ≡ given places k
+up_to_given : (h : ℕ → Place device) (places : List Location) (p k : ℕ) → length places ≡ 16 → k ≤ 16
+    → ((i : ℕ) → i < k → h (p + i) ≡ place_of (location_at places i)) → up_to p k h ≡ given places k
 up_to_given h places p k l m e =
     ext_get_or (record { no = 0 }) (up_to p k h) (given places k) (length_up_to h p k ∙ sym (given_length places k l m))
     λ i b. let c : i < k = omega (arith, length_up_to h p k) in get_d_up_to h p k i (record { no = 0 }) c ∙ e i c ∙ sym (given_at places k i c)
@@ -158,7 +162,8 @@ module _ (s : List ℕ) (p : Program) (J : rules.Job) (j : Job) (at : ℕ) (N : 
         body_in = subst (λ (z : ℕ). StatementsIn s (scope_of fs g) b.1 (body + 2) z b.0) b.4 b.6;
       }
 
-  module _ (P : ProgramIn s p) (is_call : byte s at ≡ 12) (St : Stands s p J j) (R : Region) (v : Bool) (occ : List ℕ) (places : List Location) (lp : length places ≡ 16)
+  module _ (P : ProgramIn s p) (is_call : byte s at ≡ 12) (St : Stands s p J j) (R : Region) (v : Bool) (occ : List ℕ) (places : List Location)
+      (lp : length places ≡ 16)
       (ep : (i : ℕ) → i < K → location_at places i ≡ located_in j (byte s (at + 4 + i))) where
     abbrev C : Call
     C = call_facts P is_call
@@ -169,14 +174,16 @@ module _ (s : List ℕ) (p : Program) (J : rules.Job) (j : Job) (at : ℕ) (N : 
     actual_is : map (locate N.σ) (up_to (at + 4) K λ i. record { no = byte s i }) ≡ ls
     actual_is =
         map_up_to (locate N.σ) (λ i. record { no = byte s i }) (at + 4) K
-        ∙ up_to_given (λ i. locate N.σ (record { no = byte s i })) places (at + 4) K lp C.most λ i h. N.named.named (byte s (at + 4 + i)) (C.places i h) ∙ ap place_of (sym (ep i h))
+        ∙ up_to_given (λ i. locate N.σ (record { no = byte s i })) places (at + 4) K lp C.most λ i h. N.named.named (byte s (at + 4 + i)) (C.places i h)
+        ∙ ap place_of (sym (ep i h))
 
     -- the move of the call, by its locations
     abbrev asking : List (Place device) → Check (Unit {0})
     asking ks = callable (floor R fs v (free_in R occ) N.σ) at (slots_of j.top.slots) ks xs
 
     abbrev called : List (Place device) → Move
-    called ks = silent (entered (take (length xs) ks)) (slots_of j.top.slots ∷ J.below) (block_before (locations ks) (function fs g).body (return at ks xs ∷ N.rest))
+    called ks = silent (entered (take (length xs) ks)) (slots_of j.top.slots ∷ J.below)
+        (block_before (locations ks) (function fs g).body (return at ks xs ∷ N.rest))
 
     calls : moved s p J j at N St R v (free_in R occ) ≡ (asking ls >> ok (called ls))
     calls =
@@ -187,15 +194,18 @@ module _ (s : List ℕ) (p : Program) (J : rules.Job) (j : Job) (at : ℕ) (N : 
       asked : (a : Result (Unit {0}) Fault) → Callable j.top.slots xs ls owned map a → asking ls ≡ said_at itself a at
       asked a A = sym (A N.d N.σ R fs v occ O M at)
 
-      refused_call : (r : Result Effect Fault) (reason : Fault) → r ≡ Err reason → Callable j.top.slots xs ls owned map (Err reason) → Leaves s p J j at N St R v (free_in R occ) j r
+      refused_call : (r : Result Effect Fault) (reason : Fault) → r ≡ Err reason → Callable j.top.slots xs ls owned map (Err reason)
+          → Leaves s p J j at N St R v (free_in R occ) j r
       unfolding ◌>>◌
-      refused_call r reason k A = stays s p J j at N St R v (free_in R occ) r reason at k (calls ∙ ap (λ (c : Check (Unit {0})). c >> ok (called ls)) (asked (Err reason) A))
+      refused_call r reason k A = stays s p J j at N St R v (free_in R occ) r reason at k
+          (calls ∙ ap (λ (c : Check (Unit {0})). c >> ok (called ls)) (asked (Err reason) A))
 
       granted_call : (f : Frame) → Callable j.top.slots xs ls owned map (Ok tt) → Enters places m at f
           → Leaves s p J j at N St R v (free_in R occ) (entering j (advanced j.top N.q) (pushed f (body + 2) (body + 2 + word s body))) (Ok told.silent)
       unfolding ◌>>◌ given RangesIn
       granted_call f A E =
-          goes_on s p J j at N St R v (free_in R occ) (called ls) (entering j (advanced j.top N.q) inner) (calls ∙ ap (λ (c : Check (Unit {0})). c >> ok (called ls)) (asked (Ok tt) A))
+          goes_on s p J j at N St R v (free_in R occ) (called ls) (entering j (advanced j.top N.q) inner)
+          (calls ∙ ap (λ (c : Check (Unit {0})). c >> ok (called ls)) (asked (Ok tt) A))
           (record { top = top; sized = length-set j.below j.depth (advanced j.top N.q) ∙ St.sized; frames = frames })
         where
           inner : Frame
@@ -220,22 +230,36 @@ module _ (s : List ℕ) (p : Program) (J : rules.Job) (j : Job) (at : ℕ) (N : 
           top = ap entered first ∙ sym (ap slots_of kept.slots ∙ E.slots)
 
           whole : CallIn s fs g (empty_frame f.slots places at) ls xs
-          whole = record { placed = lp; located = refl; places = C.known; most = C.most; arguments = C.arguments; fewer = C.fewer; fits = C.fits; given = refl; bound = C.bound }
+          whole = record {
+            placed = lp;
+            located = refl;
+            places = C.known;
+            most = C.most;
+            arguments = C.arguments;
+            fewer = C.fewer;
+            fits = C.fits;
+            given =
+                refl;
+            bound = C.bound;
+          }
 
           called_in : CallIn s fs g inner ls xs
           called_in = call_moved s fs g (empty_frame f.slots places at) inner ls xs call_is places_are whole
 
           begins : FrameIn s (scope_of fs g) (locations ls) f after after
-          begins = subst (λ (z : Frame). FrameIn s (scope_of fs g) (locations ls) z after after) (sym E.frame) (record { sized = refl; room = omega arith; ranges = refl })
+          begins = subst (λ (z : Frame). FrameIn s (scope_of fs g) (locations ls) z after after) (sym E.frame)
+              (record { sized = refl; room = omega arith; ranges = refl })
 
           empty : f.n ≡ 0
           empty = ap (λ (z : Frame). z.n) E.frame
 
           frame : FrameIn s (scope_of fs g) (locations ls) inner (return inner.call ls xs ∷ N.rest) (block_before (locations ls) (function fs g).body after)
           frame =
-              subst (λ (o : ℕ). FrameIn s (scope_of fs g) (locations ls) inner (return o ls xs ∷ N.rest) (block_before (locations ls) (function fs g).body after)) (sym call_is)
+              subst (λ (o : ℕ). FrameIn s (scope_of fs g) (locations ls) inner (return o ls xs ∷ N.rest)
+              (block_before (locations ls) (function fs g).body after)) (sym call_is)
               (subst (λ (z : Block parameter). FrameIn s (scope_of fs g) (locations ls) inner after (block_before (locations ls) z after)) (sym C.body_tree)
-              (put s (scope_of fs g) (locations ls) after f after begins C.inside (body + 2) (body + 2 + word s body) C.ts (omega (arith, empty, C.shallow)) (omega arith) C.body_in))
+              (put s (scope_of fs g) (locations ls) after f after begins C.inside (body + 2) (body + 2 + word s body) C.ts (omega (arith, empty, C.shallow))
+              (omega arith) C.body_in))
 
           lower : FramesIn s fs j.below j.depth (advanced j.top N.q) J.below N.rest
           lower = let l = advanced_kept j.top N.q in N.again (advanced j.top N.q) N.rest l.call l.places N.past
@@ -243,11 +267,15 @@ module _ (s : List ℕ) (p : Program) (J : rules.Job) (j : Job) (at : ℕ) (N : 
           caller_slots : slots_of (advanced j.top N.q).slots ≡ slots_of j.top.slots
           caller_slots = ap slots_of (advanced_kept j.top N.q).slots
 
-          frames : FramesIn s fs (set j.below j.depth (advanced j.top N.q)) (j.depth + 1) inner (slots_of j.top.slots ∷ J.below) (block_before (locations ls) (function fs g).body after)
+          frames : FramesIn s fs (set j.below j.depth (advanced j.top N.q)) (j.depth + 1) inner (slots_of j.top.slots ∷ J.below)
+              (block_before (locations ls) (function fs g).body after)
           frames =
-              subst (λ (n : ℕ). FramesIn s fs (set j.below j.depth (advanced j.top N.q)) n inner (slots_of j.top.slots ∷ J.below) (block_before (locations ls) (function fs g).body after)) (sym (add-one j.depth))
-              (subst (λ (φ : rules.Frame). FramesIn s fs (set j.below j.depth (advanced j.top N.q)) (suc j.depth) inner (φ ∷ J.below) (block_before (locations ls) (function fs g).body after)) caller_slots
-              (entered_frames s fs j.below j.depth (advanced j.top N.q) inner J.below N.rest (block_before (locations ls) (function fs g).body after) g ls xs St.sized (omega (arith, C.deep, C.few)) C.deep lower called_in frame))
+              subst (λ (n : ℕ). FramesIn s fs (set j.below j.depth (advanced j.top N.q)) n inner (slots_of j.top.slots ∷ J.below)
+              (block_before (locations ls) (function fs g).body after)) (sym (add-one j.depth))
+              (subst (λ (φ : rules.Frame). FramesIn s fs (set j.below j.depth (advanced j.top N.q)) (suc j.depth) inner (φ ∷ J.below)
+              (block_before (locations ls) (function fs g).body after)) caller_slots
+              (entered_frames s fs j.below j.depth (advanced j.top N.q) inner J.below N.rest (block_before (locations ls) (function fs g).body after) g ls xs
+              St.sized (omega (arith, C.deep, C.few)) C.deep lower called_in frame))
 
 -- what the code asks of the call to come
 pub record Called (s : List ℕ) (t : FunctionTable) (j : Job) (at : ℕ) : Type 0 where
@@ -339,7 +367,8 @@ module _ {s : List ℕ} {t : FunctionTable} {j : Job} {at : ℕ} (C : Called s t
   body_fits h e = (subst (λ (z : Head). z.body + 2 + word s z.body ≤ length s) (sym e) C.body, C.size)
 
   -- what they ask is what the call asks
-  in_lists : (places : List Location) (owned : LocationSet) (m : List ℕ) (a : Result (Unit {0}) Fault) → Callable j.top.slots lent (map place_of (take (byte s (at + 2)) places)) owned m a
+  in_lists : (places : List Location) (owned : LocationSet) (m : List ℕ) (a : Result (Unit {0}) Fault)
+      → Callable j.top.slots lent (map place_of (take (byte s (at + 2)) places)) owned m a
       → Callable j.top.slots (up_to (at + 4 + byte s (at + 2)) (byte s (at + 3)) (byte s)) (given places (byte s (at + 2))) owned m a
   unfolding given
   in_lists places owned m a A =
@@ -347,7 +376,8 @@ module _ {s : List ℕ} {t : FunctionTable} {j : Job} {at : ℕ} (C : Called s t
       (subst (λ (ls : List (Place device)). Callable j.top.slots lent ls owned m a) (sym (take-map place_of (byte s (at + 2)) places)) A)
 
 -- the exits of the call, over what the code has in hand
-module _ {s : List ℕ} {t : FunctionTable} {j : Job} {at : ℕ} (Q : Ready s t j) (D : Comes s j at) (is : byte s at ≡ 12) (owned : LocationSet) (map : List ℕ) (places : List Location) (lp : length places ≡ 16)
+module _ {s : List ℕ} {t : FunctionTable} {j : Job} {at : ℕ} (Q : Ready s t j) (D : Comes s j at) (is : byte s at ≡ 12) (owned : LocationSet) (map : List ℕ)
+    (places : List Location) (lp : length places ≡ 16)
     (ep : (i : ℕ) → i < length (names (called_there Q D is)) → location_at places i ≡ located_in j (byte (names (called_there Q D is)) i)) where
   abbrev F : Called s t j at
   F = called_there Q D is
@@ -355,19 +385,25 @@ module _ {s : List ℕ} {t : FunctionTable} {j : Job} {at : ℕ} (Q : Ready s t 
   located : (i : ℕ) → i < byte s (at + 2) → location_at places i ≡ located_in j (byte s (at + 4 + i))
   located i l = ep i (omega (arith, names_length F, l)) ∙ ap (located_in j) (name_at F i l)
 
-  pub call_refused : (r : Result Effect Fault) (reason : Fault) → r ≡ Err reason → Callable j.top.slots (lent F) (Core.map place_of (take (byte s (at + 2)) places)) owned map (Err reason)
+  pub call_refused : (r : Result Effect Fault) (reason : Fault) → r ≡ Err reason
+      → Callable j.top.slots (lent F) (Core.map place_of (take (byte s (at + 2)) places)) owned map (Err reason)
       → Calls s t at owned map j j r
   call_refused r reason k A p J R v occ P H St O M =
-      refused_call s p J j at (next s p J j at P St D.some D.here) P is St R v occ places lp located owned map O M r reason k (in_lists F places owned map (Err reason) A)
+      refused_call s p J j at (next s p J j at P St D.some D.here) P is St R v occ places lp located owned map O M r reason k
+      (in_lists F places owned map (Err reason) A)
 
-  pub call_granted : (h : Head) (e : ℕ) (f inner adv : Frame) (i : Job) → Callable j.top.slots (lent F) (Core.map place_of (take (byte s (at + 2)) places)) owned map (Ok tt) → h ≡ entry t (byte s (at + 1))
-      → e ≡ h.body + 2 + word s h.body → Enters places (byte s (at + 3)) at f → inner ≡ pushed f (h.body + 2) e → adv ≡ advanced j.top (at + 4 + byte s (at + 2) + byte s (at + 3))
+  pub call_granted : (h : Head) (e : ℕ) (f inner adv : Frame) (i : Job)
+      → Callable j.top.slots (lent F) (Core.map place_of (take (byte s (at + 2)) places)) owned map (Ok tt) → h ≡ entry t (byte s (at + 1))
+      → e ≡ h.body + 2 + word s h.body → Enters places (byte s (at + 3)) at f → inner ≡ pushed f (h.body + 2) e
+      → adv ≡ advanced j.top (at + 4 + byte s (at + 2) + byte s (at + 3))
       → i ≡ entering j adv inner → Calls s t at owned map j i (Ok told.silent)
   call_granted h e f inner adv i A eb ee E ei ev ej p J R v occ P H St O M =
       let N = next s p J j at P St D.some D.here in
       let C = call_facts s p J j at N P is in
-      let body_is : h.body ≡ offset_of (function p.functions (byte s (at + 1))).body = ap (λ (z : Head). z.body) eb ∙ H.bodies (byte s (at + 1)) (omega (arith, C.deep)) in
-      let inner_is : inner ≡ pushed f (offset_of (function p.functions (byte s (at + 1))).body + 2) (offset_of (function p.functions (byte s (at + 1))).body + 2 + word s (offset_of (function p.functions (byte s (at + 1))).body)) =
+      let body_is : h.body ≡ offset_of (function p.functions (byte s (at + 1))).body = ap (λ (z : Head). z.body) eb
+      ∙ H.bodies (byte s (at + 1)) (omega (arith, C.deep)) in
+      let inner_is : inner ≡ pushed f (offset_of (function p.functions (byte s (at + 1))).body + 2)
+      (offset_of (function p.functions (byte s (at + 1))).body + 2 + word s (offset_of (function p.functions (byte s (at + 1))).body)) =
       ei ∙ ap (pushed f (h.body + 2)) ee ∙ ap (λ (z : ℕ). pushed f (z + 2) (z + 2 + word s z)) body_is in
       subst (λ (z : Job). Leaves s p J j at N St R v (free_in R occ) z (Ok told.silent))
       (sym (ej ∙ ap (λ (z : Frame). entering j z inner) (ev ∙ ap (advanced j.top) (sym C.ends)) ∙ ap (entering j (advanced j.top N.q)) inner_is))

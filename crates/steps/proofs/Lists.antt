@@ -65,7 +65,8 @@ apart_is [] = refl
 apart_is (x ∷ xs) = ap₂ (λ (a b : Bool). not a && b) (any_is x xs) (apart_is xs)
 
 -- an array filled in order
-pub filled_more : {A : Type 0} (f : ℕ → A) (xs : List A) (d : A) (i : ℕ) (x : A) → i < length xs → x ≡ f i → ((n : ℕ) → n < i → get_or xs n d ≡ f n) → (n : ℕ) → n < i + 1
+pub filled_more : {A : Type 0} (f : ℕ → A) (xs : List A) (d : A) (i : ℕ) (x : A) → i < length xs → x ≡ f i → ((n : ℕ) → n < i → get_or xs n d ≡ f n)
+    → (n : ℕ) → n < i + 1
     → get_or (set xs i x) n d ≡ f n
 filled_more f xs d i x h e g n k = go (ℕ_discrete n i)
   where
@@ -73,28 +74,26 @@ filled_more f xs d i x h e g n k = go (ℕ_discrete n i)
     go (yes z) = ap (λ (m : ℕ). get_or (set xs i x) m d) z ∙ get_or-set_same xs i x d h ∙ e ∙ ap f (sym z)
     go (no z) = get_or-set_other xs i n x d z ∙ g n (omega (arith, z))
 
--- the numbers of so many locations
-pub numbers_are : (ls : List Location) (ns : List ℕ) → length ls ≤ length ns → ((n : ℕ) → n < length ls → get_or ns n 0 ≡ (location_at ls n).0) → take (length ls) ns ≡ numbers (map place_of ls)
+-- the numbers of so many locations, as they are written one by one, and as the rules have them
+pub numbers_are : (ls : List Location) (ns : List ℕ) → length ls ≤ length ns → ((n : ℕ) → n < length ls → get_or ns n 0 ≡ (location_at ls n).0)
+    → take (length ls) ns ≡ map (λ (l : Location). l.0) ls
 numbers_are [] ns h e = refl
 numbers_are (l ∷ ls) [] h e = absurd (omega arith)
-numbers_are (l ∷ ls) (n ∷ ns) h e = ap₂ (λ (m : ℕ) (ms : List ℕ). m ∷ ms) (e 0 (omega arith)) (numbers_are ls ns (omega arith) λ k b. e (suc k) (omega arith))
+numbers_are (l ∷ ls) (n ∷ ns) h e =
+    ap₂ (λ (m : ℕ) (ms : List ℕ). m ∷ ms) (e 0 (omega arith)) (numbers_are ls ns (omega arith) λ k b. e (suc k) (omega arith))
 
--- ---- the same in the rules' terms, by what the code's test said
-pub all_said : (P : ℕ → Bool) (ls : List Location) (b t : Bool) → b ≡ list_all (λ (l : Location). P l.0) ls → b ≡ t → t ≡ all (λ (l : Place device). P l.no) (map place_of ls)
-all_said P ls b t e k = sym k ∙ e ∙ tested P ls
+pub numbers_of : (ls : List Location) → map (λ (l : Location). l.0) ls ≡ numbers (map place_of ls)
+numbers_of [] = refl
+numbers_of (l ∷ ls) = ap (λ (ns : List ℕ). l.0 ∷ ns) (numbers_of ls)
 
+-- a test of all but the first n locations, which are a slice
 dropped : (n : ℕ) (ls : List Location) → map place_of (drop n ls) ≡ drop n (map place_of ls)
 dropped zero ls = refl
 dropped (suc n) [] = refl
 dropped (suc n) (l ∷ ls) = dropped n ls
 
-pub rest_said : (P : ℕ → Bool) (n : ℕ) (ls : List Location) (b t : Bool) → b ≡ list_all (λ (l : Location). P l.0) (take (length ls - n) (drop n ls)) → b ≡ t → t ≡ all (λ (l : Place device). P l.no) (drop n (map place_of ls))
-rest_said P n ls b t e k =
-    all_said P (drop n ls) b t (e ∙ ap (list_all (λ (l : Location). P l.0)) (ap (λ (m : ℕ). take m (drop n ls)) (sym (length-drop n ls)) ∙ take-length (drop n ls))) k ∙ ap (all (λ (l : Place device). P l.no)) (dropped n ls)
-
-pub apart_said : (xs : List ℕ) (b t : Bool) → b ≡ all_apart xs → b ≡ t → t ≡ distinct xs
-apart_said xs b t e k = sym k ∙ e ∙ apart_is xs
-
-pub numbers_said : (ls : List Location) (ns : List ℕ) (b t : Bool) → length ls ≤ length ns → ((n : ℕ) → n < length ls → get_or ns n 0 ≡ (location_at ls n).0)
-    → b ≡ all_apart (take (length ls) ns) → b ≡ t → t ≡ distinct (numbers (map place_of ls))
-numbers_said ls ns b t h f e k = apart_said (take (length ls) ns) b t e k ∙ ap distinct (numbers_are ls ns h f)
+pub rest_tested : (P : ℕ → Bool) (n : ℕ) (ls : List Location)
+    → list_all (λ (l : Location). P l.0) (take (length ls - n) (drop n ls)) ≡ all (λ (l : Place device). P l.no) (drop n (map place_of ls))
+rest_tested P n ls =
+    let e : take (length ls - n) (drop n ls) ≡ drop n ls = ap (λ (m : ℕ). take m (drop n ls)) (sym (length-drop n ls)) ∙ take-length (drop n ls) in
+    ap (list_all (λ (l : Location). P l.0)) e ∙ tested P (drop n ls) ∙ ap (all (λ (l : Place device). P l.no)) (dropped n ls)

@@ -35,7 +35,8 @@ use Rattle.steps.specs.Performing.{Answer, performed, Tells, Maps, Routes, Merge
 use Rattle.steps.proofs.Perform.{Refuses, Gives, bindable, qubit_of, stops, goes}
 
 -- the set has the free locations, as the rules have them
-free_same : (owned free : LocationSet) (map : List ℕ) (R : Region) (occupancy : List ℕ) → Owned R owned → Maps map occupancy → ((y : ℕ) → has free y ≡ (has owned y && eqb (get_or map y 0) 0)) → has free ≡ free_in R occupancy
+free_same : (owned free : LocationSet) (map : List ℕ) (R : Region) (occupancy : List ℕ) → Owned R owned → Maps map occupancy
+    → ((y : ℕ) → has free y ≡ (has owned y && eqb (get_or map y 0) 0)) → has free ≡ free_in R occupancy
 free_same owned free map R occupancy O M h = free-locations owned free R occupancy O (λ y. h y ∙ ap (λ (z : ℕ). has owned y && eqb z 0) (M.same y))
 
 -- the reason that a missing route is given
@@ -49,29 +50,35 @@ module _ (φ : Slots) (r : Answer) (y : ℕ) (l k : Location) (rows : Rows) (own
   -- what a merge gives, by its route
   abbrev Along : Maybe (List ℕ) → rules.Act device → ℕ → List Frame → List Item → Type 0
   Along X a o φs rest =
-      Tells r φs rest ((need_route X o >>= λ p. ok (length p - 1)) >>= λ e. ok (record { next = record { top = set (slots_of φ) y (bool v); below = φs; items = rest }; act = a; edges = e }))
+      Tells r φs rest ((need_route X o >>= λ p. ok (length p - 1)) >>= λ e. ok
+      (record { next = record { top = set (slots_of φ) y (bool v); below = φs; items = rest }; act = a; edges = e }))
 
   no_route : (X : Maybe (List ℕ)) (a : rules.Act device) (o : ℕ) (φs : List Frame) (rest : List Item) → None ≡ edges_of X → r ≡ Err NoPath → Along X a o φs rest
   unfolding ◌>>=◌
   no_route none a o φs rest e g = stops g
   no_route (some p) a o φs rest e g = absurd (not_none e)
 
-  a_route : (X : Maybe (List ℕ)) (a : rules.Act device) (o : ℕ) (φs : List Frame) (rest : List Item) (e : ℕ) (ψ : Slots) → act_of a ≡ Quiet → Some e ≡ edges_of X → slots_of ψ ≡ set (slots_of φ) y (bool v)
+  a_route : (X : Maybe (List ℕ)) (a : rules.Act device) (o : ℕ) (φs : List Frame) (rest : List Item) (e : ℕ) (ψ : Slots) → act_of a ≡ Quiet
+      → Some e ≡ edges_of X → slots_of ψ ≡ set (slots_of φ) y (bool v)
       → r ≡ Ok (performed ψ e Quiet) → Along X a o φs rest
   unfolding ◌>>=◌
   a_route none a o φs rest e ψ q h s g = absurd (not_none (sym h))
   a_route (some p) a o φs rest e ψ q h s g =
-      goes ψ a s (g ∙ ap (λ (z : Act). Ok (performed ψ e z)) (sym q) ∙ ap (λ (z : ℕ). Ok (performed ψ z (act_of a))) (ap (λ (z : Option ℕ). elim z [ None ↦ e | Some x ↦ x ]) h))
+      goes ψ a s (g ∙ ap (λ (z : Act). Ok (performed ψ e z)) (sym q)
+      ∙ ap (λ (z : ℕ). Ok (performed ψ z (act_of a))) (ap (λ (z : Option ℕ). elim z [ None ↦ e | Some x ↦ x ]) h))
 
-  module _ (free : LocationSet) (f : (y : ℕ) → has free y ≡ (has owned y && eqb (get_or map y 0) 0)) (d : Option ℕ) (h : (R : Region) → RowsOf R rows → d ≡ edges_of (route R (has free) l.0 k.0)) where
+  module _ (free : LocationSet) (f : (y : ℕ) → has free y ≡ (has owned y && eqb (get_or map y 0) 0)) (d : Option ℕ)
+      (h : (R : Region) → RowsOf R rows → d ≡ edges_of (route R (has free) l.0 k.0)) where
     edges_are : (R : Region) (occupancy : List ℕ) → Owned R owned → RowsOf R rows → Maps map occupancy → d ≡ edges_of (route R (free_in R occupancy) l.0 k.0)
     edges_are R occupancy O W M = h R W ∙ ap (λ (z : ℕ → Bool). edges_of (route R z l.0 k.0)) (free_same owned free map R occupancy O M f)
 
     pub join_stops : d ≡ None → r ≡ Err NoPath → Routes φ y l k rows owned map v r
     join_stops z g R occupancy O W M c q o φs rest = no_route (route R (free_in R occupancy) l.0 k.0) c o φs rest (sym z ∙ edges_are R occupancy O W M) g
 
-    pub join_goes : (e : ℕ) (ψ : Slots) → d ≡ Some e → slots_of ψ ≡ set (slots_of φ) y (bool v) → r ≡ Ok (performed ψ e Quiet) → Routes φ y l k rows owned map v r
-    join_goes e ψ z s g R occupancy O W M c q o φs rest = a_route (route R (free_in R occupancy) l.0 k.0) c o φs rest e ψ q (sym z ∙ edges_are R occupancy O W M) s g
+    pub join_goes : (e : ℕ) (ψ : Slots) → d ≡ Some e → slots_of ψ ≡ set (slots_of φ) y (bool v) → r ≡ Ok (performed ψ e Quiet)
+        → Routes φ y l k rows owned map v r
+    join_goes e ψ z s g R occupancy O W M c q o φs rest = a_route (route R (free_in R occupancy) l.0 k.0) c o φs rest e ψ q
+        (sym z ∙ edges_are R occupancy O W M) s g
 
 -- the merge's tests, exit by exit
 module _ (φ : Slots) (r : Answer) (y x z : ℕ) (rows : Rows) (owned : LocationSet) (map : List ℕ) (v : Bool) where

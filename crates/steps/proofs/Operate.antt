@@ -33,7 +33,8 @@ init_byte k b e (inl z) = let f = byte_is k Init b e z in omega (arith, f)
 init_byte k b e (inr z) = let f = byte_is k Magic b e z in omega (arith, f)
 
 -- the last arm's kind: none of those before it, and no block's
-last_kind : (k : Kind) → (k ≡ Init → ⊥) → (k ≡ Magic → ⊥) → (k ≡ Free → ⊥) → (k ≡ Gate → ⊥) → (k ≡ Measure → ⊥) → (k ≡ Merge → ⊥) → (k ≡ Ref → ⊥) → (k ≡ Get → ⊥) → (k ≡ Set → ⊥)
+last_kind : (k : Kind) → (k ≡ Init → ⊥) → (k ≡ Magic → ⊥) → (k ≡ Free → ⊥) → (k ≡ Gate → ⊥) → (k ≡ Measure → ⊥) → (k ≡ Merge → ⊥) → (k ≡ Ref → ⊥)
+    → (k ≡ Get → ⊥) → (k ≡ Set → ⊥)
     → (byte_of k ≡ 10 → ⊥) → (byte_of k ≡ 11 → ⊥) → (byte_of k ≡ 12 → ⊥) → byte_of k ≡ 13
 last_kind Init a b c d e f g h i m n o = absurd (a refl)
 last_kind Magic a b c d e f g h i m n o = absurd (b refl)
@@ -54,7 +55,8 @@ module _ {s : List ℕ} {at : ℕ} {j : Job} (O : Operable s at j) where
   pub byte_there : (0 < byte s at) × (byte s at < 14) × (at < length s)
   byte_there = let b = statement_byte O.here in (b.0, b.1, omega (arith, b.2, b.3))
 
-  pub last_byte : (k : Kind) → byte_of k ≡ byte s at → (k ≡ Init → ⊥) → (k ≡ Magic → ⊥) → (k ≡ Free → ⊥) → (k ≡ Gate → ⊥) → (k ≡ Measure → ⊥) → (k ≡ Merge → ⊥) → (k ≡ Ref → ⊥) → (k ≡ Get → ⊥)
+  pub last_byte : (k : Kind) → byte_of k ≡ byte s at → (k ≡ Init → ⊥) → (k ≡ Magic → ⊥) → (k ≡ Free → ⊥) → (k ≡ Gate → ⊥) → (k ≡ Measure → ⊥)
+      → (k ≡ Merge → ⊥) → (k ≡ Ref → ⊥) → (k ≡ Get → ⊥)
       → (k ≡ Set → ⊥) → byte s at ≡ 13
   last_byte k e a b c d f g h i l = sym e ∙ last_kind k a b c d f g h i l (λ z. O.no_if (sym e ∙ z)) (λ z. O.no_while (sym e ∙ z)) (λ z. O.no_call (sym e ∙ z))
 
@@ -87,7 +89,8 @@ module _ {s : List ℕ} {at : ℕ} {j : Job} (O : Operable s at j) where
 
 -- the move of the statement, from that of its operation
 module _ (s : List ℕ) (at : ℕ) (j : Job) (rows : Rows) (owned : LocationSet) (map : List ℕ) (v : Bool) (r : Answer) where
-  stands : {d : Side} (t : Statement d) (a : (d : Side) → Op d) (σ : Actual d) (R : Region) (fs : List Function) (is_free : ℕ → Bool) (φs : List Frame) (rest : List Item) → t ≡ op at (a d)
+  stands : {d : Side} (t : Statement d) (a : (d : Side) → Op d) (σ : Actual d) (R : Region) (fs : List Function) (is_free : ℕ → Bool) (φs : List Frame)
+      (rest : List Item) → t ≡ op at (a d)
       → Performs j.top.slots v a r → Tells r φs rest (move R fs v is_free (slots_of j.top.slots) φs (run σ t) rest)
   stands {d} t a σ R fs is_free φs rest k P =
       subst (λ (z : Statement d). Tells r φs rest (move R fs v is_free (slots_of j.top.slots) φs (run σ z) rest)) (sym k) (P d σ R fs is_free at φs rest)
@@ -95,35 +98,41 @@ module _ (s : List ℕ) (at : ℕ) (j : Job) (rows : Rows) (owned : LocationSet)
   module _ (x : ℕ) (ex : x ≡ byte s (at + 1)) where
     pub free_goes : byte s at ≡ 3 → ((v : Bool) → Performs j.top.slots v (λ d. free x) r) → Operates s at j rows owned map v r
     free_goes k P d S depths t p σ R fs occ h N O W M φs rest =
-        stands t (λ d. free (byte s (at + 1))) σ R fs (free_in R occ) φs rest (free_seen h k).2 (subst (λ (z : ℕ). Performs j.top.slots v (λ d. free z) r) ex (P v))
+        stands t (λ d. free (byte s (at + 1))) σ R fs (free_in R occ) φs rest (free_seen h k).2
+        (subst (λ (z : ℕ). Performs j.top.slots v (λ d. free z) r) ex (P v))
 
     module _ (y : ℕ) (ey : y ≡ byte s (at + 2)) where
       pub new_goes : byte s at ≡ 7 → ((v : Bool) → Performs j.top.slots v (λ d. new_ref x y) r) → Operates s at j rows owned map v r
       new_goes k P d S depths t p σ R fs occ h N O W M φs rest =
           stands t (λ d. new_ref (byte s (at + 1)) (byte s (at + 2))) σ R fs (free_in R occ) φs rest (new_seen h k).3
-          (subst (λ (z : ℕ). Performs j.top.slots v (λ d. new_ref z (byte s (at + 2))) r) ex (subst (λ (z : ℕ). Performs j.top.slots v (λ d. new_ref x z) r) ey (P v)))
+          (subst (λ (z : ℕ). Performs j.top.slots v (λ d. new_ref z (byte s (at + 2))) r) ex
+          (subst (λ (z : ℕ). Performs j.top.slots v (λ d. new_ref x z) r) ey (P v)))
 
       pub get_goes : byte s at ≡ 8 → ((v : Bool) → Performs j.top.slots v (λ d. get_ref x y) r) → Operates s at j rows owned map v r
       get_goes k P d S depths t p σ R fs occ h N O W M φs rest =
           stands t (λ d. get_ref (byte s (at + 1)) (byte s (at + 2))) σ R fs (free_in R occ) φs rest (get_seen h k).3
-          (subst (λ (z : ℕ). Performs j.top.slots v (λ d. get_ref z (byte s (at + 2))) r) ex (subst (λ (z : ℕ). Performs j.top.slots v (λ d. get_ref x z) r) ey (P v)))
+          (subst (λ (z : ℕ). Performs j.top.slots v (λ d. get_ref z (byte s (at + 2))) r) ex
+          (subst (λ (z : ℕ). Performs j.top.slots v (λ d. get_ref x z) r) ey (P v)))
 
       pub set_goes : byte s at ≡ 9 → ((v : Bool) → Performs j.top.slots v (λ d. set_ref x y) r) → Operates s at j rows owned map v r
       set_goes k P d S depths t p σ R fs occ h N O W M φs rest =
           stands t (λ d. set_ref (byte s (at + 1)) (byte s (at + 2))) σ R fs (free_in R occ) φs rest (set_seen h k).3
-          (subst (λ (z : ℕ). Performs j.top.slots v (λ d. set_ref z (byte s (at + 2))) r) ex (subst (λ (z : ℕ). Performs j.top.slots v (λ d. set_ref x z) r) ey (P v)))
+          (subst (λ (z : ℕ). Performs j.top.slots v (λ d. set_ref z (byte s (at + 2))) r) ex
+          (subst (λ (z : ℕ). Performs j.top.slots v (λ d. set_ref x z) r) ey (P v)))
 
       pub constant_goes : byte s at ≡ 13 → ((v : Bool) → Performs j.top.slots v (λ d. constant x (eqb y 1)) r) → Operates s at j rows owned map v r
       constant_goes k P d S depths t p σ R fs occ h N O W M φs rest =
           stands t (λ d. constant (byte s (at + 1)) (eqb (byte s (at + 2)) 1)) σ R fs (free_in R occ) φs rest (constant_seen h k).2
-          (subst (λ (z : ℕ). Performs j.top.slots v (λ d. constant z (eqb (byte s (at + 2)) 1)) r) ex (subst (λ (z : ℕ). Performs j.top.slots v (λ d. constant x (eqb z 1)) r) ey (P v)))
+          (subst (λ (z : ℕ). Performs j.top.slots v (λ d. constant z (eqb (byte s (at + 2)) 1)) r) ex
+          (subst (λ (z : ℕ). Performs j.top.slots v (λ d. constant x (eqb z 1)) r) ey (P v)))
 
       pub init_goes : byte s at < 3 → (l : Location) → l ≡ located_in j y → Inits j.top.slots x l owned map r → Operates s at j rows owned map v r
       init_goes k l el I d S depths t p σ R fs occ h N O W M φs rest =
           let f = init_seen h k in
           let n = N.named (byte s (at + 2)) f.2 ∙ ap (λ (z : ℕ). place_of (located_in j z)) (sym ey) ∙ ap place_of (sym el) in
           subst (λ (z : Statement d). Tells r φs rest (move R fs v (free_in R occ) (slots_of j.top.slots) φs (run σ z) rest)) (sym f.4)
-          (subst (λ (z : ℕ). Tells r φs rest (move R fs v (free_in R occ) (slots_of j.top.slots) φs (run σ (op at (init f.3 z (record { no = byte s (at + 2) })))) rest)) ex
+          (subst (λ (z : ℕ). Tells r φs rest
+          (move R fs v (free_in R occ) (slots_of j.top.slots) φs (run σ (op at (init f.3 z (record { no = byte s (at + 2) })))) rest)) ex
           (I d σ f.3 (record { no = byte s (at + 2) }) R fs v occ O M n at φs rest))
 
     module _ (y : ℕ) (ey : y ≡ byte s (at + 3)) where
@@ -138,14 +147,20 @@ module _ (s : List ℕ) (at : ℕ) (j : Job) (rows : Rows) (owned : LocationSet)
           subst (λ (u : Statement d). Tells r φs rest (move R fs v (free_in R occ) (slots_of j.top.slots) φs (run σ u) rest)) (sym (merge_seen h k).4)
           (operands (byte s (at + 1)) (byte s (at + 3)) (byte s (at + 5)) ex ey ez)
         where
-          operands : (x' y' z' : ℕ) → x ≡ x' → y ≡ y' → z ≡ z' → Tells r φs rest (move R fs v (free_in R occ) (slots_of j.top.slots) φs (run σ (op at (merge x' (byte s (at + 2)) y' (byte s (at + 4)) z'))) rest)
+          operands : (x' y' z' : ℕ) → x ≡ x' → y ≡ y' → z ≡ z'
+              → Tells r φs rest (move R fs v (free_in R occ) (slots_of j.top.slots) φs (run σ (op at (merge x' (byte s (at + 2)) y' (byte s (at + 4)) z')))
+              rest)
           operands x' y' z' fx fy fz =
-              subst (λ (u : ℕ). Tells r φs rest (move R fs v (free_in R occ) (slots_of j.top.slots) φs (run σ (op at (merge u (byte s (at + 2)) y' (byte s (at + 4)) z'))) rest)) fx
-              (subst (λ (u : ℕ). Tells r φs rest (move R fs v (free_in R occ) (slots_of j.top.slots) φs (run σ (op at (merge x (byte s (at + 2)) u (byte s (at + 4)) z'))) rest)) fy
-              (subst (λ (u : ℕ). Tells r φs rest (move R fs v (free_in R occ) (slots_of j.top.slots) φs (run σ (op at (merge x (byte s (at + 2)) y (byte s (at + 4)) u))) rest)) fz
+              subst (λ (u : ℕ). Tells r φs rest
+              (move R fs v (free_in R occ) (slots_of j.top.slots) φs (run σ (op at (merge u (byte s (at + 2)) y' (byte s (at + 4)) z'))) rest)) fx
+              (subst (λ (u : ℕ). Tells r φs rest
+              (move R fs v (free_in R occ) (slots_of j.top.slots) φs (run σ (op at (merge x (byte s (at + 2)) u (byte s (at + 4)) z'))) rest)) fy
+              (subst (λ (u : ℕ). Tells r φs rest
+              (move R fs v (free_in R occ) (slots_of j.top.slots) φs (run σ (op at (merge x (byte s (at + 2)) y (byte s (at + 4)) u))) rest)) fz
               (G d σ (byte s (at + 2)) (byte s (at + 4)) R fs occ O W M at φs rest)))
 
-  pub gate_goes : (x : ℕ) → x ≡ byte s (at + 2) → byte s at ≡ 4 → ((v : Bool) (g : ℕ) → Performs j.top.slots v (λ d. gate g x) r) → Operates s at j rows owned map v r
+  pub gate_goes : (x : ℕ) → x ≡ byte s (at + 2) → byte s at ≡ 4 → ((v : Bool) (g : ℕ) → Performs j.top.slots v (λ d. gate g x) r)
+      → Operates s at j rows owned map v r
   gate_goes x ex k P d S depths t p σ R fs occ h N O W M φs rest =
       stands t (λ d. gate (byte s (at + 1)) (byte s (at + 2))) σ R fs (free_in R occ) φs rest (gate_seen h k).2
       (subst (λ (z : ℕ). Performs j.top.slots v (λ d. gate (byte s (at + 1)) z) r) ex (P v (byte s (at + 1))))

@@ -58,7 +58,8 @@ module _ {s : List ℕ} {j : Job} {at : ℕ} (C : Comes s j at) (B : NoBlock (by
       let f = ends_seen N.here B.no_if B.no_while B.no_call in
       record { positive = b.0; small = b.1; fits = subst (λ (n : ℕ). n ≤ length s) f.0 f.1; size = N.size; starts = omega (arith, b.2, b.3) }
 
-module _ (s : List ℕ) (j : Job) (at : ℕ) (rows : Rows) (owned : LocationSet) (map : List ℕ) (v : Bool) (a : Answer) (T : Operates s at j rows owned map v a) (C : Comes s j at) where
+module _ (s : List ℕ) (j : Job) (at : ℕ) (rows : Rows) (owned : LocationSet) (map : List ℕ) (v : Bool) (a : Answer) (T : Operates s at j rows owned map v a)
+    (C : Comes s j at) where
   pub acts_stuck : (r : Result Effect Fault) (reason : Fault) → a ≡ Err reason → r ≡ Err reason → Acts s at rows owned map v j j r
   acts_stuck r reason t k p J R occ P St O W M =
       let N : Next s p J j at = next s p J j at P St C.some C.here in
@@ -69,5 +70,7 @@ module _ (s : List ℕ) (j : Job) (at : ℕ) (rows : Rows) (owned : LocationSet)
   acts_moved B z ez f ef w t p J R occ P St O W M =
       let N : Next s p J j at = next s p J j at P St C.some C.here in
       let ends : at + z ≡ N.q = ap (λ (n : ℕ). at + n) ez ∙ sym (ends_seen N.here B.no_if B.no_while B.no_call).0 in
-      subst (λ (g : Frame). Follows s p (step R p.functions v (free_in R occ) J) (with_top j (with_slots g w.slots)) (told (Ok (record { edges = w.edges; act = w.act })) at)) (sym (ef ∙ ap (advanced j.top) ends))
-      (operation_moved s p J j at N St R v (free_in R occ) a w.slots w.edges w.act (T N.d N.S N.depths N.t N.q N.σ R p.functions occ N.here N.named O W M J.below N.rest) t)
+      subst (λ (g : Frame). Follows s p (step R p.functions v (free_in R occ) J) (with_top j (with_slots g w.slots))
+      (told (Ok (record { edges = w.edges; act = w.act })) at)) (sym (ef ∙ ap (advanced j.top) ends))
+      (operation_moved s p J j at N St R v (free_in R occ) a w.slots w.edges w.act
+      (T N.d N.S N.depths N.t N.q N.σ R p.functions occ N.here N.named O W M J.below N.rest) t)

@@ -48,7 +48,8 @@ module _ (φ : Slots) where
   reference_of x o = need_ref (slot (slots_of φ) x) o
 
 -- where the code stops, and where it ends
-pub stops : {r : Answer} {φs : List Frame} {rest : List Item} {reason : Fault} {o : ℕ} → r ≡ Err reason → Tells r φs rest (refused (refusal (number_of reason) o))
+pub stops : {r : Answer} {φs : List Frame} {rest : List Item} {reason : Fault} {o : ℕ} → r ≡ Err reason
+    → Tells r φs rest (refused (refusal (number_of reason) o))
 stops k = fails k
 
 pub goes : (ψ : Slots) (a : rules.Act device) {r : Answer} {φs : List Frame} {rest : List Item} {χ : Frame} {e : ℕ} → slots_of ψ ≡ χ

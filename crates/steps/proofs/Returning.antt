@@ -40,11 +40,8 @@ back_none xs f φ =
     record { same = ap₂ (λ (n : ℕ) (ys : List ℕ). set_all unbound (without (up_to (length xs) n (keeps f)) ys) (slots_of φ)) e (sym (drop_all xs)) }
 
 -- one argument more
-module _ (xs : List ℕ) (f : Frame) (φ : Slots) (i : ℕ) (ψ : Slots) (B : Back xs f φ i ψ) (h : 0 < i) (l : i ≤ length xs) (x : ℕ) (ex : x ≡ i - 1) (b : Bool)
-    (eb : b ≡ is_qubit_at (slot (slots_of f.slots) x) (place_of (location_at f.places (i - 1)))) where
-  keeps_is : b ≡ keeps f (i - 1)
-  keeps_is = eb ∙ ap (λ (z : ℕ). is_qubit_at (slot (slots_of f.slots) z) (place_of (location_at f.places (i - 1)))) ex
-
+module _ (xs : List ℕ) (f : Frame) (φ : Slots) (i : ℕ) (ψ : Slots) (B : Back xs f φ i ψ) (h : 0 < i) (l : i ≤ length xs) (b : Bool)
+    (eb : b ≡ keeps f (i - 1)) where
   before : (χ : rules.Frame) → handed_back f (i - 1) (drop (i - 1) xs) (length xs - (i - 1)) χ
       ≡ set_all unbound (without (b ∷ up_to i (length xs - i) (keeps f)) (get_or xs (i - 1) 0 ∷ drop i xs)) χ
   unfolding handed_back
@@ -52,14 +49,16 @@ module _ (xs : List ℕ) (f : Frame) (φ : Slots) (i : ℕ) (ψ : Slots) (B : Ba
       let n : suc (i - 1) ≡ i = omega arith in
       let m : length xs - (i - 1) ≡ suc (length xs - i) = omega arith in
       ap (λ (k : ℕ). set_all unbound (without (up_to (i - 1) k (keeps f)) (drop (i - 1) xs)) χ) m
-      ∙ ap (λ (ys : List ℕ). set_all unbound (without (keeps f (i - 1) ∷ up_to (suc (i - 1)) (length xs - i) (keeps f)) ys) χ) (drop-cons xs (i - 1) 0 (omega arith))
+      ∙ ap (λ (ys : List ℕ). set_all unbound (without (keeps f (i - 1) ∷ up_to (suc (i - 1)) (length xs - i) (keeps f)) ys) χ)
+      (drop-cons xs (i - 1) 0 (omega arith))
       ∙ ap (λ (k : ℕ). set_all unbound (without (keeps f (i - 1) ∷ up_to k (length xs - i) (keeps f)) (get_or xs (i - 1) 0 ∷ drop k xs)) χ) n
-      ∙ ap (λ (c : Bool). set_all unbound (without (c ∷ up_to i (length xs - i) (keeps f)) (get_or xs (i - 1) 0 ∷ drop i xs)) χ) (sym keeps_is)
+      ∙ ap (λ (c : Bool). set_all unbound (without (c ∷ up_to i (length xs - i) (keeps f)) (get_or xs (i - 1) 0 ∷ drop i xs)) χ) (sym eb)
 
   pub back_kept : b ≡ true → Back xs f φ (i - 1) ψ
   unfolding handed_back
   back_kept t = record {
-    same = B.same ∙ sym (before (slots_of φ) ∙ ap (λ (c : Bool). set_all unbound (without (c ∷ up_to i (length xs - i) (keeps f)) (get_or xs (i - 1) 0 ∷ drop i xs)) (slots_of φ)) t);
+    same = B.same ∙ sym (before (slots_of φ)
+        ∙ ap (λ (c : Bool). set_all unbound (without (c ∷ up_to i (length xs - i) (keeps f)) (get_or xs (i - 1) 0 ∷ drop i xs)) (slots_of φ)) t);
   }
 
   pub back_lost : b ≡ false → (z : ℕ) → z ≡ get_or xs (i - 1) 0 → (r : Slots) → slots_of r ≡ set (slots_of ψ) z unbound → Back xs f φ (i - 1) r
@@ -67,7 +66,8 @@ module _ (xs : List ℕ) (f : Frame) (φ : Slots) (i : ℕ) (ψ : Slots) (B : Ba
   back_lost t z ez r e = record {
     same =
         e ∙ ap (λ (y : ℕ). set (slots_of ψ) y unbound) ez ∙ ap (λ (χ : rules.Frame). set χ (get_or xs (i - 1) 0) unbound) B.same
-        ∙ sym (before (slots_of φ) ∙ ap (λ (c : Bool). set_all unbound (without (c ∷ up_to i (length xs - i) (keeps f)) (get_or xs (i - 1) 0 ∷ drop i xs)) (slots_of φ)) t);
+        ∙ sym (before (slots_of φ)
+        ∙ ap (λ (c : Bool). set_all unbound (without (c ∷ up_to i (length xs - i) (keeps f)) (get_or xs (i - 1) 0 ∷ drop i xs)) (slots_of φ)) t);
   }
 
 pub back_all : (xs : List ℕ) (f : Frame) (φ : Slots) (i : ℕ) (ψ : Slots) → Back xs f φ i ψ → i ≤ 0 → slots_of ψ ≡ handed_back f 0 xs (length xs) (slots_of φ)
@@ -79,7 +79,8 @@ back_all xs f φ i ψ B h =
 up_to_same : {A : Type 0} (f g : ℕ → A) (p m : ℕ) → ((i : ℕ) → p ≤ i → i < p + m → f i ≡ g i) → up_to p m f ≡ up_to p m g
 up_to_same f g p zero h = refl
 up_to_same f g p (suc m) h =
-    ap (λ (x : _). x ∷ up_to (suc p) m f) (h p (omega arith) (omega arith)) ∙ ap (λ (l : List _). g p ∷ l) (up_to_same f g (suc p) m λ i a b. h i (omega arith) (omega arith))
+    ap (λ (x : _). x ∷ up_to (suc p) m f) (h p (omega arith) (omega arith))
+    ∙ ap (λ (l : List _). g p ∷ l) (up_to_same f g (suc p) m λ i a b. h i (omega arith) (omega arith))
 
 module _ (s : List ℕ) (fs : List Function) (g : ℕ) (f : Frame) (ls : List (Place device)) (xs : List ℕ) (C : CallIn s fs g f ls xs) where
   arguments_are : length xs ≡ byte s (f.call + 3)
@@ -89,16 +90,19 @@ module _ (s : List ℕ) (fs : List Function) (g : ℕ) (f : Frame) (ls : List (P
   kept_is : kept (slots_of f.slots) (at ls) (length xs) ≡ up_to 0 (byte s (f.call + 3)) (keeps f)
   kept_is =
       ap (kept (slots_of f.slots) (at ls)) arguments_are
-      ∙ up_to_same (λ i. is_qubit_at (slot (slots_of f.slots) i) (at ls i)) (keeps f) 0 (byte s (f.call + 3)) λ i a b. ap (is_qubit_at (slot (slots_of f.slots) i)) (place i (omega (arith, C.fewer)))
+      ∙ up_to_same (λ i. is_qubit_at (slot (slots_of f.slots) i) (at ls i)) (keeps f) 0 (byte s (f.call + 3)) λ i a b. ap
+      (is_qubit_at (slot (slots_of f.slots) i)) (place i (omega (arith, C.fewer)))
     where
       place : (i : ℕ) → i < byte s (f.call + 2) → at ls i ≡ place_of (location_at f.places i)
       place i h =
-          ap (λ (z : List (Place device)). at z i) C.located ∙ get_or-take (byte s (f.call + 2)) (map place_of f.places) i (record { no = 0 }) h ∙ get_or-map place_of f.places i (record { 0 = 0 })
+          ap (λ (z : List (Place device)). at z i) C.located ∙ get_or-take (byte s (f.call + 2)) (map place_of f.places) i (record { no = 0 }) h
+          ∙ get_or-map place_of f.places i (record { 0 = 0 })
 
   back_is : (χ : rules.Frame) → set_all unbound (without (kept (slots_of f.slots) (at ls) (length xs)) xs) χ
       ≡ handed_back f 0 (up_to (f.call + 4 + byte s (f.call + 2)) (byte s (f.call + 3)) (byte s)) (byte s (f.call + 3)) χ
   unfolding handed_back
-  back_is χ = ap (λ (bs : List Bool). set_all unbound (without bs xs) χ) kept_is ∙ ap (λ (ys : List ℕ). set_all unbound (without (up_to 0 (byte s (f.call + 3)) (keeps f)) ys) χ) C.given
+  back_is χ = ap (λ (bs : List Bool). set_all unbound (without bs xs) χ) kept_is
+      ∙ ap (λ (ys : List ℕ). set_all unbound (without (up_to 0 (byte s (f.call + 3)) (keeps f)) ys) χ) C.given
 
 module _ (s : List ℕ) (p : Program) (J : rules.Job) (j : Job) (St : Stands s p J j) (n : j.top.n ≡ 0) where
   abbrev fs : List Function
@@ -129,16 +133,23 @@ module _ (s : List ℕ) (p : Program) (J : rules.Job) (j : Job) (St : Stands s p
     abbrev o : ℕ
     o = j.top.call
 
-    returned : (R : Region) (v : Bool) (is_free : ℕ → Bool) (φ : Slots) → slots_of φ ≡ handed_back j.top 0 (up_to (o + 4 + byte s (o + 2)) (byte s (o + 3)) (byte s)) (byte s (o + 3)) (slots_of caller.slots)
+    returned : (R : Region) (v : Bool) (is_free : ℕ → Bool) (φ : Slots)
+        → slots_of φ ≡ handed_back j.top 0 (up_to (o + 4 + byte s (o + 2)) (byte s (o + 3)) (byte s)) (byte s (o + 3)) (slots_of caller.slots)
         → Follows s p (step R fs v is_free J) (leaving j (with_slots caller φ)) (told.told (Ok told.silent) o)
-    returned R v is_free φ b = subst (λ (S : rules.Stepped). Follows s p S (leaving j (with_slots caller φ)) (told.told (Ok told.silent) o)) (sym step_is) (leaves, refl, refl)
+    returned R v is_free φ b = subst (λ (S : rules.Stepped). Follows s p S (leaving j (with_slots caller φ)) (told.told (Ok told.silent) o)) (sym step_is)
+        (leaves, refl, refl)
       where
         after : rules.Job
-        after = record { top = set_all unbound (without (kept (slots_of j.top.slots) (at E.ls) (length E.xs)) E.xs) (slots_of caller.slots); below = E.χs; items = E.after }
+        after = record {
+          top = set_all unbound (without (kept (slots_of j.top.slots) (at E.ls) (length E.xs)) E.xs) (slots_of caller.slots);
+          below = E.χs;
+          items = E.after;
+        }
 
         step_is : step R fs v is_free J ≡ record { answer = record { code = 0; edges = 0; offset = o }; act = slots.quiet; next = after }
         step_is =
-            ap (λ (φ : rules.Frame). step_items R fs v is_free φ J.below J.items) St.top ∙ ap (λ (φs : List rules.Frame). step_items R fs v is_free (slots_of j.top.slots) φs J.items) E.slots
+            ap (λ (φ : rules.Frame). step_items R fs v is_free φ J.below J.items) St.top
+            ∙ ap (λ (φs : List rules.Frame). step_items R fs v is_free (slots_of j.top.slots) φs J.items) E.slots
             ∙ ap (λ (is : List Item). step_items R fs v is_free (slots_of j.top.slots) (slots_of caller.slots ∷ E.χs) is) E.items
 
         leaves : Stands s p after (leaving j (with_slots caller φ))
@@ -177,18 +188,23 @@ module _ {s : List ℕ} {c d : ℕ} (C : Came s c d) where
   given_fits = (
     omega (arith, given_length, C.few),
     λ i h. let l : i < byte s (c + 3) = omega (arith, given_length, h) in
-        let e : byte given i ≡ byte s (c + 4 + byte s (c + 2) + i) = ap (λ (xs : List ℕ). byte xs i) given_is ∙ get_d_up_to (byte s) (c + 4 + byte s (c + 2)) (byte s (c + 3)) i 0 l in
+        let e : byte given i ≡ byte s (c + 4 + byte s (c + 2) + i) = ap (λ (xs : List ℕ). byte xs i) given_is
+        ∙ get_d_up_to (byte s) (c + 4 + byte s (c + 2)) (byte s (c + 3)) i 0 l in
         let k = C.slots i l in omega (arith, e, k),
   )
 
-  pub handed_is : (f : Frame) (χ : rules.Frame) → handed_back f 0 given (length given) χ ≡ handed_back f 0 (up_to (c + 4 + byte s (c + 2)) (byte s (c + 3)) (byte s)) (byte s (c + 3)) χ
+  pub handed_is : (f : Frame) (χ : rules.Frame)
+      → handed_back f 0 given (length given) χ ≡ handed_back f 0 (up_to (c + 4 + byte s (c + 2)) (byte s (c + 3)) (byte s)) (byte s (c + 3)) χ
   handed_is f χ = ap₂ (λ (xs : List ℕ) (m : ℕ). handed_back f 0 xs m χ) given_is given_length
 
 -- what the code has in hand is the rules' return
 module _ {s : List ℕ} {j : Job} (Q : Steady s j) (n : j.top.n ≡ 0) (d : 0 < j.depth) where
-  pub gives_back : (i : Job) → i ≡ leaving j (frame_at j.below (j.depth - 1)) → (φ : Slots) → slots_of φ ≡ handed_back j.top 0 (given (came Q n d)) (length (given (came Q n d))) (slots_of i.top.slots)
+  pub gives_back : (i : Job) → i ≡ leaving j (frame_at j.below (j.depth - 1)) → (φ : Slots)
+      → slots_of φ ≡ handed_back j.top 0 (given (came Q n d)) (length (given (came Q n d))) (slots_of i.top.slots)
       → Returns s j (with_top i (with_slots i.top φ)) j.top.call
   gives_back i e φ b =
       let k : frame_at j.below (j.depth - 1) ≡ i.top = sym (ap (λ (z : Job). z.top) e) in
       subst (λ (z : Job). Returns s j (with_top z (with_slots z.top φ)) j.top.call) (sym e)
-      (λ p J R v is_free P St. returned s p J j St n d R v is_free φ (b ∙ ap (λ (z : Frame). handed_back j.top 0 (given (came Q n d)) (length (given (came Q n d))) (slots_of z.slots)) (sym k) ∙ handed_is (came Q n d) j.top (slots_of (frame_at j.below (j.depth - 1)).slots)))
+      (λ p J R v is_free P St. returned s p J j St n d R v is_free φ
+      (b ∙ ap (λ (z : Frame). handed_back j.top 0 (given (came Q n d)) (length (given (came Q n d))) (slots_of z.slots)) (sym k)
+      ∙ handed_is (came Q n d) j.top (slots_of (frame_at j.below (j.depth - 1)).slots)))

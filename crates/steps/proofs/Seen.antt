@@ -25,7 +25,8 @@ picked A B false e x = absurd (false≢true e)
 
 module _ {d : Side} (s : List ℕ) (S : Scope) (depths at : ℕ) (t : Statement d) (p : ℕ) where
   abbrev pub IsInit : Type 0
-  IsInit = (at + 3 ≤ length s) × (byte s (at + 1) < 32) × (byte s (at + 2) < S.places) × (q : Preparation) × (t ≡ op at (init q (byte s (at + 1)) (record { no = byte s (at + 2) })))
+  IsInit = (at + 3 ≤ length s) × (byte s (at + 1) < 32) × (byte s (at + 2) < S.places) × (q : Preparation)
+      × (t ≡ op at (init q (byte s (at + 1)) (record { no = byte s (at + 2) })))
 
   abbrev pub IsFree : Type 0
   IsFree = (at + 2 ≤ length s) × (byte s (at + 1) < 32) × (t ≡ op at (free (byte s (at + 1))))
@@ -34,7 +35,8 @@ module _ {d : Side} (s : List ℕ) (S : Scope) (depths at : ℕ) (t : Statement 
   IsGate = (at + 3 ≤ length s) × (byte s (at + 2) < 32) × (t ≡ op at (gate (byte s (at + 1)) (byte s (at + 2))))
 
   abbrev pub IsMeasure : Type 0
-  IsMeasure = (at + 4 ≤ length s) × (byte s (at + 1) < 32) × (byte s (at + 3) < 32) × (t ≡ op at (measure (byte s (at + 1)) (byte s (at + 2)) (byte s (at + 3))))
+  IsMeasure = (at + 4 ≤ length s) × (byte s (at + 1) < 32) × (byte s (at + 3) < 32)
+      × (t ≡ op at (measure (byte s (at + 1)) (byte s (at + 2)) (byte s (at + 3))))
 
   abbrev pub IsMerge : Type 0
   IsMerge =
@@ -55,22 +57,26 @@ module _ {d : Side} (s : List ℕ) (S : Scope) (depths at : ℕ) (t : Statement 
 
   abbrev pub IsIf : Type 0
   IsIf =
-      (at + 2 ≤ length s) × (byte s (at + 1) < 32) × (b c : Block d) × (m : ℕ) × BlockIn s S depths (at + 2) b m × BlockIn s S depths m c p × (t ≡ if at (byte s (at + 1)) b c)
+      (at + 2 ≤ length s) × (byte s (at + 1) < 32) × (b c : Block d) × (m : ℕ) × BlockIn s S depths (at + 2) b m × BlockIn s S depths m c p
+      × (t ≡ if at (byte s (at + 1)) b c)
 
   abbrev pub IsWhile : Type 0
   IsWhile = (at + 2 ≤ length s) × (byte s (at + 1) < 32) × (b : Block d) × BlockIn s S depths (at + 2) b p × (t ≡ while at (byte s (at + 1)) b)
 
   abbrev pub IsCall : Type 0
   IsCall =
-      (at + 4 + byte s (at + 2) + byte s (at + 3) ≤ length s) × (byte s (at + 1) < length S.earlier) × (byte s (at + 2) ≡ (function S.earlier (byte s (at + 1))).k)
+      (at + 4 + byte s (at + 2) + byte s (at + 3) ≤ length s) × (byte s (at + 1) < length S.earlier)
+      × (byte s (at + 2) ≡ (function S.earlier (byte s (at + 1))).k)
       × (byte s (at + 3) ≡ (function S.earlier (byte s (at + 1))).m) × ((i : ℕ) → i < byte s (at + 2) → byte s (at + 4 + i) < S.places)
       × ((i : ℕ) → i < byte s (at + 3) → byte s (at + 4 + byte s (at + 2) + i) < 32) × (p ≡ at + 4 + byte s (at + 2) + byte s (at + 3))
-      × (t ≡ call at (byte s (at + 1)) (up_to (at + 4) (byte s (at + 2)) λ i. record { no = byte s i }) (up_to (at + 4 + byte s (at + 2)) (byte s (at + 3)) λ i. byte s i))
+      × (t ≡ call at (byte s (at + 1)) (up_to (at + 4) (byte s (at + 2)) λ i. record { no = byte s i })
+      (up_to (at + 4 + byte s (at + 2)) (byte s (at + 3)) λ i. byte s i))
 
   -- the case of a byte
   abbrev Is : ℕ → Type 0
   Is b =
-      pick (ltb b 3) IsInit (pick (eqb b 3) IsFree (pick (eqb b 4) IsGate (pick (eqb b 5) IsMeasure (pick (eqb b 6) IsMerge (pick (eqb b 7) IsNew (pick (eqb b 8) IsGet (pick (eqb b 9) IsSet
+      pick (ltb b 3) IsInit (pick (eqb b 3) IsFree
+      (pick (eqb b 4) IsGate (pick (eqb b 5) IsMeasure (pick (eqb b 6) IsMerge (pick (eqb b 7) IsNew (pick (eqb b 8) IsGet (pick (eqb b 9) IsSet
       (pick (eqb b 10) IsIf (pick (eqb b 11) IsWhile (pick (eqb b 12) IsCall IsConstant))))))))))
 
 seen : {d : Side} {s : List ℕ} {S : Scope} {depths at p : ℕ} {t : Statement d} → View s S depths at t p → Is s S depths at t p (byte s at)
@@ -130,7 +136,8 @@ module _ {d : Side} {s : List ℕ} {S : Scope} {depths at p : ℕ} {t : Statemen
   constant_seen e = at_byte 13 e
 
 -- an operation ends where the table says
-view_ends : {d : Side} {s : List ℕ} {S : Scope} {depths at p : ℕ} {t : Statement d} → View s S depths at t p → (byte s at ≡ 10 → ⊥) → (byte s at ≡ 11 → ⊥) → (byte s at ≡ 12 → ⊥) → p ≡ at + size_of (byte s at)
+view_ends : {d : Side} {s : List ℕ} {S : Scope} {depths at p : ℕ} {t : Statement d} → View s S depths at t p → (byte s at ≡ 10 → ⊥) → (byte s at ≡ 11 → ⊥)
+    → (byte s at ≡ 12 → ⊥) → p ≡ at + size_of (byte s at)
 view_ends {s = s} {at = at} (is_init e l a b) f g h = ap (λ (n : ℕ). at + size_of n) (sym e)
 view_ends {s = s} {at = at} (is_magic e l a b) f g h = ap (λ (n : ℕ). at + size_of n) (sym e)
 view_ends {s = s} {at = at} (is_free e l a) f g h = ap (λ (n : ℕ). at + size_of n) (sym e)
@@ -145,7 +152,8 @@ view_ends {s = s} {at = at} (is_while e l a b) f g h = absurd (g e)
 view_ends {s = s} {at = at} (is_call e l a b c i j) f g h = absurd (h e)
 view_ends {s = s} {at = at} (is_bool e l a b) f g h = ap (λ (n : ℕ). at + size_of n) (sym e)
 
-pub ends_seen : {d : Side} {s : List ℕ} {S : Scope} {depths at p : ℕ} {t : Statement d} → StatementIn s S depths at t p → (byte s at ≡ 10 → ⊥) → (byte s at ≡ 11 → ⊥) → (byte s at ≡ 12 → ⊥)
+pub ends_seen : {d : Side} {s : List ℕ} {S : Scope} {depths at p : ℕ} {t : Statement d} → StatementIn s S depths at t p → (byte s at ≡ 10 → ⊥)
+    → (byte s at ≡ 11 → ⊥) → (byte s at ≡ 12 → ⊥)
     → (p ≡ at + size_of (byte s at)) × (p ≤ length s)
 ends_seen h f g k = (view_ends (statement_view h) f g k, (statement_byte h).3)
 

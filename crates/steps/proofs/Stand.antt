@@ -88,18 +88,21 @@ module _ {d : Side} (s : List ℕ) (S : Scope) (σ : Actual d) (after : List Ite
         H.depths,
         H.ts,
         H.rest,
-        rw (get_or-set_same f.ranges (f.n - 1) (range H.q e) (range 0 0) (omega arith)) (record { reads = H.more; some = omega (arith, g, H.ends); deep = H.deep }),
+        rw (get_or-set_same f.ranges (f.n - 1) (range H.q e) (range 0 0) (omega arith))
+            (record { reads = H.more; some = omega (arith, g, H.ends); deep = H.deep }),
         ranges_set f.ranges (f.n - 1) (range H.q e) (f.n - 1) H.rest (omega arith) H.lower,
         refl,
       )
 
       go : (b : Bool) → eqb H.q e ≡ b
-          → RangesIn s S σ (chosen b (with_ranges f f.ranges i) (with_ranges f (set f.ranges i (range H.q e)) f.n)).ranges after (chosen b (with_ranges f f.ranges i) (with_ranges f (set f.ranges i (range H.q e)) f.n)).n (statements_before σ H.ts H.rest)
+          → RangesIn s S σ (chosen b (with_ranges f f.ranges i) (with_ranges f (set f.ranges i (range H.q e)) f.n)).ranges after
+          (chosen b (with_ranges f f.ranges i) (with_ranges f (set f.ranges i (range H.q e)) f.n)).n (statements_before σ H.ts H.rest)
       go true t = over (eqb-true _ _ t)
       go false t = more (λ k. let z : ◌≡◌ {A = ℕ} 0 1 = cc (eq-eqb H.q e k) in omega arith) f.n (omega arith)
 
   -- a block's statements before the ranges
-  push_ranges : (f : Frame) (is : List Item) (depths a e : ℕ) (ts : Statements d) → f.n + depths < 8 → a ≤ e → length f.ranges ≡ 8 → StatementsIn s S depths a e ts
+  push_ranges : (f : Frame) (is : List Item) (depths a e : ℕ) (ts : Statements d) → f.n + depths < 8 → a ≤ e → length f.ranges ≡ 8
+      → StatementsIn s S depths a e ts
       → RangesIn s S σ f.ranges after f.n is → RangesIn s S σ (pushed f a e).ranges after (pushed f a e).n (statements_before σ ts is)
   unfolding pushed RangesIn
   push_ranges f is depths a e ts h l z w R = go (eqb a e) refl
@@ -118,7 +121,8 @@ module _ {d : Side} (s : List ℕ) (S : Scope) (σ : Actual d) (after : List Ite
       )
 
       go : (b : Bool) → eqb a e ≡ b
-          → RangesIn s S σ (chosen b f (with_ranges f (set f.ranges f.n (range a e)) (f.n + 1))).ranges after (chosen b f (with_ranges f (set f.ranges f.n (range a e)) (f.n + 1))).n (statements_before σ ts is)
+          → RangesIn s S σ (chosen b f (with_ranges f (set f.ranges f.n (range a e)) (f.n + 1))).ranges after
+          (chosen b f (with_ranges f (set f.ranges f.n (range a e)) (f.n + 1))).n (statements_before σ ts is)
       go true t = none (eqb-true _ _ t)
       go false t = more (λ k. let z : ◌≡◌ {A = ℕ} 0 1 = cc (eq-eqb a e k) in omega arith) (f.n + 1) (omega arith)
 
@@ -138,7 +142,8 @@ module _ (f : Frame) where
   unfolding advanced
   advanced_kept p =
       let e = (range_at f.ranges (f.n - 1)).end in
-      chosen_kept (eqb p e) (with_ranges f f.ranges (f.n - 1)) (with_ranges f (set f.ranges (f.n - 1) (range p e)) f.n) (record { call = refl; places = refl; slots = refl; size = refl })
+      chosen_kept (eqb p e) (with_ranges f f.ranges (f.n - 1)) (with_ranges f (set f.ranges (f.n - 1) (range p e)) f.n)
+      (record { call = refl; places = refl; slots = refl; size = refl })
       (record { call = refl; places = refl; slots = refl; size = length-set f.ranges (f.n - 1) (range p e) })
 
   pub pushed_kept : (a e : ℕ) → Kept (pushed f a e)
@@ -170,7 +175,8 @@ module _ {d : Side} (s : List ℕ) (S : Scope) (σ : Actual d) (after : List Ite
     ranges = advance_ranges s S σ after f is h F.room F.sized H;
   }
 
-  pub put : (depths a e : ℕ) (ts : Statements d) → f.n + depths < 8 → a ≤ e → StatementsIn s S depths a e ts → FrameIn s S σ (pushed f a e) after (statements_before σ ts is)
+  pub put : (depths a e : ℕ) (ts : Statements d) → f.n + depths < 8 → a ≤ e → StatementsIn s S depths a e ts
+      → FrameIn s S σ (pushed f a e) after (statements_before σ ts is)
   put depths a e ts h l w = record {
     sized = (pushed_kept f a e).size ∙ F.sized;
     room = omega (arith, pushed_n f a e);
@@ -192,7 +198,8 @@ module _ (s : List ℕ) (fs : List Function) where
     pub few : 0 < depth → S.places ≤ 16
     pub again : (f' : Frame) (is' : List Item) → f'.call ≡ f.call → f'.places ≡ f.places → FrameIn s S σ f' after is' → FramesIn s fs below depth f' φs is'
 
-  pub call_moved : (g : ℕ) (f f' : Frame) (ls : List (Place device)) (xs : List ℕ) → f'.call ≡ f.call → f'.places ≡ f.places → CallIn s fs g f ls xs → CallIn s fs g f' ls xs
+  pub call_moved : (g : ℕ) (f f' : Frame) (ls : List (Place device)) (xs : List ℕ) → f'.call ≡ f.call → f'.places ≡ f.places → CallIn s fs g f ls xs
+      → CallIn s fs g f' ls xs
   call_moved g f f' ls xs e k C = record {
     placed = rw k C.placed;
     located = rw (e, k) C.located;
@@ -205,11 +212,14 @@ module _ (s : List ℕ) (fs : List Function) where
     bound = rw e C.bound;
   }
 
-  place_at : (places : List Location) (k b : ℕ) (ls : List (Place device)) → ls ≡ take k (map place_of places) → b < k → locate (locations ls) (record { no = b }) ≡ place_of (location_at places b)
+  place_at : (places : List Location) (k b : ℕ) (ls : List (Place device)) → ls ≡ take k (map place_of places) → b < k
+      → locate (locations ls) (record { no = b }) ≡ place_of (location_at places b)
   place_at places k b ls e h =
-      ap (λ (z : List (Place device)). get_or z b (record { no = 0 })) e ∙ get_or-take k (map place_of places) b (record { no = 0 }) h ∙ get_or-map place_of places b (record { 0 = 0 })
+      ap (λ (z : List (Place device)). get_or z b (record { no = 0 })) e ∙ get_or-take k (map place_of places) b (record { no = 0 }) h
+      ∙ get_or-map place_of places b (record { 0 = 0 })
 
-  pub top_of : (below : List Frame) (depth : ℕ) (f : Frame) (φs : List rules.Frame) (is : List Item) → FramesIn s fs below depth f φs is → Top below depth f φs is
+  pub top_of : (below : List Frame) (depth : ℕ) (f : Frame) (φs : List rules.Frame) (is : List Item) → FramesIn s fs below depth f φs is
+      → Top below depth f φs is
   unfolding FramesIn
   top_of below zero f φs is R = record {
     d = device;
@@ -238,11 +248,24 @@ module _ (s : List ℕ) (fs : List Function) where
         main = λ b e. absurd (omega arith);
         inner = λ b z h. place_at f.places (byte s (f.call + 2)) b R.1 C.located (omega (arith, C.places));
         few = λ z. omega (arith, C.most, C.places);
-        again = λ f' is' e k F. (R.0, R.1, R.2, R.3, R.4, R.5, call_moved R.0 f f' R.1 R.2 e k C, subst (λ (o : ℕ). FrameIn s (scope_of fs R.0) (locations R.1) f' (return o R.1 R.2 ∷ R.3) is') (sym e) F, R.8, R.9);
+        again = λ f' is' e k F. (
+          R.0,
+          R.1,
+          R.2,
+          R.3,
+          R.4,
+          R.5,
+          call_moved R.0 f f' R.1 R.2 e k C,
+          subst
+              (λ (o : ℕ). FrameIn s (scope_of fs R.0) (locations R.1) f' (return o R.1 R.2 ∷ R.3) is') (sym e) F,
+          R.8,
+          R.9,
+        );
       }
 
   -- a store past the frames in use
-  frames_set : (below : List Frame) (i : ℕ) (t : Frame) (d : ℕ) (f : Frame) (φs : List rules.Frame) (is : List Item) → d ≤ i → FramesIn s fs below d f φs is → FramesIn s fs (set below i t) d f φs is
+  frames_set : (below : List Frame) (i : ℕ) (t : Frame) (d : ℕ) (f : Frame) (φs : List rules.Frame) (is : List Item) → d ≤ i → FramesIn s fs below d f φs is
+      → FramesIn s fs (set below i t) d f φs is
   unfolding FramesIn
   frames_set below i t zero f φs is h R = R
   frames_set below i t (suc d) f φs is h R =
@@ -260,7 +283,8 @@ module _ (s : List ℕ) (fs : List Function) where
       )
 
   -- a frame more: f, called from t
-  pub entered_frames : (below : List Frame) (d : ℕ) (t f : Frame) (φs : List rules.Frame) (rest is : List Item) (g : ℕ) (ls : List (Place device)) (xs : List ℕ) → length below ≡ 15 → d < 15 → g + suc d ≤ length fs
+  pub entered_frames : (below : List Frame) (d : ℕ) (t f : Frame) (φs : List rules.Frame) (rest is : List Item) (g : ℕ) (ls : List (Place device))
+      (xs : List ℕ) → length below ≡ 15 → d < 15 → g + suc d ≤ length fs
       → FramesIn s fs below d t φs rest → CallIn s fs g f ls xs → FrameIn s (scope_of fs g) (locations ls) f (return f.call ls xs ∷ rest) is
       → FramesIn s fs (set below d t) (suc d) f (slots_of t.slots ∷ φs) is
   unfolding FramesIn
@@ -291,7 +315,8 @@ module _ (s : List ℕ) (fs : List Function) where
     pub slots : φs ≡ slots_of (frame_at below d).slots ∷ χs
     pub depth : g + suc d ≤ length fs
 
-  pub ending : (below : List Frame) (d : ℕ) (f : Frame) (φs : List rules.Frame) (is : List Item) → f.n ≡ 0 → FramesIn s fs below (suc d) f φs is → Ending below d f φs is
+  pub ending : (below : List Frame) (d : ℕ) (f : Frame) (φs : List rules.Frame) (is : List Item) → f.n ≡ 0 → FramesIn s fs below (suc d) f φs is
+      → Ending below d f φs is
   unfolding FramesIn RangesIn
   ending below d f φs is e R = record {
     g = R.0;
@@ -312,7 +337,8 @@ module _ (s : List ℕ) (fs : List Function) where
   none_left below f φs is e R = subst (λ (n : ℕ). RangesIn s (main_scope fs) themselves f.ranges [] n is) e R.0.ranges
 
   -- other slots in the top frame
-  pub reslotted : (below : List Frame) (d : ℕ) (f : Frame) (φs : List rules.Frame) (is : List Item) (φ : Slots) → FramesIn s fs below d f φs is → FramesIn s fs below d (with_slots f φ) φs is
+  pub reslotted : (below : List Frame) (d : ℕ) (f : Frame) (φs : List rules.Frame) (is : List Item) (φ : Slots) → FramesIn s fs below d f φs is
+      → FramesIn s fs below d (with_slots f φ) φs is
   reslotted below d f φs is φ R =
       let w = top_of below d f φs is R in
       let x = w.frame in

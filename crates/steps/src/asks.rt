@@ -2,7 +2,7 @@
 // its location, and that the other locations are free.
 ghost use Rattle.std.specs.Prelude.{map, ◌&&◌, ◌≡◌, ℕ, ◌≤◌, ◌<◌, eqb, length, get_or};
 ghost use Rattle.std.specs.List.{list_all};
-ghost use Rattle.rules.specs.Basics.{byte};
+ghost use Rattle.rules.specs.Basics.{byte, distinct};
 ghost use Rattle.sets.specs.Sets.{has};
 ghost use Rattle.steps.specs.Said.{said_at, itself};
 ghost use Rattle.steps.specs.State.{place_of, location_at, located_in};
@@ -37,6 +37,14 @@ pub fn all_free(floor: &Floor<'_>, places: &[Location]) -> bool
     ensures { result ≡ list_all (λ l. has floor.now.owned l.0 && eqb (get_or floor.now.map.now l.0 0) 0) places.now }
 {
     places.iter().all(|l| floor.is_free(*l))
+}
+
+// Whether no location comes twice.
+pub fn no_location_twice(places: &[Location]) -> bool
+    requires { length places.now ≤ 16 }
+    ensures { result ≡ distinct (map (λ l. l.0) places.now) }
+{
+    no_repeat(&numbers(places)[..places.len()])
 }
 
 // The numbers of at most 16 locations.
@@ -86,10 +94,7 @@ pub fn callable(
     if !all_inside(floor, places) {
         return Err(Fault::Outside);
     }
-    if !no_repeat(&numbers(places)[..places.len()]) {
-        return Err(Fault::Twice);
-    }
-    if !no_repeat(given) {
+    if !no_location_twice(places) || !no_repeat(given) {
         return Err(Fault::Twice);
     }
     arguments(slots, given, places)?;

@@ -17,10 +17,7 @@ pub fn hand_back(given: &[u8], callee: &Frame, caller: Slots) -> Slots
 {
     let mut slots = caller;
     for i in (0..given.len()).rev() {
-        if callee
-            .slots
-            .holds_at(SlotNumber::known(i as u8), callee.places[i])
-        {
+        if callee.keeps(i) {
             continue;
         }
         slots = slots.release(SlotNumber::known(given[i]));

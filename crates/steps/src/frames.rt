@@ -1,10 +1,11 @@
 // A frame: its slots, the ranges of statements to come, innermost last, and the call that it came by. No range is empty, so the statement to come
 // is where the last range begins; a frame with no range left is at its end.
 ghost use Rattle.std.specs.Prelude.{◌≡◌, ◌≤◌, ◌<◌};
+ghost use Rattle.steps.specs.Calling.{keeps};
 ghost use Rattle.steps.specs.State.{here_of, advanced, pushed, empty_frame, location_at};
 
 use crate::slots::Slots;
-use rules::place::{Location, Parameter};
+use rules::place::{Location, Parameter, SlotNumber};
 
 // Statements to come: from a position to a block's end.
 #[derive(Clone, Copy)]
@@ -73,6 +74,15 @@ impl Frame {
             };
             self.n += 1;
         }
+    }
+
+    // Whether the frame still has argument i of its call: slot i is a qubit at location i.
+    pub fn keeps(&self, i: usize) -> bool
+        requires { i < 16 }
+        ensures { result ≡ keeps self.now i }
+    {
+        let slot = SlotNumber::known(i as u8);
+        self.slots.holds_at(slot, self.places[i])
     }
 
     // What a parameter stands for in the frame's call.

@@ -17,8 +17,10 @@ write_record-requires c = let d = c.requires in omega (arith, d.fits, c.loop-i.i
 pub loop-i-preserved : goal.loop-i-preserved
 loop-i-preserved c =
     let l = c.loop-i in
-    under_on c.args.players.now c.args.schedule.now c.args.records.now c.args.machine.now l.i l.machine l.moved.first l.moved.second _ _ l.records _ _ c.turn-record.result l.invariant c.loop-i-test.true
-    c.turn-record.ensures c.moved_more.ensures.more c.moved_more.ensures.one c.moved_more-in-loop-i.ensures.more c.moved_more-in-loop-i.ensures.one c.write_record.ensures
+    under_on c.args.players.now c.args.schedule.now c.args.records.now c.args.machine.now l.i l.machine l.moved.first l.moved.second _ _ l.records _ _
+    c.turn-record.result l.invariant c.loop-i-test.true
+    c.turn-record.ensures c.moved_more.ensures.more c.moved_more.ensures.one c.moved_more-in-loop-i.ensures.more c.moved_more-in-loop-i.ensures.one
+    c.write_record.ensures
 
 pub returns : goal.returns
 returns c = under_done c.args.players.now c.args.schedule.now c.args.records.now c.args.machine.now c.loop-i.i _ _ _ _ c.loop-i-test.false c.loop-i.invariant

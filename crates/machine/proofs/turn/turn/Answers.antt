@@ -12,4 +12,5 @@ pub returns-then-byte-eq1 : goal.returns-then-byte-eq1
 returns-then-byte-eq1 c = turned_first c.args.players.now c.args.machine.now c.args.byte _ _ _ c.if-byte-eq1.true c.take_step.ensures
 
 pub returns-else-byte-eq1 : goal.returns-else-byte-eq1
-returns-else-byte-eq1 c = turned_second c.args.players.now c.args.machine.now c.args.byte _ _ _ (of_second _ c.requires.a_turn c.if-byte-eq1.false) c.take_step-else-byte-eq1.ensures
+returns-else-byte-eq1 c = turned_second c.args.players.now c.args.machine.now c.args.byte _ _ _ (of_second _ c.requires.a_turn c.if-byte-eq1.false)
+    c.take_step-else-byte-eq1.ensures

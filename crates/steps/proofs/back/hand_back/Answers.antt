@@ -4,11 +4,12 @@ use Rattle.steps.proofs.back.hand_back.Goals as goal
 pub loop-i-init : goal.loop-i-init
 loop-i-init c = back_none _ _ _
 
-pub loop-i-preserved-then-holds_at : goal.loop-i-preserved-then-holds_at
-loop-i-preserved-then-holds_at c = back_kept _ _ _ _ _ c.loop-i.invariant c.loop-i-test.true c.loop-i.auto.i _ c.known.ensures _ c.holds_at.ensures c.if-holds_at.true
+pub loop-i-preserved-then-keeps : goal.loop-i-preserved-then-keeps
+loop-i-preserved-then-keeps c = back_kept _ _ _ _ _ c.loop-i.invariant c.loop-i-test.true c.loop-i.auto.i _ c.keeps.ensures c.if-keeps.true
 
 pub loop-i-preserved : goal.loop-i-preserved
-loop-i-preserved c = back_lost _ _ _ _ _ c.loop-i.invariant c.loop-i-test.true c.loop-i.auto.i _ c.known.ensures _ c.holds_at.ensures c.if-holds_at.false _ c.known-in-loop-i.ensures _ c.release-slots.ensures
+loop-i-preserved c = back_lost _ _ _ _ _ c.loop-i.invariant c.loop-i-test.true c.loop-i.auto.i _ c.keeps.ensures c.if-keeps.false _ c.known.ensures _
+    c.release-slots.ensures
 
 pub returns : goal.returns
 returns c = back_all _ _ _ _ _ c.loop-i.invariant c.loop-i-test.false

@@ -14,7 +14,8 @@ pub block_end-end-requires : goal.block_end-end-requires
 block_end-end-requires c = let f = while_there c.requires.0 c.requires.1 in (omega (arith, f.fits), f.size)
 
 pub push-requires : goal.push-requires
-push-requires c = let f = while_there c.requires.0 c.requires.1 in (f.room, omega (arith, f.fits, f.size), omega (arith, f.fits, f.size, c.block_end-end.ensures))
+push-requires c = let f = while_there c.requires.0 c.requires.1 in
+    (f.room, omega (arith, f.fits, f.size), omega (arith, f.fits, f.size, c.block_end-end.ensures))
 
 pub advance-requires : goal.advance-requires
 advance-requires c = let f = while_there c.requires.0 c.requires.1 in (f.some, omega (arith, f.room), omega (arith, f.fits, f.size, c.block_end-end.ensures))

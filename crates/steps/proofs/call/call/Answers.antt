@@ -36,7 +36,8 @@ pub callable-requires : goal.callable-requires
 callable-requires c = slots_fit (called_there c.requires.0 c.requires.1 c.requires.2) c.actuals-places.result (search rules)
 
 pub returns-in_err-callable : goal.returns-in_err-callable
-returns-in_err-callable c = call_refused c.requires.0 c.requires.1 c.requires.2 _ c.args.floor.now.map.now c.actuals-places.result (search rules) c.actuals-places.ensures _ _ (passed_as _ c.from_residual.ensures.1) c.in_err-callable.ensures
+returns-in_err-callable c = call_refused c.requires.0 c.requires.1 c.requires.2 _ c.args.floor.now.map.now c.actuals-places.result (search rules)
+    c.actuals-places.ensures _ _ (passed_as _ c.from_residual.ensures.1) c.in_err-callable.ensures
 
 pub callee-inner-requires : goal.callee-inner-requires
 callee-inner-requires c = let f = called_there c.requires.0 c.requires.1 c.requires.2 in (omega (arith, f.arguments), omega (arith, f.fits, f.size))
@@ -48,7 +49,8 @@ pub block_end-requires : goal.block_end-requires
 block_end-requires c = let f = body_fits (called_there c.requires.0 c.requires.1 c.requires.2) _ c.head-body.ensures in (omega (arith, f.0), f.1)
 
 pub push-requires : goal.push-requires
-push-requires c = let f = body_fits (called_there c.requires.0 c.requires.1 c.requires.2) _ c.head-body.ensures in (entered_room c.callee-inner.ensures, omega (arith, f.0, f.1), omega (arith, f.0, f.1, c.block_end.ensures))
+push-requires c = let f = body_fits (called_there c.requires.0 c.requires.1 c.requires.2) _ c.head-body.ensures in
+    (entered_room c.callee-inner.ensures, omega (arith, f.0, f.1), omega (arith, f.0, f.1, c.block_end.ensures))
 
 pub advance-requires : goal.advance-requires
 advance-requires c = let f = called_there c.requires.0 c.requires.1 c.requires.2 in (f.some, f.room, omega (arith, f.fits, f.size))
@@ -57,4 +59,5 @@ pub enter-requires : goal.enter-requires
 enter-requires c = let f = called_there c.requires.0 c.requires.1 c.requires.2 in f.deep
 
 pub returns : goal.returns
-returns c = call_granted c.requires.0 c.requires.1 c.requires.2 _ c.args.floor.now.map.now c.actuals-places.result (search rules) c.actuals-places.ensures _ _ _ _ _ _ c.in_ok-callable.ensures c.head-body.ensures c.block_end.ensures c.callee-inner.ensures c.push.ensures c.advance.ensures c.enter.ensures
+returns c = call_granted c.requires.0 c.requires.1 c.requires.2 _ c.args.floor.now.map.now c.actuals-places.result (search rules) c.actuals-places.ensures _
+    _ _ _ _ _ c.in_ok-callable.ensures c.head-body.ensures c.block_end.ensures c.callee-inner.ensures c.push.ensures c.advance.ensures c.enter.ensures

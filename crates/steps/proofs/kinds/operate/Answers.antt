@@ -61,34 +61,48 @@ pub slot-requires-in-Set-2 : goal.slot-requires-in-Set-2
 slot-requires-in-Set-2 c = let f = set_there c.requires (byte_is _ Set _ c.known.ensures c.in-Set.is) in (omega (arith, f.0), f.2)
 
 pub slot-requires-in_default : goal.slot-requires-in_default
-slot-requires-in_default c = let f = constant_there c.requires (last_byte c.requires _ c.known.ensures c.in_default.not-Init c.in_default.not-Magic c.in_default.not-Free c.in_default.not-Gate c.in_default.not-Measure c.in_default.not-Merge c.in_default.not-Ref c.in_default.not-Get c.in_default.not-Set) in (omega (arith, f.0), f.1)
+slot-requires-in_default c = let f = constant_there c.requires
+    (last_byte c.requires _ c.known.ensures c.in_default.not-Init c.in_default.not-Magic c.in_default.not-Free c.in_default.not-Gate c.in_default.not-Measure
+    c.in_default.not-Merge c.in_default.not-Ref c.in_default.not-Get c.in_default.not-Set) in (omega (arith, f.0), f.1)
 
 pub bounds-s-at-in_default : goal.bounds-s-at-in_default
-bounds-s-at-in_default c = let f = constant_there c.requires (last_byte c.requires _ c.known.ensures c.in_default.not-Init c.in_default.not-Magic c.in_default.not-Free c.in_default.not-Gate c.in_default.not-Measure c.in_default.not-Merge c.in_default.not-Ref c.in_default.not-Get c.in_default.not-Set) in omega (arith, f.0)
+bounds-s-at-in_default c = let f = constant_there c.requires
+    (last_byte c.requires _ c.known.ensures c.in_default.not-Init c.in_default.not-Magic c.in_default.not-Free c.in_default.not-Gate c.in_default.not-Measure
+    c.in_default.not-Merge c.in_default.not-Ref c.in_default.not-Get c.in_default.not-Set) in omega (arith, f.0)
 
 pub returns-in-Init : goal.returns-in-Init
-returns-in-Init c = init_goes c.args.s.now _ _ _ _ c.args.floor.now.map.now _ _ _ c.slot.ensures _ refl (init_byte _ _ c.known.ensures c.in-Init.is) _ c.located.ensures c.init.ensures
+returns-in-Init c = init_goes c.args.s.now _ _ _ _ c.args.floor.now.map.now _ _ _ c.slot.ensures _ refl (init_byte _ _ c.known.ensures c.in-Init.is) _
+    c.located.ensures c.init.ensures
 
 pub returns-in-Free : goal.returns-in-Free
-returns-in-Free c = free_goes c.args.s.now _ _ _ _ c.args.floor.now.map.now _ _ _ c.slot-in-Free.ensures (byte_is _ Free _ c.known.ensures c.in-Free.is) c.free.ensures
+returns-in-Free c = free_goes c.args.s.now _ _ _ _ c.args.floor.now.map.now _ _ _ c.slot-in-Free.ensures (byte_is _ Free _ c.known.ensures c.in-Free.is)
+    c.free.ensures
 
 pub returns-in-Gate : goal.returns-in-Gate
-returns-in-Gate c = gate_goes c.args.s.now _ _ _ _ c.args.floor.now.map.now _ _ _ c.slot-in-Gate.ensures (byte_is _ Gate _ c.known.ensures c.in-Gate.is) c.gate.ensures
+returns-in-Gate c = gate_goes c.args.s.now _ _ _ _ c.args.floor.now.map.now _ _ _ c.slot-in-Gate.ensures (byte_is _ Gate _ c.known.ensures c.in-Gate.is)
+    c.gate.ensures
 
 pub returns-in-Measure : goal.returns-in-Measure
-returns-in-Measure c = measure_goes c.args.s.now _ _ _ _ c.args.floor.now.map.now _ _ _ c.slot-in-Measure.ensures _ c.slot-in-Measure-2.ensures (byte_is _ Measure _ c.known.ensures c.in-Measure.is) c.measure.ensures
+returns-in-Measure c = measure_goes c.args.s.now _ _ _ _ c.args.floor.now.map.now _ _ _ c.slot-in-Measure.ensures _ c.slot-in-Measure-2.ensures
+    (byte_is _ Measure _ c.known.ensures c.in-Measure.is) c.measure.ensures
 
 pub returns-in-Merge : goal.returns-in-Merge
-returns-in-Merge c = merge_goes c.args.s.now _ _ _ _ c.args.floor.now.map.now _ _ _ c.slot-y.ensures _ c.slot-x.ensures (byte_is _ Merge _ c.known.ensures c.in-Merge.is) _ c.slot-z.ensures c.merge.ensures
+returns-in-Merge c = merge_goes c.args.s.now _ _ _ _ c.args.floor.now.map.now _ _ _ c.slot-y.ensures _ c.slot-x.ensures
+    (byte_is _ Merge _ c.known.ensures c.in-Merge.is) _ c.slot-z.ensures c.merge.ensures
 
 pub returns-in-Ref : goal.returns-in-Ref
-returns-in-Ref c = new_goes c.args.s.now _ _ _ _ c.args.floor.now.map.now _ _ _ c.slot-in-Ref.ensures _ c.slot-in-Ref-2.ensures (byte_is _ Ref _ c.known.ensures c.in-Ref.is) c.new_reference.ensures
+returns-in-Ref c = new_goes c.args.s.now _ _ _ _ c.args.floor.now.map.now _ _ _ c.slot-in-Ref.ensures _ c.slot-in-Ref-2.ensures
+    (byte_is _ Ref _ c.known.ensures c.in-Ref.is) c.new_reference.ensures
 
 pub returns-in-Get : goal.returns-in-Get
-returns-in-Get c = get_goes c.args.s.now _ _ _ _ c.args.floor.now.map.now _ _ _ c.slot-in-Get.ensures _ c.slot-in-Get-2.ensures (byte_is _ Get _ c.known.ensures c.in-Get.is) c.get_reference.ensures
+returns-in-Get c = get_goes c.args.s.now _ _ _ _ c.args.floor.now.map.now _ _ _ c.slot-in-Get.ensures _ c.slot-in-Get-2.ensures
+    (byte_is _ Get _ c.known.ensures c.in-Get.is) c.get_reference.ensures
 
 pub returns-in-Set : goal.returns-in-Set
-returns-in-Set c = set_goes c.args.s.now _ _ _ _ c.args.floor.now.map.now _ _ _ c.slot-in-Set.ensures _ c.slot-in-Set-2.ensures (byte_is _ Set _ c.known.ensures c.in-Set.is) c.set_reference.ensures
+returns-in-Set c = set_goes c.args.s.now _ _ _ _ c.args.floor.now.map.now _ _ _ c.slot-in-Set.ensures _ c.slot-in-Set-2.ensures
+    (byte_is _ Set _ c.known.ensures c.in-Set.is) c.set_reference.ensures
 
 pub returns-in_default : goal.returns-in_default
-returns-in_default c = constant_goes c.args.s.now _ _ _ _ c.args.floor.now.map.now _ _ _ c.slot-in_default.ensures _ refl (last_byte c.requires _ c.known.ensures c.in_default.not-Init c.in_default.not-Magic c.in_default.not-Free c.in_default.not-Gate c.in_default.not-Measure c.in_default.not-Merge c.in_default.not-Ref c.in_default.not-Get c.in_default.not-Set) c.constant.ensures
+returns-in_default c = constant_goes c.args.s.now _ _ _ _ c.args.floor.now.map.now _ _ _ c.slot-in_default.ensures _ refl
+    (last_byte c.requires _ c.known.ensures c.in_default.not-Init c.in_default.not-Magic c.in_default.not-Free c.in_default.not-Gate c.in_default.not-Measure
+    c.in_default.not-Merge c.in_default.not-Ref c.in_default.not-Get c.in_default.not-Set) c.constant.ensures

@@ -20,7 +20,9 @@ pub known-requires : goal.known-requires
 known-requires c = let f = known c.requires.0 c.requires.1 in (f.positive, f.small)
 
 pub advance-requires : goal.advance-requires
-advance-requires c = let f = known c.requires.0 c.requires.1 in (c.requires.0.some, room_there c.requires.0.steady, omega (arith, f.fits, f.size, (c.size.ensures.value ∙ ap size_of c.known.ensures)))
+advance-requires c = let f = known c.requires.0 c.requires.1 in
+    (c.requires.0.some, room_there c.requires.0.steady, omega (arith, f.fits, f.size, (c.size.ensures.value ∙ ap size_of c.known.ensures)))
 
 pub returns : goal.returns
-returns c = acts_moved _ _ _ _ _ c.args.floor.now.map.now _ _ c.in_ok-done.ensures c.requires.0 c.requires.1 _ (c.size.ensures.value ∙ ap size_of c.known.ensures) _ c.advance.ensures _ refl
+returns c = acts_moved _ _ _ _ _ c.args.floor.now.map.now _ _ c.in_ok-done.ensures c.requires.0 c.requires.1 _
+    (c.size.ensures.value ∙ ap size_of c.known.ensures) _ c.advance.ensures _ refl

@@ -12,7 +12,9 @@ pub returns-then-not-is_inside : goal.returns-then-not-is_inside
 returns-then-not-is_inside c = init_outside _ _ _ _ _ c.args.floor.now.map.now c.in_ok-may_bind.ensures _ c.is_inside.ensures c.if-not-is_inside.true refl
 
 pub returns-then-not-is_free : goal.returns-then-not-is_free
-returns-then-not-is_free c = init_taken _ _ _ _ _ c.args.floor.now.map.now c.in_ok-may_bind.ensures _ c.is_inside.ensures c.if-not-is_inside.false _ c.is_free.ensures c.if-not-is_free.true refl
+returns-then-not-is_free c = init_taken _ _ _ _ _ c.args.floor.now.map.now c.in_ok-may_bind.ensures _ c.is_inside.ensures c.if-not-is_inside.false _
+    c.is_free.ensures c.if-not-is_free.true refl
 
 pub returns : goal.returns
-returns c = init_goes _ _ _ _ _ c.args.floor.now.map.now c.in_ok-may_bind.ensures _ c.is_inside.ensures c.if-not-is_inside.false _ c.is_free.ensures _ c.if-not-is_free.false c.occupy.ensures (ap Ok c.new.ensures)
+returns c = init_goes _ _ _ _ _ c.args.floor.now.map.now c.in_ok-may_bind.ensures _ c.is_inside.ensures c.if-not-is_inside.false _ c.is_free.ensures _
+    c.if-not-is_free.false c.occupy.ensures (ap Ok c.new.ensures)

@@ -6,7 +6,8 @@ use Rattle.steps.proofs.Deciding.{comes, starts_there, by_told, by_return, by_en
 use Rattle.steps.proofs.step.step.Goals as goal
 
 pub returns-then-job-eq0-2 : goal.returns-then-job-eq0-2
-returns-then-job-eq0-2 c = by_end c.args.s.now _ c.args.floor.now.rows.now _ c.args.floor.now.map.now _ _ _ c.if-job-eq0.true c.if-job-eq0-2.true c.finished.ensures
+returns-then-job-eq0-2 c = by_end c.args.s.now _ c.args.floor.now.rows.now _ c.args.floor.now.map.now _ _ _ c.if-job-eq0.true c.if-job-eq0-2.true
+    c.finished.ensures
 
 pub give_back-at-requires : goal.give_back-at-requires
 give_back-at-requires c = (steady c.requires, c.if-job-eq0.true, omega (arith, c.if-job-eq0-2.false))

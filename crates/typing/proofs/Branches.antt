@@ -1,13 +1,13 @@
 -- An if and a while: the cases of their blocks, and their answers from those of the blocks.
 use mathlib.Core.Bool.{Bool, true, false}
 use mathlib.Core.List.{List}
-use mathlib.Core.Path.{◌≡◌, refl, sym, subst, ◌∙◌}
+use mathlib.Core.Path.{◌≡◌, refl, sym, ap, subst, ◌∙◌}
 use native.Mathlib.Omega.{arith}
 use Prim.Native.Nat.{ℕ, ◌+◌, ◌≤◌, ◌<◌}
 use lib.ListN.{length}
 use Rattle.std.specs.Prelude.{Result, Ok, Err}
 use Rattle.answers.specs.declared.Refusal.{Refusal}
-use Rattle.answers.specs.Check.{ok, refused, refusal}
+use Rattle.answers.specs.Check.{Check, ok, refused, refusal}
 use Rattle.program.specs.In.{BlockIn}
 use Rattle.program.proofs.In.{statement_view, block_in}
 use Rattle.rules.specs.Basics.{byte}
@@ -50,6 +50,14 @@ module _ {body : Body} {env : Env} {at : ℕ} (t : StatementCase body env at) wh
 
   abbrev Typed_as : Result Typed Refusal → Type 0
   Typed_as r = Answers t.places t.next (type_statement t.context t.entry t.it) r
+
+  -- what is asked of a slot, by the byte that names it
+  module _ {m : Check (Unit {0})} {x y : ℕ} (e : x ≡ y) where
+    pub bool_at : m ≡ need_bool (slot t.entry.slots x) at → m ≡ need_bool (slot t.entry.slots y) at
+    bool_at h = h ∙ ap (λ (i : ℕ). need_bool (slot t.entry.slots i) at) e
+
+    pub reference_at : m ≡ need_ref (slot t.entry.slots x) at → m ≡ need_ref (slot t.entry.slots y) at
+    reference_at h = h ∙ ap (λ (i : ℕ). need_ref (slot t.entry.slots i) at) e
 
   module _ (b : byte s at ≡ 10) where
     pub an_if : AIf s t.scope t.depths at t.it t.next

@@ -67,9 +67,9 @@ module _ {d : Side} (C : Context d) (Γ : Environment d) (o : ℕ) (xs ls : List
   abbrev pub Left : ℕ → Check (Unit {0})
   Left i = arguments_at (kinds C Γ) o Γ.slots (drop i xs) (places d (drop i ls))
 
-  pub left_one : (i : ℕ) → i < length xs → length xs ≤ length ls
-      → Left i ≡ (need_qubit (slot Γ.slots (get_or xs i 0)) o >>= λ p. need (eqb p.no (get_or ls i 0)) 16 o >> Left (i + 1))
-  left_one i h l = rw (drop-cons xs i 0 h, drop-cons ls i 0 (omega arith), add-one i)
+  pub left_one : (i : ℕ) → i < length xs → length xs ≤ length ls → {x : ℕ} → x ≡ get_or xs i 0
+      → Left i ≡ (need_qubit (slot Γ.slots x) o >>= λ p. need (eqb p.no (get_or ls i 0)) 16 o >> Left (i + 1))
+  left_one i h l e = rw (e, drop-cons xs i 0 h, drop-cons ls i 0 (omega arith), add-one i)
 
   pub left_none : (i : ℕ) → length xs ≤ i → ok tt ≡ Left i
   left_none i h = rw (drop_of_length-le xs {i = i} h)

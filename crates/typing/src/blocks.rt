@@ -1,6 +1,6 @@
 // Blocks and statements: a loop goes over a block's statements, and only nesting recurses. Main's own block is not closed: 17 is not asked of it,
 // and the rest of a closing changes no qubit.
-ghost use Rattle.std.specs.Prelude.{◌≡◌};
+ghost use Rattle.std.specs.Prelude.{◌≡◌, ◌<◌, length};
 ghost use Rattle.rules.specs.Basics.{byte};
 ghost use Rattle.typing.specs.Cases.{BlockCase, BlockTyped, StatementsTyped, StatementCase, StatementTyped};
 
@@ -8,7 +8,16 @@ use super::body::Body;
 use super::env::{Env, Typed};
 use answers::{Fault, Refusal};
 use rules::bytes::word_at;
+use rules::place::SlotNumber;
 use rules::statements::Kind;
+
+// The slot that the byte at a position names.
+fn slot(s: &[u8], at: usize) -> SlotNumber
+    requires { (at < length s.now) × (byte s.now at < 32) }
+    ensures { result ≡ byte s.now at }
+{
+    SlotNumber::known(s[at])
+}
 
 impl Body<'_> {
     // A block: its statements, then its closing.
@@ -45,18 +54,18 @@ impl Body<'_> {
         let kind = Kind::known(s[at]);
         let next = at + kind.size();
         match kind {
-            Kind::Init | Kind::Magic => env.init(self.inside, at, next, s[at + 1], s[at + 2]),
-            Kind::Free => env.free(at, next, s[at + 1]),
-            Kind::Gate => env.gate(at, next, s[at + 2]),
-            Kind::Measure => env.measure(at, next, s[at + 1], s[at + 3]),
-            Kind::Merge => env.merge(at, next, s[at + 1], s[at + 3], s[at + 5]),
-            Kind::Ref => env.new_reference(at, next, s[at + 1], s[at + 2]),
-            Kind::Get => env.get_reference(at, next, s[at + 1], s[at + 2]),
-            Kind::Set => env.set_reference(at, next, s[at + 1], s[at + 2]),
+            Kind::Init | Kind::Magic => env.init(self.inside, at, next, slot(s, at + 1), s[at + 2]),
+            Kind::Free => env.free(at, next, slot(s, at + 1)),
+            Kind::Gate => env.gate(at, next, slot(s, at + 2)),
+            Kind::Measure => env.measure(at, next, slot(s, at + 1), slot(s, at + 3)),
+            Kind::Merge => env.merge(at, next, slot(s, at + 1), slot(s, at + 3), slot(s, at + 5)),
+            Kind::Ref => env.new_reference(at, next, slot(s, at + 1), slot(s, at + 2)),
+            Kind::Get => env.get_reference(at, next, slot(s, at + 1), slot(s, at + 2)),
+            Kind::Set => env.set_reference(at, next, slot(s, at + 1), slot(s, at + 2)),
             Kind::If => self.type_if(env, at),
             Kind::While => self.type_while(env, at),
             Kind::Call => self.type_call(env, at),
-            Kind::Bool => env.constant(at, next, s[at + 1]),
+            Kind::Bool => env.constant(at, next, slot(s, at + 1)),
         }
     }
 
@@ -67,7 +76,7 @@ impl Body<'_> {
         requires starts { byte self.now.bytes.now at ≡ 10 }
         ensures { StatementTyped self.now env at result }
     {
-        env.need_bool(self.bytes[at + 1], at)?;
+        env.need_bool(slot(self.bytes, at + 1), at)?;
         let first = self.type_block(env, at + 2)?;
         let second = self.type_block(env, first.next)?;
         if !first.env.same(second.env) {
@@ -86,7 +95,7 @@ impl Body<'_> {
         requires starts { byte self.now.bytes.now at ≡ 11 }
         ensures { StatementTyped self.now env at result }
     {
-        env.need_reference(self.bytes[at + 1], at)?;
+        env.need_reference(slot(self.bytes, at + 1), at)?;
         let body = self.type_block(env, at + 2)?;
         if !body.env.same(env) {
             return Err(Fault::LoopChanges.at(at));

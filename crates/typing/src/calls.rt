@@ -13,10 +13,12 @@ use super::endings::Endings;
 use super::env::{Env, Typed};
 use super::slots::Slot;
 use answers::{Fault, Refusal};
+use rules::place::SlotNumber;
 use sets::LocationSet;
 use sets::bytes::{all_in, no_repeat};
 
 // The callee, the locations of its places, and the slots of its arguments, which are at the first of the locations.
+// Both lists are the file's own bytes, which are no copies, so that a clause has the bound of the slots.
 #[derive(Clone, Copy)]
 pub struct Call<'a> {
     pub callee: u8,
@@ -56,7 +58,7 @@ impl Call<'_> {
             → said result ≡ arguments_at (kinds C Γ) at Γ.slots self.now.slots.now (places d self.now.places.now) }
     {
         for i in 0..self.slots.len() {
-            let place = env.need_qubit(self.slots[i], at)?;
+            let place = env.need_qubit(SlotNumber::known(self.slots[i]), at)?;
             if place != self.places[i] {
                 return Err(Fault::Elsewhere.at(at));
             }
@@ -91,7 +93,7 @@ impl Call<'_> {
         for i in (0..self.slots.len()).rev() {
             if !endings.keeps(self.callee, i as u8) {
                 after = after
-                    .bind(self.slots[i], Slot::Unbound)
+                    .bind(SlotNumber::known(self.slots[i]), Slot::Unbound)
                     .give(self.places[i]);
             }
         }

@@ -1,9 +1,10 @@
 // Environments: what each slot holds, and which places are free.
-ghost use Rattle.std.specs.Prelude.{not, ◌&&◌, ◌||◌, ◌≡◌, ℕ, ◌<◌, eqb, replicate};
+ghost use Rattle.std.specs.Prelude.{not, ◌&&◌, ◌||◌, ◌≡◌, ℕ, eqb, replicate};
 ghost use Rattle.sets.specs.Sets.{has};
-ghost use Rattle.typing.specs.Stands.{bound};
+ghost use Rattle.typing.specs.Stands.{slot_of, bound};
 
 use super::slots::Slot;
+use rules::place::SlotNumber;
 use sets::LocationSet;
 
 #[derive(Clone, Copy)]
@@ -30,11 +31,17 @@ impl Env {
         }
     }
 
-    pub fn bind(mut self, x: u8, slot: Slot) -> Self
-        requires { x < 32 }
+    // What a slot holds.
+    pub fn held(&self, x: SlotNumber) -> Slot
+        ensures { result ≡ slot_of self.now x }
+    {
+        self.slots[x.index()]
+    }
+
+    pub fn bind(mut self, x: SlotNumber, slot: Slot) -> Self
         ensures { result ≡ bound self x slot }
     {
-        self.slots[x as usize] = slot;
+        self.slots[x.index()] = slot;
         self
     }
 

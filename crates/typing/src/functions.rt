@@ -14,6 +14,7 @@ use super::env::Env;
 use super::slots::Slot;
 use answers::Refusal;
 use program::file::ReadProgram;
+use rules::place::SlotNumber;
 use sets::LocationSet;
 
 // The first k numbers.
@@ -34,7 +35,7 @@ fn entered(k: u8, m: u8) -> Env
 {
     let mut env = Env::new(first(k).without(first(m)));
     for i in 0..m {
-        env = env.bind(i, Slot::Qubit(i));
+        env = env.bind(SlotNumber::known(i), Slot::Qubit(i));
     }
     env
 }

@@ -11,16 +11,16 @@ ghost use Rattle.typing.specs.Cases.{Placed, Performed};
 use super::env::{Env, Typed};
 use super::slots::Slot;
 use answers::{Fault, Refusal};
+use rules::place::SlotNumber;
 use sets::LocationSet;
 
 // What is asked of a slot.
 impl Env {
     // 12: it holds nothing.
-    pub fn need_unbound(self, x: u8, at: usize) -> Result<(), Refusal>
-        requires { x < 32 }
+    pub fn need_unbound(self, x: SlotNumber, at: usize) -> Result<(), Refusal>
         ensures { (d : Side) (n : ℕ) (Γ : Environment d) → EnvIs n self Γ → said result ≡ need (is_unbound (slot Γ.slots x)) 12 at }
     {
-        if self.slots[x as usize] == Slot::Unbound {
+        if self.held(x) == Slot::Unbound {
             Ok(())
         } else {
             Err(Fault::Bound.at(at))
@@ -28,20 +28,18 @@ impl Env {
     }
 
     // 11: it holds a qubit, at the place that is answered.
-    pub fn need_qubit(self, x: u8, at: usize) -> Result<u8, Refusal>
-        requires { x < 32 }
+    pub fn need_qubit(self, x: SlotNumber, at: usize) -> Result<u8, Refusal>
         ensures place { (d : Side) (n : ℕ) (Γ : Environment d) → EnvIs n self Γ → place_said result ≡ need_qubit (slot Γ.slots x) at }
         ensures there { (d : Side) (n : ℕ) (Γ : Environment d) → EnvIs n self Γ → IfOk result (λ l. l < n) }
     {
-        self.slots[x as usize].qubit().ok_or(Fault::NotHeld.at(at))
+        self.held(x).qubit().ok_or(Fault::NotHeld.at(at))
     }
 
     // 11: it holds a bool.
-    pub fn need_bool(self, x: u8, at: usize) -> Result<(), Refusal>
-        requires { x < 32 }
+    pub fn need_bool(self, x: SlotNumber, at: usize) -> Result<(), Refusal>
         ensures { (d : Side) (n : ℕ) (Γ : Environment d) → EnvIs n self Γ → said result ≡ need_bool (slot Γ.slots x) at }
     {
-        if self.slots[x as usize] == Slot::Bool {
+        if self.held(x) == Slot::Bool {
             Ok(())
         } else {
             Err(Fault::NotHeld.at(at))
@@ -49,11 +47,10 @@ impl Env {
     }
 
     // 11: it holds a reference.
-    pub fn need_reference(self, x: u8, at: usize) -> Result<(), Refusal>
-        requires { x < 32 }
+    pub fn need_reference(self, x: SlotNumber, at: usize) -> Result<(), Refusal>
         ensures { (d : Side) (n : ℕ) (Γ : Environment d) → EnvIs n self Γ → said result ≡ need_ref (slot Γ.slots x) at }
     {
-        if self.slots[x as usize] == Slot::Reference {
+        if self.held(x) == Slot::Reference {
             Ok(())
         } else {
             Err(Fault::NotHeld.at(at))
@@ -61,8 +58,7 @@ impl Env {
     }
 }
 
-// The operation at `at`, whose statement ends at `next`. A slot's number stays an operand's byte below 32: with a type for it each call here would be
-// asked for the same bound, and what its statement says would go through one equation more.
+// The operation at `at`, whose statement ends at `next`.
 impl Env {
     // A qubit at a place in slot x: 12, 13, 14.
     pub fn init(
@@ -70,10 +66,9 @@ impl Env {
         inside: LocationSet,
         at: usize,
         next: usize,
-        x: u8,
+        x: SlotNumber,
         place: u8,
     ) -> Result<Typed, Refusal>
-        requires { x < 32 }
         ensures { (q : Preparation) → Placed inside self (λ d. init q x (record { no = place })) at next result }
     {
         self.need_unbound(x, at)?;
@@ -88,8 +83,7 @@ impl Env {
     }
 
     // The qubit in slot x is gone and its place free.
-    pub fn free(self, at: usize, next: usize, x: u8) -> Result<Typed, Refusal>
-        requires { x < 32 }
+    pub fn free(self, at: usize, next: usize, x: SlotNumber) -> Result<Typed, Refusal>
         ensures { Performed self (λ d. free x) at next result }
     {
         let place = self.need_qubit(x, at)?;
@@ -97,8 +91,7 @@ impl Env {
         Ok(Typed { next, env })
     }
 
-    pub fn gate(self, at: usize, next: usize, x: u8) -> Result<Typed, Refusal>
-        requires { x < 32 }
+    pub fn gate(self, at: usize, next: usize, x: SlotNumber) -> Result<Typed, Refusal>
         ensures { (g : ℕ) → Performed self (λ d. gate g x) at next result }
     {
         self.need_qubit(x, at)?;
@@ -106,8 +99,13 @@ impl Env {
     }
 
     // The outcome of qubit x becomes the bool y.
-    pub fn measure(self, at: usize, next: usize, y: u8, x: u8) -> Result<Typed, Refusal>
-        requires { (y < 32) × (x < 32) }
+    pub fn measure(
+        self,
+        at: usize,
+        next: usize,
+        y: SlotNumber,
+        x: SlotNumber,
+    ) -> Result<Typed, Refusal>
         ensures { (b : ℕ) → Performed self (λ d. measure y b x) at next result }
     {
         self.need_unbound(y, at)?;
@@ -117,14 +115,20 @@ impl Env {
     }
 
     // The outcome of the merge of qubits x and z becomes the bool y.
-    pub fn merge(self, at: usize, next: usize, y: u8, x: u8, z: u8) -> Result<Typed, Refusal>
-        requires { (y < 32) × (x < 32) × (z < 32) }
+    pub fn merge(
+        self,
+        at: usize,
+        next: usize,
+        y: SlotNumber,
+        x: SlotNumber,
+        z: SlotNumber,
+    ) -> Result<Typed, Refusal>
         ensures { (b c : ℕ) → Performed self (λ d. merge y b x c z) at next result }
     {
         self.need_unbound(y, at)?;
         self.need_qubit(x, at)?;
         self.need_qubit(z, at)?;
-        if x == z {
+        if x.index() == z.index() {
             return Err(Fault::Twice.at(at));
         }
         let env = self.bind(y, Slot::Bool);
@@ -132,8 +136,13 @@ impl Env {
     }
 
     // A reference r to a copy of the bool y.
-    pub fn new_reference(self, at: usize, next: usize, r: u8, y: u8) -> Result<Typed, Refusal>
-        requires { (r < 32) × (y < 32) }
+    pub fn new_reference(
+        self,
+        at: usize,
+        next: usize,
+        r: SlotNumber,
+        y: SlotNumber,
+    ) -> Result<Typed, Refusal>
         ensures { Performed self (λ d. new_ref r y) at next result }
     {
         self.need_unbound(r, at)?;
@@ -143,8 +152,13 @@ impl Env {
     }
 
     // The bool y from the reference r.
-    pub fn get_reference(self, at: usize, next: usize, y: u8, r: u8) -> Result<Typed, Refusal>
-        requires { (y < 32) × (r < 32) }
+    pub fn get_reference(
+        self,
+        at: usize,
+        next: usize,
+        y: SlotNumber,
+        r: SlotNumber,
+    ) -> Result<Typed, Refusal>
         ensures { Performed self (λ d. get_ref y r) at next result }
     {
         self.need_unbound(y, at)?;
@@ -154,8 +168,13 @@ impl Env {
     }
 
     // The reference r holds the bool y.
-    pub fn set_reference(self, at: usize, next: usize, r: u8, y: u8) -> Result<Typed, Refusal>
-        requires { (r < 32) × (y < 32) }
+    pub fn set_reference(
+        self,
+        at: usize,
+        next: usize,
+        r: SlotNumber,
+        y: SlotNumber,
+    ) -> Result<Typed, Refusal>
         ensures { Performed self (λ d. set_ref r y) at next result }
     {
         self.need_reference(r, at)?;
@@ -164,8 +183,7 @@ impl Env {
         Ok(Typed { next, env })
     }
 
-    pub fn constant(self, at: usize, next: usize, y: u8) -> Result<Typed, Refusal>
-        requires { y < 32 }
+    pub fn constant(self, at: usize, next: usize, y: SlotNumber) -> Result<Typed, Refusal>
         ensures { (v : Bool) → Performed self (λ d. constant y v) at next result }
     {
         self.need_unbound(y, at)?;

@@ -1,4 +1,5 @@
 -- 11, then the slot is unbound and the place free.
+use native.Mathlib.Omega.{arith}
 use mathlib.Core.Path.{refl}
 use Rattle.answers.proofs.Passed.{passed_as}
 use Rattle.typing.proofs.Envs.{bound_is, give_is}
@@ -15,4 +16,4 @@ pub returns : goal.returns
 returns c =
     λ d n C Γ is.
     accepts (first_gives _ (first_gives _ (c.in_ok-place.ensures.place d n Γ is) (refl)) refl) refl
-    (give_is (bound_is is _ c.requires _ c.bind.ensures refl) _ c.give-env.ensures.slots _ (c.in_ok-place.ensures.there d n Γ is) c.give-env.ensures.free)
+    (give_is (bound_is is _ (omega arith) _ c.bind.ensures refl) _ c.give-env.ensures.slots _ (c.in_ok-place.ensures.there d n Γ is) c.give-env.ensures.free)

@@ -1,4 +1,5 @@
 -- 12, 11, then the bool is bound.
+use native.Mathlib.Omega.{arith}
 use mathlib.Core.Path.{refl}
 use Rattle.answers.proofs.Passed.{passed_as}
 use Rattle.typing.proofs.Envs.{bound_is}
@@ -21,4 +22,4 @@ pub returns : goal.returns
 returns c =
     λ d n C Γ is.
     accepts (first_gives _ (then_gives (c.in_ok-need_unbound.ensures d n Γ is) (first_gives _ (c.in_ok-need_reference.ensures d n Γ is) (refl))) refl) refl
-    (bound_is is _ c.requires.0 _ c.bind-env.ensures refl)
+    (bound_is is _ (omega arith) _ c.bind-env.ensures refl)

@@ -1,4 +1,5 @@
 -- 12, 13, 14, then the slot holds the qubit and its place is taken.
+use native.Mathlib.Omega.{arith}
 use mathlib.Core.Path.{refl, sym, ◌∙◌}
 use Rattle.answers.proofs.Passed.{passed_as}
 use Rattle.typing.proofs.Envs.{bound_qubit, take_is}
@@ -30,6 +31,6 @@ returns c =
     let inside = need_yes 13 _ (w.same _ ∙ sym c.contains.ensures ∙ c.if-not-contains.false) in
     let free = need_yes 14 _ (is.free _ ∙ sym c.contains-2.ensures ∙ c.if-not-contains-2.false) in
     let place = w.few _ (sym c.contains.ensures ∙ c.if-not-contains.false) in
-    let bound = bound_qubit is _ c.requires _ c.bind.ensures _ refl place in
+    let bound = bound_qubit is _ (omega arith) _ c.bind.ensures _ refl place in
     accepts (first_gives _ (then_gives (c.in_ok-need_unbound.ensures d n Γ is) (then_gives inside (then_gives free refl))) refl) refl
     (take_is bound _ c.take-env.ensures.slots _ place c.take-env.ensures.free)

@@ -36,10 +36,10 @@ pub fn deal(
 }
 
 // The run of two programs that were read, on a device that was read.
-pub fn run<'x>(
+pub fn run<'p>(
     device: DeviceFile<'_>,
-    first: &'x ReadProgram<'x>,
-    second: &'x ReadProgram<'x>,
+    first: &'p ReadProgram<'p>,
+    second: &'p ReadProgram<'p>,
     schedule: &[u8],
     records: &mut [u8],
     map: &mut [u8],

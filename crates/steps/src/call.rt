@@ -27,15 +27,16 @@ pub fn callee(places: [Location; 16], m: u8, at: usize) -> Frame
     Frame::new(slots, places, at)
 }
 
+// What is asked being granted, the caller is passed and the callee goes on top.
 pub fn call(
     s: &[u8],
-    t: &FunctionTable,
+    functions: &FunctionTable,
     at: usize,
     floor: &Floor<'_>,
     job: &mut Job,
 ) -> Result<Effect, Fault>
-    requires { Ready s.now t.now job.old × Comes s.now job.old at × (byte s.now at ≡ 12) }
-    ensures { Calls s.now t.now at floor.now.owned floor.now.map.now job.old job.new result }
+    requires { Ready s.now functions.now job.old × Comes s.now job.old at × (byte s.now at ≡ 12) }
+    ensures { Calls s.now functions.now at floor.now.owned floor.now.map.now job.old job.new result }
 {
     let k = s[at + 2] as usize;
     let m = s[at + 3] as usize;
@@ -43,7 +44,7 @@ pub fn call(
     let end = slots_at + m;
     let places = actuals(&s[at + 4..slots_at], job);
     callable(&job.top.slots, &s[slots_at..end], &places[..k], floor)?;
-    let body = t.head(s[at + 1]).body;
+    let body = functions.head(s[at + 1]).body;
     let mut inner = callee(places, s[at + 3], at);
     inner.push(body + 2, block_end(s, body));
     job.top.advance(end);

@@ -1,7 +1,6 @@
 // The operation to come, by its kind.
 ghost use Rattle.std.specs.Prelude.{◌≡◌, ◌<◌, length};
 ghost use Rattle.rules.specs.Basics.{byte};
-ghost use Rattle.rules.specs.Kinds.{byte_of};
 ghost use Rattle.steps.specs.Performing.{Operable, Operates};
 ghost use Rattle.steps.specs.Stepping.{Comes, NoBlock, Acts};
 
@@ -24,6 +23,7 @@ pub fn slot(s: &[u8], at: usize) -> SlotNumber
     SlotNumber::known(s[at])
 }
 
+// The operation at an offset: of the kinds it is asked of, none is a block or a call.
 pub fn operate(
     s: &[u8],
     at: usize,
@@ -47,7 +47,6 @@ pub fn operate(
         Kind::Ref => new_reference(slots, slot(s, at + 1), slot(s, at + 2)),
         Kind::Get => get_reference(slots, slot(s, at + 1), slot(s, at + 2)),
         Kind::Set => set_reference(slots, slot(s, at + 1), slot(s, at + 2)),
-        // of those left only a bool is an operation
         _ => constant(slots, slot(s, at + 1), s[at + 2] == 1),
     }
 }

@@ -1,6 +1,6 @@
 // The operations: what each asks of the slots and of the region, in order, and what it does to them.
 ghost use Rattle.std.specs.Prelude.{Bool, ◌≡◌, ℕ};
-ghost use Rattle.rules.specs.Syntax.{Side, free, gate, measure, new_ref, get_ref, set_ref, constant};
+ghost use Rattle.rules.specs.Syntax.{free, gate, measure, new_ref, get_ref, set_ref, constant};
 ghost use Rattle.steps.specs.Performing.{performed, Performs, Inits};
 
 use crate::Act;

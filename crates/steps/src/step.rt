@@ -34,27 +34,33 @@ pub fn start(s: &[u8], main: usize) -> Job
 // The statement to come, by its kind.
 fn go_on(
     s: &[u8],
-    t: &FunctionTable,
+    functions: &FunctionTable,
     at: usize,
     floor: &Floor<'_>,
     job: &mut Job,
     outcome: bool,
 ) -> Result<Effect, Fault>
-    requires { Ready s.now t.now job.old × Comes s.now job.old at }
-    ensures { Goes s.now t.now at floor.now.rows.now floor.now.owned floor.now.map.now outcome job.old job.new result }
+    requires { Ready s.now functions.now job.old × Comes s.now job.old at }
+    ensures { Goes s.now functions.now at floor.now.rows.now floor.now.owned floor.now.map.now outcome job.old job.new result }
 {
     match Kind::known(s[at]) {
         Kind::If => branch(s, at, job),
         Kind::While => repeat(s, at, job),
-        Kind::Call => call(s, t, at, floor, job),
+        Kind::Call => call(s, functions, at, floor, job),
         _ => operation(s, at, floor, job, outcome),
     }
 }
 
 // A frame at its end is main's, and the job is finished, or a callee's, and returns; else the statement to come decides.
-pub fn step(s: &[u8], t: &FunctionTable, floor: &Floor<'_>, job: &mut Job, outcome: bool) -> Stepped
-    requires { Ready s.now t.now job.old }
-    ensures { Steps s.now t.now floor.now.rows.now floor.now.owned floor.now.map.now outcome job.old job.new result }
+pub fn step(
+    s: &[u8],
+    functions: &FunctionTable,
+    floor: &Floor<'_>,
+    job: &mut Job,
+    outcome: bool,
+) -> Stepped
+    requires { Ready s.now functions.now job.old }
+    ensures { Steps s.now functions.now floor.now.rows.now floor.now.owned floor.now.map.now outcome job.old job.new result }
 {
     if job.top.n == 0 {
         if job.depth == 0 {
@@ -64,5 +70,5 @@ pub fn step(s: &[u8], t: &FunctionTable, floor: &Floor<'_>, job: &mut Job, outco
         return Stepped::told(Ok(Effect::QUIET), at);
     }
     let at = job.top.here();
-    Stepped::told(go_on(s, t, at, floor, job, outcome), at)
+    Stepped::told(go_on(s, functions, at, floor, job, outcome), at)
 }

@@ -8,6 +8,7 @@ use answers::{Counted, File, Moved, Refusal};
 // What a call answers has a value of 32 bits.
 pub trait Value {
     ghost value: { Self → ℕ };
+
     fn value(self) -> u64
         ensures value { result ≡ value self }
         ensures small { result < 2 ^ 32 };
@@ -15,6 +16,7 @@ pub trait Value {
 
 impl Value for () {
     ghost value = { λ _. 0 };
+
     fn value(self) -> u64 {
         0
     }
@@ -22,6 +24,7 @@ impl Value for () {
 
 impl Value for usize {
     ghost value = { λ n. n % 2 ^ 32 };
+
     fn value(self) -> u64 {
         self as u64 % 4294967296
     }
@@ -29,6 +32,7 @@ impl Value for usize {
 
 impl Value for Counted {
     ghost value = { λ a. packed_pair a.count a.live };
+
     fn value(self) -> u64 {
         self.count as u64 % 65536 + self.live as u64 % 65536 * 65536
     }
@@ -36,6 +40,7 @@ impl Value for Counted {
 
 impl Value for Moved {
     ghost value = { λ m. packed_pair m.first m.second };
+
     fn value(self) -> u64 {
         self.first as u64 % 65536 + self.second as u64 % 65536 * 65536
     }

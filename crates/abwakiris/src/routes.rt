@@ -91,13 +91,7 @@ fn inside(owned: LocationSet, x: u64) -> Option<u8>
 }
 
 // The search: 21, then 24 where the route is longer than the buffer.
-fn search(
-    rows: &Rows,
-    free: LocationSet,
-    a: u8,
-    b: u8,
-    buffer: &mut [u8],
-) -> Result<usize, Refusal>
+fn search(rows: &Rows, free: LocationSet, a: u8, b: u8, buffer: &mut [u8]) -> Result<usize, Refusal>
     ensures { (R : Region) → RowsOf R rows.now → Finds (path.route R (has free) a b) buffer.old result buffer.new }
 {
     match find_route(rows, free, a, b, buffer) {

@@ -32,7 +32,5 @@ pub fn run(
     if map.len() < device.header.locations {
         return Err(Fault::NoSpace.at(0));
     }
-    Ok(machine::run::run(
-        device, &one, &two, schedule, records, map,
-    ))
+    Ok(machine::run::run(device, &one, &two, schedule, records, map))
 }

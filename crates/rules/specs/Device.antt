@@ -1,7 +1,7 @@
 -- Device files. Order: 1, 2, 3, 4 (n, then e), 5, 6, 7.
 use Rattle.std.specs.Prelude.{Bool, true, ◌&&◌, ◌||◌, List, [], ◌∷◌, ℕ, zero, suc, ◌+◌, ◌*◌, eqb, ltb, leb, length}
 use Rattle.std.proofs.Math.Option.{Option, none, some}
-use Rattle.answers.specs.Check.{Check, ok, refused, ◌>>=◌, ◌>>◌, need}
+use Rattle.answers.specs.Check.{Check, ok, ◌>>=◌, ◌>>◌, need}
 use Rattle.rules.specs.declared.device.DeviceHeader.{DeviceHeader}
 use Rattle.rules.specs.Basics.{byte, word, has_mark}
 

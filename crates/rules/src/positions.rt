@@ -2,7 +2,7 @@
 ghost use Rattle.std.specs.Prelude.{◌≡◌, ◌+◌, ◌≤◌, length};
 ghost use Rattle.rules.specs.Basics.{byte, word};
 
-use crate::bytes::{wide, word_at};
+use crate::bytes::word_at;
 
 // The position after the block whose length word is at `at`.
 pub fn block_end(s: &[u8], at: usize) -> usize
@@ -17,5 +17,5 @@ pub fn call_end(s: &[u8], at: usize) -> usize
     requires { (at + 4 ≤ length s.now) × (length s.now ≤ 4096) }
     ensures { result ≡ at + 4 + byte s.now (at + 2) + byte s.now (at + 3) }
 {
-    at + 4 + wide(s[at + 2]) + wide(s[at + 3])
+    at + 4 + s[at + 2] as usize + s[at + 3] as usize
 }

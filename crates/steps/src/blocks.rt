@@ -5,8 +5,8 @@ ghost use Rattle.steps.specs.Stepping.{Comes, Anyway};
 
 use crate::Effect;
 use crate::job::Job;
-use crate::kinds::slot;
 use answers::Fault;
+use rules::bytes::slot;
 use rules::positions::block_end;
 
 // An if goes on with the block that its bool chooses.

@@ -1,5 +1,4 @@
 // The operation to come, by its kind.
-ghost use Rattle.std.specs.Prelude.{◌≡◌, ◌<◌, length};
 ghost use Rattle.rules.specs.Basics.{byte};
 ghost use Rattle.steps.specs.Performing.{Operable, Operates};
 ghost use Rattle.steps.specs.Stepping.{Comes, NoBlock, Acts};
@@ -12,16 +11,8 @@ use crate::operations::{
     Performed, constant, free, gate, get_reference, init, measure, new_reference, set_reference,
 };
 use answers::Fault;
-use rules::place::SlotNumber;
+use rules::bytes::slot;
 use rules::statements::Kind;
-
-// The slot that the byte at a position names.
-pub fn slot(s: &[u8], at: usize) -> SlotNumber
-    requires { (at < length s.now) × (byte s.now at < 32) }
-    ensures { result ≡ byte s.now at }
-{
-    SlotNumber::known(s[at])
-}
 
 // The operation at an offset: of the kinds it is asked of, none is a block or a call.
 pub fn operate(

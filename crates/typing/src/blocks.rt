@@ -1,23 +1,14 @@
 // Blocks and statements: a loop goes over a block's statements, and only nesting recurses. Main's own block is not closed: 17 is not asked of it,
 // and the rest of a closing changes no qubit.
-ghost use Rattle.std.specs.Prelude.{◌≡◌, ◌<◌, length};
+ghost use Rattle.std.specs.Prelude.{◌≡◌};
 ghost use Rattle.rules.specs.Basics.{byte};
 ghost use Rattle.typing.specs.Cases.{BlockCase, BlockTyped, StatementsTyped, StatementCase, StatementTyped};
 
 use super::body::Body;
 use super::env::{Env, Typed};
 use answers::{Fault, Refusal};
-use rules::bytes::word_at;
-use rules::place::SlotNumber;
+use rules::bytes::{slot, word_at};
 use rules::statements::Kind;
-
-// The slot that the byte at a position names.
-fn slot(s: &[u8], at: usize) -> SlotNumber
-    requires { (at < length s.now) × (byte s.now at < 32) }
-    ensures { result ≡ byte s.now at }
-{
-    SlotNumber::known(s[at])
-}
 
 impl Body<'_> {
     // A block: its statements, then its closing.

@@ -19,7 +19,7 @@ pub returns-then-word_at-ne-VERSION : goal.returns-then-word_at-ne-VERSION
 returns-then-word_at-ne-VERSION c =
     let marked : has_mark c.args.s.now 0x47 ≡ true =
     sym c.has_mark.ensures ∙ c.if-not-has_mark.false in
-    let w = c.word_at.ensures.0 in
+    let w = c.word_at.ensures.value in
     ap refused c.at-then-word_at-ne-VERSION.ensures ∙ read_version _ c.if-s-lt-BYTES.false marked (λ e. c.if-word_at-ne-VERSION.true (w ∙ e))
 
 pub read_body-requires : goal.read_body-requires
@@ -29,12 +29,12 @@ read_body-requires c = made_few c.word_at-n.result c.word_at-e.result _ c.in_ok-
 pub returns : goal.returns
 returns c =
     let marked : has_mark c.args.s.now 0x47 ≡ true = sym c.has_mark.ensures ∙ c.if-not-has_mark.false in
-    let version : word c.args.s.now 3 ≡ 1 = sym c.word_at.ensures.0 ∙ c.if-word_at-ne-VERSION.false in
-    c.read_body.ensures ∙ sym (read_past c.args.s.now c.if-s-lt-BYTES.false marked version _ _ c.word_at-n.ensures.0 c.word_at-e.ensures.0 _ c.in_ok-h.ensures)
+    let version : word c.args.s.now 3 ≡ 1 = sym c.word_at.ensures.value ∙ c.if-word_at-ne-VERSION.false in
+    c.read_body.ensures ∙ sym (read_past c.args.s.now c.if-s-lt-BYTES.false marked version _ _ c.word_at-n.ensures.value c.word_at-e.ensures.value _ c.in_ok-h.ensures)
 
 pub returns-in_err-h : goal.returns-in_err-h
 returns-in_err-h c =
     let marked : has_mark c.args.s.now 0x47 ≡ true = sym c.has_mark.ensures ∙ c.if-not-has_mark.false in
-    let version : word c.args.s.now 3 ≡ 1 = sym c.word_at.ensures.0 ∙ c.if-word_at-ne-VERSION.false in
+    let version : word c.args.s.now 3 ≡ 1 = sym c.word_at.ensures.value ∙ c.if-word_at-ne-VERSION.false in
     passed_on _ c.from_residual.ensures.1
-    ∙ read_header c.args.s.now c.if-s-lt-BYTES.false marked version _ _ c.word_at-n.ensures.0 c.word_at-e.ensures.0 _ c.in_err-h.ensures
+    ∙ read_header c.args.s.now c.if-s-lt-BYTES.false marked version _ _ c.word_at-n.ensures.value c.word_at-e.ensures.value _ c.in_err-h.ensures

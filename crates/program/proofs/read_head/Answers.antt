@@ -20,7 +20,7 @@ pub returns-then-word_at-ne-VERSION : goal.returns-then-word_at-ne-VERSION
 returns-then-word_at-ne-VERSION c =
     let m = sym c.has_mark.ensures ∙ c.if-not-has_mark.false in
     ap refused c.at-then-word_at-ne-VERSION.ensures
-    ∙ sym (head_version _ (omega arith) (omega arith) m (λ e. c.if-word_at-ne-VERSION.true (c.word_at.ensures.0 ∙ e)))
+    ∙ sym (head_version _ (omega arith) (omega arith) m (λ e. c.if-word_at-ne-VERSION.true (c.word_at.ensures.value ∙ e)))
 
 pub returns : goal.returns
 returns c =

@@ -28,4 +28,4 @@ returns c D d =
     let r = c.search in
     rw (← d.locations)
     (routes_found _ _ o a.device.header.locations a.occupancy.now a.first a.second _ free asked a.buffer.now _ r.result
-        (rw (same.0, same.1) at (r.ensures _ (c.region_rows.ensures D d))))
+    (rw (same.0, same.1) at (r.ensures _ (c.region_rows.ensures D d))))

@@ -49,7 +49,7 @@ returns-in_err-one c =
     let g = read_gives a.device.now Device _ c.in_ok-device.ensures.said in
     ap (λ r. ended r a.records.now a.map.now) (passed_as _ c.from_residual-in_err-one.ensures.1)
     ∙ run_no_first a.device.now a.first.now a.second.now a.schedule.now a.records.now a.map.now g.0 g.1.reads _
-        (program_refuses a.first.now 1 _ c.in_err-one.ensures.answers)
+    (program_refuses a.first.now 1 _ c.in_err-one.ensures.answers)
 
 pub returns-in_err-two : goal.returns-in_err-two
 returns-in_err-two c =
@@ -58,7 +58,7 @@ returns-in_err-two c =
     let p = program_gives a.first.now 1 c.in_ok-one.ensures.answers in
     ap (λ r. ended r a.records.now a.map.now) (passed_as _ c.from_residual-in_err-two.ensures.1)
     ∙ run_no_second a.device.now a.first.now a.second.now a.schedule.now a.records.now a.map.now g.0 g.1.reads p.0 p.1 _
-        (program_refuses a.second.now 2 _ c.in_err-two.ensures.answers)
+    (program_refuses a.second.now 2 _ c.in_err-two.ensures.answers)
 
 pub returns-in_err-read_schedule : goal.returns-in_err-read_schedule
 returns-in_err-read_schedule c =
@@ -68,7 +68,7 @@ returns-in_err-read_schedule c =
     let q = program_gives a.second.now 2 c.in_ok-two.ensures.answers in
     ap (λ r. ended r a.records.now a.map.now) (passed_as _ c.from_residual-in_err-read_schedule.ensures.1)
     ∙ run_no_schedule a.device.now a.first.now a.second.now a.schedule.now a.records.now a.map.now g.0 g.1.reads p.0 p.1 q.0 q.1 _
-        c.in_err-read_schedule.ensures
+    c.in_err-read_schedule.ensures
 
 pub returns-then-records-schedule : goal.returns-then-records-schedule
 returns-then-records-schedule c =
@@ -83,7 +83,7 @@ returns-then-map-device c =
     let g = given _ _ _ _ _ c.in_ok-device.ensures.said c.in_ok-one.ensures.answers c.in_ok-two.ensures.answers c.in_ok-read_schedule.ensures in
     ap (λ x. ended (Err x) a.records.now a.map.now) c.at-then-map-device.ensures
     ∙ run_no_map a.device.now a.first.now a.second.now a.schedule.now a.records.now a.map.now g.inputs
-        (omega (arith, c.if-records-schedule.false)) (omega (arith, c.if-map-device.true, g.the_device.locations))
+    (omega (arith, c.if-records-schedule.false)) (omega (arith, c.if-map-device.true, g.the_device.locations))
 
 pub run-requires : goal.run-requires
 run-requires c =

@@ -8,4 +8,4 @@ pub returns-then-bytes-lt2 : goal.returns-then-bytes-lt2
 returns-then-bytes-lt2 c = no_file c.args.bytes.now (omega arith)
 
 pub returns : goal.returns
-returns c = file_split c.args.bytes.now _ _ _ c.if-bytes-lt2.false (take_rest c.args.bytes.now 2) c.word_at.ensures.0 c.split_at_checked.ensures.cases
+returns c = file_split c.args.bytes.now _ _ _ c.if-bytes-lt2.false (take_rest c.args.bytes.now 2) c.word_at.ensures.value c.split_at_checked.ensures.cases

@@ -21,12 +21,12 @@ read_block-returns-then-depths-eq0-clause-position t c d S h =
 
 pub read_block-returns-then-limit-first-clause-position : goal.read_block-returns-then-limit-first-clause-position
 read_block-returns-then-limit-first-clause-position t c d S h =
-    let len = c.word_at-len.ensures.0 in
+    let len = c.word_at-len.ensures.value in
     ap refused c.at-then-limit-first.ensures ∙ sym (block_long _ _ _ _ _ (omega arith) _ len _ c.if-depths-eq0.false (omega arith))
 
 pub read_block-loop-next-init : goal.read_block-loop-next-init
 read_block-loop-next-init t c =
-    let len = c.word_at-len.ensures.0 in (
+    let len = c.word_at-len.ensures.value in (
       search rules,
       search rules,
       (c.word_at-len.result, omega arith, λ d S h. block_enter _ _ _ _ _ (omega arith) _ len _ c.if-depths-eq0.false (omega arith)),

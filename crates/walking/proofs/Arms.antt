@@ -29,7 +29,7 @@ use Rattle.walking.specs.declared.walk.Walk.{Walk}
 use Rattle.walking.specs.declared.walk.NoPath.{NoPath}
 use Rattle.walking.specs.Quiet.{Silent}
 use Rattle.walking.specs.Names.{Names, placed, named}
-use Rattle.walking.specs.Stands.{standing, StatementAt, Over, StatementWalked}
+use Rattle.walking.specs.Stands.{no_path, standing, StatementAt, Over, StatementWalked}
 use Rattle.walking.proofs.Steps.{Gives}
 use Rattle.walking.proofs.Views.{view_init, view_free, view_merge, view_quiet}
 
@@ -51,13 +51,6 @@ unfolding ◌>>◌
 told st o t none q = rw (← q)
 told st o t (some p) q = rw (← q)
 
--- and what the search says of the test
-none_is : (o : std.Option ℕ) (b : Bool) → is_some o ≡ not b → is_none o ≡ b
-none_is std.None true h = refl
-none_is std.None false h = absurd (false≢true h)
-none_is (std.Some x) true h = absurd (false≢true (sym h))
-none_is (std.Some x) false h = refl
-
 -- The statement at p, in a block that the walk is over. The frame f and the set F are where the walk stands.
 as_op : {w : Walk} {g : ℕ} {n : Names} {p : ℕ} (t : StatementAt w g n p) (R : Region) (W : Walker) (σ : Place t.side → Place device) (st : Standing)
     (a : Op t.side) → t.tree ≡ op p a → walk_statement R W σ t.tree st ≡ walk_op R W σ p a st
@@ -65,6 +58,10 @@ unfolding walk_statement
 as_op t R W σ st a e = ap (λ (x : Statement t.side). walk_statement R W σ x st) e
 
 module _ {w : Walk} {g : ℕ} {n : Names} {p : ℕ} {f : List ℕ} {F : LocationSet} where
+  -- with a frame and a set that are equal to those
+  pub gives_as : {f' f'' : List ℕ} {F' F'' : LocationSet} → f' ≡ f'' → F' ≡ F'' → Gives w g n p f F (ok (standing f'' F'')) → Gives w g n p f F (ok (standing f' F'))
+  gives_as e d h = rw (e, d) h
+
   -- an init: its slot has its qubit at l, which is no longer free
   pub on_init : {l : ℕ} (G : LocationSet) → byte w.bytes.now p < 3 → length f ≡ 32 → l ≡ named n (byte w.bytes.now (p + 2))
       → ((y : ℕ) → has G y ≡ (not (eqb y l) && has F y)) → Gives w g n p f F (ok (standing (set f (byte w.bytes.now (p + 1)) l) G))
@@ -92,15 +89,14 @@ module _ {w : Walk} {g : ℕ} {n : Names} {p : ℕ} {f : List ℕ} {F : Location
         as_op t R W σ (standing f F) (free (byte w.bytes.now (p + 1))) v.is ∙ (λ i. ok (record { frame = placed f; free = sym (same_set d) i }));
   }
 
-  -- a merge, by whether the search found a path that joins its ends
-  pub on_merge : {o : std.Option ℕ} {b t : Bool} → byte w.bytes.now p ≡ 6
-      → ((R : Region) → RowsOf R w.rows.now → o ≡ edges_of (route R (has F) (placed f (byte w.bytes.now (p + 3))) (placed f (byte w.bytes.now (p + 5)))))
-      → is_some o ≡ not b → b ≡ t → Gives w g n p f F (cond t (refused (refusal 21 p)) (ok (standing f F)))
-  unfolding walk_op
-  on_merge {o} {b} {t} h d e z = record {
-    gives = λ s R W σ O.
-        let v = view_merge (statement_view s.stands) h in
-        as_op s R W σ (standing f F) _ v.is ∙ told (standing f F) p t (route R _ _ _) (ap is_none (sym (d R O.region)) ∙ none_is o b e ∙ z);
+  -- a merge, by whether a path joins its ends
+  pub on_merge : {b : Bool} → byte w.bytes.now p ≡ 6
+      → ((R : Region) → RowsOf R w.rows.now → no_path R (has F) (placed f (byte w.bytes.now (p + 3))) (placed f (byte w.bytes.now (p + 5))) ≡ b)
+      → Gives w g n p f F (cond b (refused (refusal 21 p)) (ok (standing f F)))
+  unfolding walk_op no_path
+  on_merge {b} h e = record {
+    gives = λ t R W σ O.
+        let v = view_merge (statement_view t.stands) h in as_op t R W σ (standing f F) _ v.is ∙ told (standing f F) p b (route R _ _ _) (e R O.region);
   }
 
   pub on_quiet : Silent (byte w.bytes.now p) → Gives w g n p f F (ok (standing f F))

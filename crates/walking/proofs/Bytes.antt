@@ -8,7 +8,7 @@ use Rattle.rules.specs.declared.statements.Kind.TheVariants.{Init, Magic, Gate, 
 use Rattle.rules.specs.Kinds.{byte_of}
 use Rattle.walking.specs.Quiet.{Silent}
 
-byte_as : {k n : Kind} {b : ℕ} → byte_of k ≡ b → k ≡ n → b ≡ byte_of n
+pub byte_as : {k n : Kind} {b : ℕ} → byte_of k ≡ b → k ≡ n → b ≡ byte_of n
 byte_as e h = sym e ∙ ap byte_of h
 
 pub init_byte : {k : Kind} {b : ℕ} → byte_of k ≡ b → (k ≡ Init) ⊎ (k ≡ Magic) → b < 3

@@ -1,9 +1,12 @@
 -- What the walk's own values mean, and over what it goes: a block or a statement of a body that stands in the bytes of a program.
 use Rattle.std.specs.Prelude.{Bool, false, List, Option, Result, Ok, Err, ◌≡◌, ℕ, ◌<◌, ◌≤◌, length, take}
+use Rattle.std.specs.Option.{is_none}
 use Rattle.answers.specs.Check.{Check, ok, refused, refusal, ◌>>=◌}
 use Rattle.rules.specs.Region.{Region}
 use Rattle.rules.specs.Syntax.{Side, device, Place, Statement, Statements, Block, Function, function, Program}
 use Rattle.rules.specs.Program.{Scope}
+use Rattle.rules.specs.Path.{route}
+use Rattle.route.specs.Found.{edges_of}
 use Rattle.sets.specs.declared.LocationSet.{LocationSet}
 use Rattle.sets.specs.Sets.{has}
 use Rattle.sets.specs.declared.rows.Rows.{Rows}
@@ -18,6 +21,10 @@ use Rattle.walking.specs.Walk.{Standing, Walker, walk_statement, walk_block, Cal
 
 abbrev pub standing : List ℕ → LocationSet → Standing
 standing f s = record { frame = placed f; free = has s }
+
+-- no path joins a and b: there is no route that is singled out
+unfoldable pub no_path : Region → (ℕ → Bool) → ℕ → ℕ → Bool
+no_path R F a b = is_none (edges_of (route R F a b))
 
 -- which locations are free after a walk, or 21 at the merge that has no path
 abbrev pub walk_said : Result (Unit {0}) NoPath → LocationSet → Check (ℕ → Bool)

@@ -12,9 +12,9 @@ pub struct Body<'a> {
 
 impl Body<'_> {
     // The location that a place byte stands for.
-    pub fn location_of(self, place: u8) -> u8
-        requires { (names_of self).main ≡ false → place < 16 }
-        ensures { result ≡ named (names_of self.entry) place }
+    pub fn location_of(&self, place: u8) -> u8
+        requires { (names_of self.now).main ≡ false → place < 16 }
+        ensures { result ≡ named (names_of self.now) place }
     {
         match self.names {
             None => place,
@@ -24,11 +24,11 @@ impl Body<'_> {
 
     // A call in this body names the k places of its callee from p on: these are the callee's names, and in its frame on entry slot i has its argument at
     // place i. Both are filled in one loop, and lent, as to hand them over takes longer.
-    pub fn enter(self, s: &[u8], p: usize, k: usize, inner: &mut [u8; 16], frame: &mut [u8; 32])
+    pub fn enter(&self, s: &[u8], p: usize, k: usize, inner: &mut [u8; 16], frame: &mut [u8; 32])
         requires { (k ≤ 16) × (p + k ≤ length s.now)
-            × ((i : ℕ) → i < k → (names_of self).main ≡ false → byte s.now (p + i) < 16) }
-        ensures named { (i : ℕ) → i < k → placed inner.new i ≡ named (names_of self.entry) (byte s.now (p + i)) }
-        ensures passed { (i : ℕ) → i < k → placed frame.new i ≡ named (names_of self.entry) (byte s.now (p + i)) }
+            × ((i : ℕ) → i < k → (names_of self.now).main ≡ false → byte s.now (p + i) < 16) }
+        ensures named { (i : ℕ) → i < k → placed inner.new i ≡ named (names_of self.now) (byte s.now (p + i)) }
+        ensures passed { (i : ℕ) → i < k → placed frame.new i ≡ named (names_of self.now) (byte s.now (p + i)) }
         ensures rest { (i : ℕ) → k ≤ i → placed frame.new i ≡ placed frame.old i }
     {
         for i in 0..k {

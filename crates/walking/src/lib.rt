@@ -52,7 +52,7 @@ pub fn walk_program(
     };
     let mut frame = [0; 32];
     let mut free = owned;
-    match walk.walk_block(main, program.main, &mut frame, &mut free) {
+    match walk.walk_block(&main, program.main, &mut frame, &mut free) {
         Ok(()) => Ok(()),
         Err(merge) => Err(Fault::NoPath.at(merge.place)),
     }

@@ -2,8 +2,11 @@
 // lent, and each walk leaves there what is free after it. A frame is lent too, as the locations of its slots, to the one block that may change it.
 ghost use Rattle.std.specs.Prelude.{◌≡◌};
 ghost use Rattle.rules.specs.Basics.{byte};
+ghost use Rattle.rules.specs.Region.{Region};
+ghost use Rattle.sets.specs.Sets.{has};
+ghost use Rattle.device.specs.Reader.{RowsOf};
 ghost use Rattle.walking.specs.Names.{names_of};
-ghost use Rattle.walking.specs.Stands.{BlockAt, StatementAt, BlockWalked, StatementWalked, CallWalked};
+ghost use Rattle.walking.specs.Stands.{no_path, BlockAt, StatementAt, BlockWalked, StatementWalked, CallWalked};
 
 use super::body::Body;
 use super::positions::statement_end;
@@ -31,23 +34,30 @@ pub struct NoPath {
 }
 
 impl Walk<'_> {
+    // Whether no path over free locations joins two ends.
+    fn no_path(&self, free: &LocationSet, a: u8, b: u8) -> bool
+        ensures { (R : Region) → RowsOf R self.now.rows.now → result ≡ no_path R (has free.now) a b }
+    {
+        distance(self.rows, *free, a, b).is_none()
+    }
+
     // The block at `at` of a body: its slots are where the frame says.
     #[cycle(walk_block_walk_call_walk_if_walk_while)]
     pub fn walk_block(
         &self,
-        body: Body<'_>,
+        body: &Body<'_>,
         at: usize,
         frame: &mut [u8; 32],
         free: &mut LocationSet,
     ) -> Result<(), NoPath>
-        requires { BlockAt self.now body.before (names_of body) at }
-        ensures { BlockWalked self.now body.entry.before (names_of body.entry) at frame.old free.old result free.new }
+        requires { BlockAt self.now body.now.before (names_of body.now) at }
+        ensures { BlockWalked self.now body.now.before (names_of body.now) at frame.old free.old result free.new }
     {
         let stop = block_end(self.bytes, at);
         let mut p = self.quiet.skip(at + 2, stop);
         while p != stop {
-            let next = self.quiet.skip(statement_end(self.bytes, p), stop);
-            match Kind::known(self.bytes[p]) {
+            let kind = Kind::known(self.bytes[p]);
+            match kind {
                 Kind::Init | Kind::Magic => {
                     let location = body.location_of(self.bytes[p + 2]);
                     frame[self.bytes[p + 1] as usize] = location;
@@ -57,7 +67,7 @@ impl Walk<'_> {
                 Kind::Merge => {
                     let a = frame[self.bytes[p + 3] as usize];
                     let b = frame[self.bytes[p + 5] as usize];
-                    if distance(self.rows, *free, a, b).is_none() {
+                    if self.no_path(free, a, b) {
                         return Err(NoPath { place: p });
                     }
                 }
@@ -67,7 +77,7 @@ impl Walk<'_> {
                 // a quiet one is met where it ends the file
                 Kind::Gate | Kind::Measure | Kind::Ref | Kind::Get | Kind::Set | Kind::Bool => {}
             }
-            p = next;
+            p = self.quiet.skip(statement_end(self.bytes, p, kind), stop);
         }
         Ok(())
     }
@@ -76,13 +86,13 @@ impl Walk<'_> {
     #[cycle(walk_block_walk_call_walk_if_walk_while)]
     fn walk_if(
         &self,
-        body: Body<'_>,
+        body: &Body<'_>,
         at: usize,
         frame: &[u8; 32],
         free: &mut LocationSet,
     ) -> Result<(), NoPath>
-        requires { StatementAt self.now body.before (names_of body) at × (byte self.now.bytes.now at ≡ 10) }
-        ensures { StatementWalked self.now body.entry.before (names_of body.entry) at frame.now free.old result free.new }
+        requires { StatementAt self.now body.now.before (names_of body.now) at × (byte self.now.bytes.now at ≡ 10) }
+        ensures { StatementWalked self.now body.now.before (names_of body.now) at frame.now free.old result free.new }
     {
         let mut other = *free;
         let mut inner = *frame;
@@ -95,13 +105,13 @@ impl Walk<'_> {
     #[cycle(walk_block_walk_call_walk_if_walk_while)]
     fn walk_while(
         &self,
-        body: Body<'_>,
+        body: &Body<'_>,
         at: usize,
         frame: &[u8; 32],
         free: &LocationSet,
     ) -> Result<(), NoPath>
-        requires { StatementAt self.now body.before (names_of body) at × (byte self.now.bytes.now at ≡ 11) }
-        ensures { StatementWalked self.now body.entry.before (names_of body.entry) at frame.now free.now result free.now }
+        requires { StatementAt self.now body.now.before (names_of body.now) at × (byte self.now.bytes.now at ≡ 11) }
+        ensures { StatementWalked self.now body.now.before (names_of body.now) at frame.now free.now result free.now }
     {
         let mut inside = *free;
         let mut inner = *frame;
@@ -110,9 +120,9 @@ impl Walk<'_> {
 
     // The callee's body at the call's locations; the caller's frame stays.
     #[cycle(walk_block_walk_call_walk_if_walk_while)]
-    fn walk_call(&self, body: Body<'_>, at: usize, free: &mut LocationSet) -> Result<(), NoPath>
-        requires { StatementAt self.now body.before (names_of body) at × (byte self.now.bytes.now at ≡ 12) }
-        ensures { CallWalked self.now body.entry.before (names_of body.entry) at free.old result free.new }
+    fn walk_call(&self, body: &Body<'_>, at: usize, free: &mut LocationSet) -> Result<(), NoPath>
+        requires { StatementAt self.now body.now.before (names_of body.now) at × (byte self.now.bytes.now at ≡ 12) }
+        ensures { CallWalked self.now body.now.before (names_of body.now) at free.old result free.new }
     {
         let f = self.bytes[at + 1];
         let mut inner = [0; 16];
@@ -128,6 +138,6 @@ impl Walk<'_> {
             before: f as usize,
             names: Some(&inner),
         };
-        self.walk_block(callee, self.functions.head(f).body, &mut entry, free)
+        self.walk_block(&callee, self.functions.head(f).body, &mut entry, free)
     }
 }

@@ -13,7 +13,7 @@ loop-i-init c = record { long = (c.told-inner, c.told-frame); filled = λ j h. a
 pub loop-i-preserved : goal.loop-i-preserved
 loop-i-preserved c =
     let a = c.args in
-    let v : ℕ → ℕ = λ j. named (names_of a.self) (byte a.s.now (a.p + j)) in
+    let v : ℕ → ℕ = λ j. named (names_of a.self.now) (byte a.s.now (a.p + j)) in
     let b = c.loop-i in
     let l = c.location_of-location.result in record {
       long = (length-set b.inner b.i l ∙ b.invariant.long.0, length-set b.frame b.i l ∙ b.invariant.long.1);

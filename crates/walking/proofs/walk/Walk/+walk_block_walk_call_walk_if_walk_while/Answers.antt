@@ -1,18 +1,23 @@
 use native.Mathlib.Omega.{arith}
 use mathlib.Core.Bool.{false}
-use mathlib.Core.Path.{refl, sym, ◌∙◌}
-use lib.ListN.{length-set}
+use mathlib.Core.Path.{refl, sym, ap, ◌∙◌}
+use lib.ListN.{length, length-set}
 use Rattle.program.proofs.In.{statement_view}
 use Rattle.walking.specs.Names.{names_of}
-use Rattle.walking.proofs.Bytes.{init_byte, silent}
+use Rattle.walking.proofs.Bytes.{byte_as, init_byte, silent}
 use Rattle.walking.proofs.NameLaws.{none_placed}
 use Rattle.walking.proofs.Views.{view_init, view_free, view_merge, view_call}
-use Rattle.walking.proofs.Steps.{rest_start, block_refused, block_ended, turn, block_bounds, statement_bounds, statement_kind, place_room}
-use Rattle.walking.proofs.Arms.{on_init, on_free, on_merge, on_quiet, on_inner, on_refused}
+use Rattle.walking.specs.Stands.{standing}
+use Rattle.answers.specs.Check.{ok}
+use Rattle.walking.proofs.Steps.{Gives, rest_start, block_refused, block_ended, turn, block_bounds, statement_bounds, statement_kind, place_room}
+use Rattle.walking.proofs.Arms.{gives_as, on_init, on_free, on_merge, on_quiet, on_inner, on_refused}
 use Rattle.walking.proofs.Inner.{passed, Entered, then_block, else_block, loop_block, if_walked, if_refused, while_walked, callee_known, callee_block, call_walked}
 use Rattle.walking.proofs.Ends.{if_ends}
 use Rattle.walking.proofs.QuietRuns.{rest_run, run_bounds, goes_on}
 use Rattle.walking.proofs.walk.Walk.+walk_block_walk_call_walk_if_walk_while.Goals as goal
+use Rattle.walking.proofs.walk.Walk.+walk_block_walk_call_walk_if_walk_while.Goals.{walk_block-in-Init, walk_block-in-Free, walk_block-in-Merge+else-no_path}
+use Rattle.walking.proofs.walk.Walk.+walk_block_walk_call_walk_if_walk_while.Goals.{walk_block-in-If+in_ok-walk_if-in-If, walk_block-in-While+in_ok-walk_while-in-While}
+use Rattle.walking.proofs.walk.Walk.+walk_block_walk_call_walk_if_walk_while.Goals.{walk_block-in-Call+in_ok-walk_call-in-Call, walk_block-in-Gate}
 
 pub walk_block-block_end-stop-requires : goal.walk_block-block_end-stop-requires
 walk_block-block_end-stop-requires t c =
@@ -30,27 +35,14 @@ walk_block-loop-p-init t c =
     let k = c.skip-p.ensures in
     record { in_block = run_bounds c.requires e k (omega (arith, e)); rest = rest_run k (omega (arith, e)) (rest_start _ _ _ _ _ _ _) }
 
-pub walk_block-statement_end-requires : goal.walk_block-statement_end-requires
-walk_block-statement_end-requires t c =
-    let l = c.loop-p.invariant in
-    let T = turn c.requires c.block_end-stop.ensures l.in_block.1 c.loop-p-test.true l.rest in
-    (T.size, (_, _, _, _, _, T.here.stands))
-
-pub walk_block-skip-next-requires : goal.walk_block-skip-next-requires
-walk_block-skip-next-requires t c =
-    let l = c.loop-p.invariant in
-    let T = turn c.requires c.block_end-stop.ensures l.in_block.1 c.loop-p-test.true l.rest in
-    let e = c.statement_end.ensures _ _ _ _ _ T.here.stands in
-    (omega (arith, e, T.fits), omega (arith, T.within, T.size))
-
 pub walk_block-bounds-self-p : goal.walk_block-bounds-self-p
 walk_block-bounds-self-p t c =
     let l = c.loop-p.invariant in
     let T = turn c.requires c.block_end-stop.ensures l.in_block.1 c.loop-p-test.true l.rest in
     omega (arith, T.inside, T.within)
 
-pub walk_block-known-requires : goal.walk_block-known-requires
-walk_block-known-requires t c =
+pub walk_block-known-kind-requires : goal.walk_block-known-kind-requires
+walk_block-known-kind-requires t c =
     let l = c.loop-p.invariant in
     let T = turn c.requires c.block_end-stop.ensures l.in_block.1 c.loop-p-test.true l.rest in
     statement_kind T.here
@@ -59,84 +51,84 @@ pub walk_block-bounds-self-p-in-Init : goal.walk_block-bounds-self-p-in-Init
 walk_block-bounds-self-p-in-Init t c =
     let l = c.loop-p.invariant in
     let T = turn c.requires c.block_end-stop.ensures l.in_block.1 c.loop-p-test.true l.rest in
-    let v = view_init (statement_view T.here.stands) (init_byte c.known.ensures c.in-Init.is) in
+    let v = view_init (statement_view T.here.stands) (init_byte c.known-kind.ensures c.in-Init.is) in
     omega (arith, v.fits)
 
 pub walk_block-location_of-location-requires : goal.walk_block-location_of-location-requires
 walk_block-location_of-location-requires t c =
     let l = c.loop-p.invariant in
     let T = turn c.requires c.block_end-stop.ensures l.in_block.1 c.loop-p-test.true l.rest in
-    let v = view_init (statement_view T.here.stands) (init_byte c.known.ensures c.in-Init.is) in
+    let v = view_init (statement_view T.here.stands) (init_byte c.known-kind.ensures c.in-Init.is) in
     place_room T.here v.place
 
 pub walk_block-bounds-self-p-in-Init-2 : goal.walk_block-bounds-self-p-in-Init-2
 walk_block-bounds-self-p-in-Init-2 t c =
     let l = c.loop-p.invariant in
     let T = turn c.requires c.block_end-stop.ensures l.in_block.1 c.loop-p-test.true l.rest in
-    let v = view_init (statement_view T.here.stands) (init_byte c.known.ensures c.in-Init.is) in
+    let v = view_init (statement_view T.here.stands) (init_byte c.known-kind.ensures c.in-Init.is) in
     omega (arith, v.fits)
 
 pub walk_block-bounds-frame-self : goal.walk_block-bounds-frame-self
 walk_block-bounds-frame-self t c =
     let l = c.loop-p.invariant in
     let T = turn c.requires c.block_end-stop.ensures l.in_block.1 c.loop-p-test.true l.rest in
-    let v = view_init (statement_view T.here.stands) (init_byte c.known.ensures c.in-Init.is) in
+    let v = view_init (statement_view T.here.stands) (init_byte c.known-kind.ensures c.in-Init.is) in
     omega (arith, v.slot)
 
 pub walk_block-bounds-self-p-in-Free : goal.walk_block-bounds-self-p-in-Free
 walk_block-bounds-self-p-in-Free t c =
     let l = c.loop-p.invariant in
     let T = turn c.requires c.block_end-stop.ensures l.in_block.1 c.loop-p-test.true l.rest in
-    let v = view_free (statement_view T.here.stands) (sym c.in-Free.ensures) in
+    let v = view_free (statement_view T.here.stands) (byte_as c.known-kind.ensures c.in-Free.is) in
     omega (arith, v.fits)
 
 pub walk_block-bounds-frame-self-in-Free : goal.walk_block-bounds-frame-self-in-Free
 walk_block-bounds-frame-self-in-Free t c =
     let l = c.loop-p.invariant in
     let T = turn c.requires c.block_end-stop.ensures l.in_block.1 c.loop-p-test.true l.rest in
-    let v = view_free (statement_view T.here.stands) (sym c.in-Free.ensures) in
+    let v = view_free (statement_view T.here.stands) (byte_as c.known-kind.ensures c.in-Free.is) in
     omega (arith, v.slot)
 
 pub walk_block-bounds-self-p-in-Merge : goal.walk_block-bounds-self-p-in-Merge
 walk_block-bounds-self-p-in-Merge t c =
     let l = c.loop-p.invariant in
     let T = turn c.requires c.block_end-stop.ensures l.in_block.1 c.loop-p-test.true l.rest in
-    let v = view_merge (statement_view T.here.stands) (sym c.in-Merge.ensures) in
+    let v = view_merge (statement_view T.here.stands) (byte_as c.known-kind.ensures c.in-Merge.is) in
     omega (arith, v.fits)
 
 pub walk_block-bounds-frame-self-in-Merge : goal.walk_block-bounds-frame-self-in-Merge
 walk_block-bounds-frame-self-in-Merge t c =
     let l = c.loop-p.invariant in
     let T = turn c.requires c.block_end-stop.ensures l.in_block.1 c.loop-p-test.true l.rest in
-    let v = view_merge (statement_view T.here.stands) (sym c.in-Merge.ensures) in
+    let v = view_merge (statement_view T.here.stands) (byte_as c.known-kind.ensures c.in-Merge.is) in
     omega (arith, v.first)
 
 pub walk_block-bounds-self-p-in-Merge-2 : goal.walk_block-bounds-self-p-in-Merge-2
 walk_block-bounds-self-p-in-Merge-2 t c =
     let l = c.loop-p.invariant in
     let T = turn c.requires c.block_end-stop.ensures l.in_block.1 c.loop-p-test.true l.rest in
-    let v = view_merge (statement_view T.here.stands) (sym c.in-Merge.ensures) in
+    let v = view_merge (statement_view T.here.stands) (byte_as c.known-kind.ensures c.in-Merge.is) in
     omega (arith, v.fits)
 
 pub walk_block-bounds-frame-self-in-Merge-2 : goal.walk_block-bounds-frame-self-in-Merge-2
 walk_block-bounds-frame-self-in-Merge-2 t c =
     let l = c.loop-p.invariant in
     let T = turn c.requires c.block_end-stop.ensures l.in_block.1 c.loop-p-test.true l.rest in
-    let v = view_merge (statement_view T.here.stands) (sym c.in-Merge.ensures) in
+    let v = view_merge (statement_view T.here.stands) (byte_as c.known-kind.ensures c.in-Merge.is) in
     omega (arith, v.second)
 
-pub walk_block-returns-then-is_none : goal.walk_block-returns-then-is_none
-walk_block-returns-then-is_none t c =
+pub walk_block-returns-then-no_path : goal.walk_block-returns-then-no_path
+walk_block-returns-then-no_path t c =
     let l = c.loop-p.invariant in
     let T = turn c.requires c.block_end-stop.ensures l.in_block.1 c.loop-p-test.true l.rest in
-    let none = on_merge (sym c.in-Merge.ensures) c.distance.ensures c.is_none.ensures c.if-is_none.true in
+    let none = on_merge (byte_as c.known-kind.ensures c.in-Merge.is) (λ R o. sym (c.no_path.ensures R o) ∙ c.if-no_path.true) in
     block_refused l.rest c.block_end-stop.ensures _ T.inside none
 
 pub walk_block-walk_if-requires : goal.walk_block-walk_if-requires
 walk_block-walk_if-requires t c =
     let l = c.loop-p.invariant in
     let T = turn c.requires c.block_end-stop.ensures l.in_block.1 c.loop-p-test.true l.rest in
-    (omega (arith, T.inside, T.within, l.in_block, c.requires), (T.here, sym c.in-If.ensures))
+    (omega (arith, T.inside, T.within, l.in_block, c.requires), (T.here, byte_as c.known-kind.ensures c.in-If.is))
 
 pub walk_block-returns-in_err-walk_if-in-If : goal.walk_block-returns-in_err-walk_if-in-If
 walk_block-returns-in_err-walk_if-in-If t c =
@@ -148,7 +140,7 @@ pub walk_block-walk_while-requires : goal.walk_block-walk_while-requires
 walk_block-walk_while-requires t c =
     let l = c.loop-p.invariant in
     let T = turn c.requires c.block_end-stop.ensures l.in_block.1 c.loop-p-test.true l.rest in
-    (omega (arith, T.inside, T.within, l.in_block, c.requires), (T.here, sym c.in-While.ensures))
+    (omega (arith, T.inside, T.within, l.in_block, c.requires), (T.here, byte_as c.known-kind.ensures c.in-While.is))
 
 pub walk_block-returns-in_err-walk_while-in-While : goal.walk_block-returns-in_err-walk_while-in-While
 walk_block-returns-in_err-walk_while-in-While t c =
@@ -160,7 +152,7 @@ pub walk_block-walk_call-requires : goal.walk_block-walk_call-requires
 walk_block-walk_call-requires t c =
     let l = c.loop-p.invariant in
     let T = turn c.requires c.block_end-stop.ensures l.in_block.1 c.loop-p-test.true l.rest in
-    (omega (arith, T.inside, T.within, l.in_block, c.requires), (T.here, sym c.in-Call.ensures))
+    (omega (arith, T.inside, T.within, l.in_block, c.requires), (T.here, byte_as c.known-kind.ensures c.in-Call.is))
 
 pub walk_block-returns-in_err-walk_call-in-Call : goal.walk_block-returns-in_err-walk_call-in-Call
 walk_block-returns-in_err-walk_call-in-Call t c =
@@ -168,88 +160,50 @@ walk_block-returns-in_err-walk_call-in-Call t c =
     let T = turn c.requires c.block_end-stop.ensures l.in_block.1 c.loop-p-test.true l.rest in
     rw (passed _ c.from_residual-in_err-walk_call-in-Call.ensures.1) (block_refused l.rest c.block_end-stop.ensures _ T.inside (on_refused (c.in_err-walk_call-in-Call.ensures.call c.loop-p.frame)))
 
-pub walk_block-loop-p-smaller-in-Init : goal.walk_block-loop-p-smaller-in-Init
-walk_block-loop-p-smaller-in-Init t c =
+pub walk_block-statement_end-requires : goal.walk_block-statement_end-requires
+walk_block-statement_end-requires t c =
     let l = c.loop-p.invariant in
-    let on = goes_on c.requires c.block_end-stop.ensures l.in_block.1 c.loop-p-test.true l.rest (λ t. c.statement_end.ensures _ _ _ _ _ t.stands) c.skip-next.ensures (on_init _ (init_byte c.known.ensures c.in-Init.is) (sym (length-set c.loop-p.frame _ _) ∙ c.erase.array_long) c.location_of-location.ensures c.erase.ensures) in
-    omega (arith, on.further, on.inside)
+    let T = turn c.requires c.block_end-stop.ensures l.in_block.1 c.loop-p-test.true l.rest in
+    (T.size, c.known-kind.ensures, (_, _, _, _, _, T.here.stands))
 
-pub walk_block-loop-p-preserved-in-Init : goal.walk_block-loop-p-preserved-in-Init
-walk_block-loop-p-preserved-in-Init t c =
+pub walk_block-skip-p-requires-in-loop-p : goal.walk_block-skip-p-requires-in-loop-p
+walk_block-skip-p-requires-in-loop-p t c =
     let l = c.loop-p.invariant in
-    let on = goes_on c.requires c.block_end-stop.ensures l.in_block.1 c.loop-p-test.true l.rest (λ t. c.statement_end.ensures _ _ _ _ _ t.stands) c.skip-next.ensures (on_init _ (init_byte c.known.ensures c.in-Init.is) (sym (length-set c.loop-p.frame _ _) ∙ c.erase.array_long) c.location_of-location.ensures c.erase.ensures) in
-    record { in_block = (omega (arith, on.further, l.in_block), on.inside); rest = on.rest }
-
-pub walk_block-loop-p-smaller-in-Free : goal.walk_block-loop-p-smaller-in-Free
-walk_block-loop-p-smaller-in-Free t c =
-    let l = c.loop-p.invariant in
-    let on = goes_on c.requires c.block_end-stop.ensures l.in_block.1 c.loop-p-test.true l.rest (λ t. c.statement_end.ensures _ _ _ _ _ t.stands) c.skip-next.ensures (on_free _ (sym c.in-Free.ensures) c.insert.ensures) in
-    omega (arith, on.further, on.inside)
-
-pub walk_block-loop-p-preserved-in-Free : goal.walk_block-loop-p-preserved-in-Free
-walk_block-loop-p-preserved-in-Free t c =
-    let l = c.loop-p.invariant in
-    let on = goes_on c.requires c.block_end-stop.ensures l.in_block.1 c.loop-p-test.true l.rest (λ t. c.statement_end.ensures _ _ _ _ _ t.stands) c.skip-next.ensures (on_free _ (sym c.in-Free.ensures) c.insert.ensures) in
-    record { in_block = (omega (arith, on.further, l.in_block), on.inside); rest = on.rest }
-
-pub walk_block-loop-p-smaller-else-is_none : goal.walk_block-loop-p-smaller-else-is_none
-walk_block-loop-p-smaller-else-is_none t c =
-    let l = c.loop-p.invariant in
-    let on = goes_on c.requires c.block_end-stop.ensures l.in_block.1 c.loop-p-test.true l.rest (λ t. c.statement_end.ensures _ _ _ _ _ t.stands) c.skip-next.ensures (on_merge (sym c.in-Merge.ensures) c.distance.ensures c.is_none.ensures c.if-is_none.false) in
-    omega (arith, on.further, on.inside)
-
-pub walk_block-loop-p-preserved-else-is_none : goal.walk_block-loop-p-preserved-else-is_none
-walk_block-loop-p-preserved-else-is_none t c =
-    let l = c.loop-p.invariant in
-    let on = goes_on c.requires c.block_end-stop.ensures l.in_block.1 c.loop-p-test.true l.rest (λ t. c.statement_end.ensures _ _ _ _ _ t.stands) c.skip-next.ensures (on_merge (sym c.in-Merge.ensures) c.distance.ensures c.is_none.ensures c.if-is_none.false) in
-    record { in_block = (omega (arith, on.further, l.in_block), on.inside); rest = on.rest }
-
-pub walk_block-loop-p-smaller-in_ok-walk_if-in-If : goal.walk_block-loop-p-smaller-in_ok-walk_if-in-If
-walk_block-loop-p-smaller-in_ok-walk_if-in-If t c =
-    let l = c.loop-p.invariant in
-    let on = goes_on c.requires c.block_end-stop.ensures l.in_block.1 c.loop-p-test.true l.rest (λ t. c.statement_end.ensures _ _ _ _ _ t.stands) c.skip-next.ensures (on_inner c.in_ok-walk_if-in-If.ensures) in
-    omega (arith, on.further, on.inside)
-
-pub walk_block-loop-p-preserved-in_ok-walk_if-in-If : goal.walk_block-loop-p-preserved-in_ok-walk_if-in-If
-walk_block-loop-p-preserved-in_ok-walk_if-in-If t c =
-    let l = c.loop-p.invariant in
-    let on = goes_on c.requires c.block_end-stop.ensures l.in_block.1 c.loop-p-test.true l.rest (λ t. c.statement_end.ensures _ _ _ _ _ t.stands) c.skip-next.ensures (on_inner c.in_ok-walk_if-in-If.ensures) in
-    record { in_block = (omega (arith, on.further, l.in_block), on.inside); rest = on.rest }
-
-pub walk_block-loop-p-smaller-in_ok-walk_while-in-While : goal.walk_block-loop-p-smaller-in_ok-walk_while-in-While
-walk_block-loop-p-smaller-in_ok-walk_while-in-While t c =
-    let l = c.loop-p.invariant in
-    let on = goes_on c.requires c.block_end-stop.ensures l.in_block.1 c.loop-p-test.true l.rest (λ t. c.statement_end.ensures _ _ _ _ _ t.stands) c.skip-next.ensures (on_inner c.in_ok-walk_while-in-While.ensures) in
-    omega (arith, on.further, on.inside)
-
-pub walk_block-loop-p-preserved-in_ok-walk_while-in-While : goal.walk_block-loop-p-preserved-in_ok-walk_while-in-While
-walk_block-loop-p-preserved-in_ok-walk_while-in-While t c =
-    let l = c.loop-p.invariant in
-    let on = goes_on c.requires c.block_end-stop.ensures l.in_block.1 c.loop-p-test.true l.rest (λ t. c.statement_end.ensures _ _ _ _ _ t.stands) c.skip-next.ensures (on_inner c.in_ok-walk_while-in-While.ensures) in
-    record { in_block = (omega (arith, on.further, l.in_block), on.inside); rest = on.rest }
-
-pub walk_block-loop-p-smaller-in_ok-walk_call-in-Call : goal.walk_block-loop-p-smaller-in_ok-walk_call-in-Call
-walk_block-loop-p-smaller-in_ok-walk_call-in-Call t c =
-    let l = c.loop-p.invariant in
-    let on = goes_on c.requires c.block_end-stop.ensures l.in_block.1 c.loop-p-test.true l.rest (λ t. c.statement_end.ensures _ _ _ _ _ t.stands) c.skip-next.ensures (on_inner (c.in_ok-walk_call-in-Call.ensures.call c.loop-p.frame)) in
-    omega (arith, on.further, on.inside)
-
-pub walk_block-loop-p-preserved-in_ok-walk_call-in-Call : goal.walk_block-loop-p-preserved-in_ok-walk_call-in-Call
-walk_block-loop-p-preserved-in_ok-walk_call-in-Call t c =
-    let l = c.loop-p.invariant in
-    let on = goes_on c.requires c.block_end-stop.ensures l.in_block.1 c.loop-p-test.true l.rest (λ t. c.statement_end.ensures _ _ _ _ _ t.stands) c.skip-next.ensures (on_inner (c.in_ok-walk_call-in-Call.ensures.call c.loop-p.frame)) in
-    record { in_block = (omega (arith, on.further, l.in_block), on.inside); rest = on.rest }
+    let T = turn c.requires c.block_end-stop.ensures l.in_block.1 c.loop-p-test.true l.rest in
+    let e = c.statement_end.ensures _ _ _ _ _ T.here.stands in
+    (omega (arith, e, T.fits), omega (arith, T.within, T.size))
 
 pub walk_block-loop-p-smaller : goal.walk_block-loop-p-smaller
 walk_block-loop-p-smaller t c =
     let l = c.loop-p.invariant in
-    let on = goes_on c.requires c.block_end-stop.ensures l.in_block.1 c.loop-p-test.true l.rest (λ t. c.statement_end.ensures _ _ _ _ _ t.stands) c.skip-next.ensures (on_quiet (silent c.known.ensures c.in-Gate.is)) in
-    omega (arith, on.further, on.inside)
+    let T = turn c.requires c.block_end-stop.ensures l.in_block.1 c.loop-p-test.true l.rest in
+    let e = c.statement_end.ensures _ _ _ _ _ T.here.stands in
+    let k = run_bounds c.requires c.block_end-stop.ensures c.skip-p-in-loop-p.ensures (omega (arith, e, T.fits)) in
+    omega (arith, e, T.further, k)
 
+-- however the statement at p was walked, it lets the walk on
 pub walk_block-loop-p-preserved : goal.walk_block-loop-p-preserved
 walk_block-loop-p-preserved t c =
     let l = c.loop-p.invariant in
-    let on = goes_on c.requires c.block_end-stop.ensures l.in_block.1 c.loop-p-test.true l.rest (λ t. c.statement_end.ensures _ _ _ _ _ t.stands) c.skip-next.ensures (on_quiet (silent c.known.ensures c.in-Gate.is)) in
+    let k = c.known-kind.ensures in
+    let m = c.match-kind in
+    let long = m.array_long in
+    let step
+    : Gives c.args.self.now c.args.body.now.before (names_of c.args.body.now) c.loop-p.p c.loop-p.frame c.loop-p.free (ok (standing m.frame m.free))
+    = elim m.branch [
+      | walk_block-in-Init w ↦
+          let long = sym (length-set c.loop-p.frame _ _) ∙ ap length (sym w.frame-is) ∙ long in
+          gives_as w.frame-is w.free-is (on_init _ (init_byte k w.in-Init.is) long w.location_of-location.ensures w.erase.ensures)
+      | walk_block-in-Free w ↦ gives_as w.frame-is w.free-is (on_free _ (byte_as k w.in-Free.is) w.insert.ensures)
+      | walk_block-in-Merge+else-no_path w ↦
+          gives_as w.frame-is w.free-is (on_merge (byte_as k w.in-Merge.is) (λ R o. sym (w.no_path.ensures R o) ∙ w.if-no_path.false))
+      | walk_block-in-If+in_ok-walk_if-in-If w ↦ gives_as w.frame-is w.free-is (on_inner w.in_ok-walk_if-in-If.ensures)
+      | walk_block-in-While+in_ok-walk_while-in-While w ↦ gives_as w.frame-is w.free-is (on_inner w.in_ok-walk_while-in-While.ensures)
+      | walk_block-in-Call+in_ok-walk_call-in-Call w ↦ gives_as w.frame-is w.free-is (on_inner (w.in_ok-walk_call-in-Call.ensures.call c.loop-p.frame))
+      | walk_block-in-Gate w ↦ gives_as w.frame-is w.free-is (on_quiet (silent k w.in-Gate.is))
+    ] in
+    let e = c.block_end-stop.ensures in
+    let on = goes_on c.requires e l.in_block.1 c.loop-p-test.true l.rest (λ t. c.statement_end.ensures _ _ _ _ _ t.stands) c.skip-p-in-loop-p.ensures step in
     record { in_block = (omega (arith, on.further, l.in_block), on.inside); rest = on.rest }
 
 pub walk_block-returns : goal.walk_block-returns
@@ -279,7 +233,7 @@ walk_call-walk_block-requires t c =
 pub walk_call-returns : goal.walk_call-returns
 walk_call-returns t c =
     let e = c.enter.ensures in
-    let entered : Entered c.args.self.now (names_of c.args.body) c.args.at (record { main = false; at = c.enter.new.inner }) c.enter.new.frame = record { in_function = refl; named_so = e.named; passed = e.passed; rest = λ i l. e.rest i l ∙ none_placed 32 i } in
+    let entered : Entered c.args.self.now (names_of c.args.body.now) c.args.at (record { main = false; at = c.enter.new.inner }) c.enter.new.frame = record { in_function = refl; named_so = e.named; passed = e.passed; rest = λ i l. e.rest i l ∙ none_placed 32 i } in
     call_walked c.requires.1 entered c.head.ensures c.walk_block.ensures
 
 pub walk_if-walk_block-requires : goal.walk_if-walk_block-requires

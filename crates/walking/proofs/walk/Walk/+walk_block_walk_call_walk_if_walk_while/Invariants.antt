@@ -7,16 +7,16 @@ use Rattle.walking.proofs.Steps.{Rest}
 use Rattle.walking.proofs.walk.Walk.+walk_block_walk_call_walk_if_walk_while.Given as goal
 
 abbrev pub decreases-walk_block : goal.decreases-walk_block
-decreases-walk_block l = 8200 * l.body.before + 2 * (length l.self.now.bytes.now - l.at) + 1
+decreases-walk_block l = 8200 * l.body.now.before + 2 * (length l.self.now.bytes.now - l.at) + 1
 
 abbrev pub decreases-walk_call : goal.decreases-walk_call
-decreases-walk_call l = 8200 * l.body.before + 2 * (length l.self.now.bytes.now - l.at)
+decreases-walk_call l = 8200 * l.body.now.before + 2 * (length l.self.now.bytes.now - l.at)
 
 abbrev pub decreases-walk_if : goal.decreases-walk_if
-decreases-walk_if l = 8200 * l.body.before + 2 * (length l.self.now.bytes.now - l.at)
+decreases-walk_if l = 8200 * l.body.now.before + 2 * (length l.self.now.bytes.now - l.at)
 
 abbrev pub decreases-walk_while : goal.decreases-walk_while
-decreases-walk_while l = 8200 * l.body.before + 2 * (length l.self.now.bytes.now - l.at)
+decreases-walk_while l = 8200 * l.body.now.before + 2 * (length l.self.now.bytes.now - l.at)
 
 abbrev pub invariant-walk_block-loop-p : goal.invariant-walk_block-loop-p
 invariant-walk_block-loop-p l = record {

@@ -1,16 +1,15 @@
 -- What each kind of statement does to the walk, from what the code computed for it.
-use mathlib.Core.Bool.{Bool, true, false, not, ◌&&◌, ◌||◌, cond, false≢true}
+use mathlib.Core.Bool.{Bool, not, ◌&&◌, ◌||◌, cond}
 use mathlib.Core.List.{List}
 use mathlib.Core.Option.{Option, none, some}
-use mathlib.Core.Path.{◌≡◌, refl, sym, ap, ◌∙◌}
+use mathlib.Core.Path.{◌≡◌, sym, ap, ◌∙◌}
 use native.Mathlib.Decide.{ℕ_discrete}
 use native.Mathlib.Omega.{arith}
 use Prim.Native.Nat.{ℕ, ◌+◌, ◌<◌}
 use lib.Dec.{eqb}
 use lib.ListN.{set, length}
 use lib.Seq.{get_or-set_same, get_or-set_other}
-use Rattle.std.specs.Prelude.{Result, Ok, Err, is_some}
-use Rattle.std.specs.Prelude as std
+use Rattle.std.specs.Prelude.{Ok, Err}
 use Rattle.std.specs.Option.{is_none}
 use Rattle.answers.specs.Check.{ok, refused, refusal, ◌>>=◌, ◌>>◌}
 use Rattle.rules.specs.Basics.{byte}
@@ -59,7 +58,8 @@ as_op t R W σ st a e = ap (λ (x : Statement t.side). walk_statement R W σ x s
 
 module _ {w : Walk} {g : ℕ} {n : Names} {p : ℕ} {f : List ℕ} {F : LocationSet} where
   -- with a frame and a set that are equal to those
-  pub gives_as : {f' f'' : List ℕ} {F' F'' : LocationSet} → f' ≡ f'' → F' ≡ F'' → Gives w g n p f F (ok (standing f'' F'')) → Gives w g n p f F (ok (standing f' F'))
+  pub gives_as : {f' f'' : List ℕ} {F' F'' : LocationSet} → f' ≡ f'' → F' ≡ F'' → Gives w g n p f F (ok (standing f'' F''))
+      → Gives w g n p f F (ok (standing f' F'))
   gives_as e d h = rw (e, d) h
 
   -- an init: its slot has its qubit at l, which is no longer free
@@ -68,7 +68,8 @@ module _ {w : Walk} {g : ℕ} {n : Names} {p : ℕ} {f : List ℕ} {F : Location
   unfolding walk_op
   on_init {l} G h z k d = record { gives = λ t R W σ O. go t R W σ O }
     where
-      go : (t : StatementAt w g n p) (R : Region) (W : Walker) (σ : Place t.side → Place device) → Over R w.rows.now t.counts t.program.functions g t.scope n W σ
+      go : (t : StatementAt w g n p) (R : Region) (W : Walker) (σ : Place t.side → Place device)
+          → Over R w.rows.now t.counts t.program.functions g t.scope n W σ
           → walk_statement R W σ t.tree (standing f F) ≡ ok (standing (set f (byte w.bytes.now (p + 1)) l) G)
       go t R W σ O =
           let v = view_init (statement_view t.stands) h in

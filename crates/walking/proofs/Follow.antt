@@ -14,11 +14,13 @@ use Rattle.answers.specs.Check.{Check, ok, refused, ◌>>=◌, ◌>>◌}
 use Rattle.rules.specs.Basics.{up_to}
 use Rattle.rules.specs.Region.{Region}
 use Rattle.rules.specs.Path.{route}
-use Rattle.rules.specs.Syntax.{Side, device, parameter, Place, param, at, Op, init, free, gate, measure, merge, new_ref, get_ref, set_ref, constant, Statement, op, if, while, call, Statements, done, ◌⨾◌, Block, block}
+use Rattle.rules.specs.Syntax.{Side, device, parameter, Place, param, at, Op, init, free, gate, measure, merge, new_ref, get_ref, set_ref, constant}
+use Rattle.rules.specs.Syntax.{Statement, op, if, while, call, Statements, done, ◌⨾◌, Block, block}
 use Rattle.rules.specs.Slots.{unbound, qubit, bool, ref, slot, holds_no_qubit}
 use Rattle.rules.specs.Commands.{Commands, commands_at, need_route}
 use Rattle.rules.specs.Typing.{Kind, Env, Signature, Context, signature}
-use Rattle.rules.specs.Figures.{stored, kind_at, substituted, OpRule, T-Init, T-MInit, T-Free, T-Gate, T-Meas1, T-Meas2, T-MkRef, T-Deref, T-Assign, T-Bool, Callable, StatementRule, T-Op, T-If, T-While, T-Call, StatementsRule, T-Unit, T-Seq}
+use Rattle.rules.specs.Figures.{stored, kind_at, substituted, OpRule, T-Init, T-MInit, T-Free, T-Gate, T-Meas1, T-Meas2, T-MkRef, T-Deref, T-Assign}
+use Rattle.rules.specs.Figures.{T-Bool, Callable, StatementRule, T-Op, T-If, T-While, T-Call, StatementsRule, T-Unit, T-Seq}
 use Rattle.rules.specs.Figures.{BlockRule, T-Close, MainRule, T-Main}
 use Rattle.rules.proofs.Basics.{get_d_up_to_zero}
 use Rattle.rules.proofs.Tests.{eqb_same, eqb_other}
@@ -45,12 +47,16 @@ module _ {s : Side} where
   older_put Γ fs y v n = record { was = λ x l h. old_qubit Γ.slots y x v l n h }
 
   -- stores of what holds no qubit, or the qubit that was there
-  stored_old : (vs : List (Kind s)) (ns : List ℕ) (φ : List (Kind s)) → ((j : ℕ) (l : Place s) → j < length ns → slot vs j ≡ qubit l → slot φ (get_or ns j 0) ≡ qubit l)
+  stored_old : (vs : List (Kind s)) (ns : List ℕ) (φ : List (Kind s))
+      → ((j : ℕ) (l : Place s) → j < length ns → slot vs j ≡ qubit l → slot φ (get_or ns j 0) ≡ qubit l)
       → (x : ℕ) (l : Place s) → slot (stored vs ns φ) x ≡ qubit l → slot φ x ≡ qubit l
   stored_old [] ns φ h x l e = e
   stored_old (v ∷ vs) [] φ h x l e = e
   stored_old (v ∷ vs) (n ∷ ns) φ h x l e =
-      ⊎_elim (λ c. ap (λ (y : ℕ). slot φ y) c.0 ∙ h 0 l (omega arith) (sym c.1 ∙ e)) (λ c. stored_old vs ns φ (λ j k r. h (suc j) k (omega arith)) x l (sym c ∙ e)) (get_d_set_cases (stored vs ns φ) n x v unbound)
+      ⊎_elim
+      (λ c. ap (λ (y : ℕ). slot φ y) c.0 ∙ h 0 l (omega arith) (sym c.1 ∙ e))
+      (λ c. stored_old vs ns φ (λ j k r. h (suc j) k (omega arith)) x l (sym c ∙ e))
+      (get_d_set_cases (stored vs ns φ) n x v unbound)
 
   kind_qubit : (ls : List (Place s)) (v : Kind parameter) (l : Place s) → kind_at ls v ≡ qubit l → (p : Place parameter) × (v ≡ qubit p) × (l ≡ at ls p.no)
   kind_qubit ls unbound l h = unbound_qubit (kind_at ls unbound) l refl h
@@ -70,15 +76,21 @@ module _ {s : Side} where
 
       each : (j : ℕ) (l : Place s) → j < length xs → slot left j ≡ qubit l → slot Γ.slots (get_or xs j 0) ≡ qubit l
       each j l r h =
-          let k = kind_qubit ls (slot g.ends.slots j) l (sym (get_d_up_to_zero g.m j (λ i. kind_at ls (slot g.ends.slots i)) unbound (omega (arith, J.slots))) ∙ h) in
-          argument_at xs ls j J.arguments r ∙ ap (λ (n : ℕ). qubit (at ls n)) (sym (ap (λ (p : Place parameter). p.no) (K.argument j k.0 k.1))) ∙ ap (λ (p : Place s). qubit p) (sym k.2)
+          let k =
+          kind_qubit ls (slot g.ends.slots j) l (sym (get_d_up_to_zero g.m j (λ i. kind_at ls (slot g.ends.slots i)) unbound (omega (arith, J.slots))) ∙ h) in
+          argument_at xs ls j J.arguments r ∙ ap (λ (n : ℕ). qubit (at ls n)) (sym (ap (λ (p : Place parameter). p.no) (K.argument j k.0 k.1)))
+          ∙ ap (λ (p : Place s). qubit p) (sym k.2)
 
   pub agrees_older : {σ : Place s → Place device} {Γ Δ : Env s} {f : ℕ → ℕ} → Older Γ Δ → Agrees σ Γ f → Agrees σ Δ f
   agrees_older O A = record { sits = λ x l h. A.sits x l (O.was x l h) }
 
   agrees_init : (σ : Place s → Place device) (Γ : Env s) (fs : List Bool) (f : ℕ → ℕ) (y : ℕ) (k : Place s) → slot Γ.slots y ≡ unbound → Agrees σ Γ f
       → Agrees σ (record { slots = set Γ.slots y (qubit k); free = fs }) (put f y (σ k).no)
-  agrees_init σ Γ fs f y k u A = record { sits = λ x l h. ⊎_elim (λ c. here x l c.0 (sym c.1 ∙ h)) (λ c. there x l (sym c ∙ h) (ℕ_discrete x y)) (get_d_set_cases Γ.slots y x (qubit k) unbound) }
+  agrees_init σ Γ fs f y k u A =
+      record {
+        sits = λ x l h.
+            ⊎_elim (λ c. here x l c.0 (sym c.1 ∙ h)) (λ c. there x l (sym c ∙ h) (ℕ_discrete x y)) (get_d_set_cases Γ.slots y x (qubit k) unbound);
+      }
     where
       here : (x : ℕ) (l : Place s) → x ≡ y → ◌≡◌ {A = Kind s} (qubit k) (qubit l) → put f y (σ k).no x ≡ (σ l).no
       here x l e q = rw (e, eqb_same y) (ap (λ (p : Place s). (σ p).no) (same_qubit _ k l refl q))
@@ -92,36 +104,42 @@ data Same {s : Side} (σ : Place s → Place device) (Δ : Env s) : Check Standi
   same_no : {r : Refusal} → Same σ Δ (refused r) (refused r)
   same_ok : {f : ℕ → ℕ} {F : ℕ → Bool} → Agrees σ Δ f → Same σ Δ (ok (record { frame = f; free = F })) (ok F)
 
-same_bind : {s : Side} {σ : Place s → Place device} {Δ : Env s} {m : Check Standing} {q : Check (ℕ → Bool)} (k : Standing → Check (ℕ → Bool)) (h : (ℕ → Bool) → Check (ℕ → Bool))
+same_bind : {s : Side} {σ : Place s → Place device} {Δ : Env s} {m : Check Standing} {q : Check (ℕ → Bool)}
+    (k : Standing → Check (ℕ → Bool)) (h : (ℕ → Bool) → Check (ℕ → Bool))
     → Same σ Δ m q → ((f : ℕ → ℕ) (F : ℕ → Bool) → Agrees σ Δ f → k (record { frame = f; free = F }) ≡ h F) → (m >>= k) ≡ (q >>= h)
 unfolding ◌>>=◌
 same_bind k h same_no w = refl
 same_bind k h (same_ok a) w = w _ _ a
 
-same_route : {s : Side} {σ : Place s → Place device} (Δ : Env s) (r : Check (List ℕ)) (st : Standing) → Agrees σ Δ st.frame → Same σ Δ (r >> ok st) (r >> ok st.free)
+same_route : {s : Side} {σ : Place s → Place device} (Δ : Env s) (r : Check (List ℕ)) (st : Standing) → Agrees σ Δ st.frame
+    → Same σ Δ (r >> ok st) (r >> ok st.free)
 unfolding ◌>>◌
 same_route Δ (refused r) st A = same_no
 same_route Δ (ok p) st A = same_ok A
 
-same_if : {s : Side} {σ : Place s → Place device} (Δ : Env s) (p q : Check (ℕ → Bool)) (f : ℕ → ℕ) → Agrees σ Δ f → Same σ Δ (p >>= λ F. q >> ok (record { frame = f; free = F })) (p >>= λ F. q >> ok F)
+same_if : {s : Side} {σ : Place s → Place device} (Δ : Env s) (p q : Check (ℕ → Bool)) (f : ℕ → ℕ) → Agrees σ Δ f
+    → Same σ Δ (p >>= λ F. q >> ok (record { frame = f; free = F })) (p >>= λ F. q >> ok F)
 unfolding ◌>>=◌ ◌>>◌
 same_if Δ (refused r) q f A = same_no
 same_if Δ (ok F) (refused r) f A = same_no
 same_if Δ (ok F) (ok G) f A = same_ok A
 
-same_while : {s : Side} {σ : Place s → Place device} (Δ : Env s) (p : Check (ℕ → Bool)) (st : Standing) → Agrees σ Δ st.frame → Same σ Δ (p >> ok st) (p >> ok st.free)
+same_while : {s : Side} {σ : Place s → Place device} (Δ : Env s) (p : Check (ℕ → Bool)) (st : Standing) → Agrees σ Δ st.frame
+    → Same σ Δ (p >> ok st) (p >> ok st.free)
 unfolding ◌>>◌
 same_while Δ (refused r) st A = same_no
 same_while Δ (ok F) st A = same_ok A
 
-same_call : {s : Side} {σ : Place s → Place device} (Δ : Env s) (q : Check (ℕ → Bool)) (f : ℕ → ℕ) → Agrees σ Δ f → Same σ Δ (q >>= λ F. ok (record { frame = f; free = F })) q
+same_call : {s : Side} {σ : Place s → Place device} (Δ : Env s) (q : Check (ℕ → Bool)) (f : ℕ → ℕ) → Agrees σ Δ f
+    → Same σ Δ (q >>= λ F. ok (record { frame = f; free = F })) q
 unfolding ◌>>=◌
 same_call Δ (refused r) f A = same_no
 same_call Δ (ok F) f A = same_ok A
 
 -- W walks the callees by their commands, and each keeps only its arguments
 pub record Good (R : Region) (W : Walker) (gs : List Signature) : Type 0 where
-  pub by_commands_lem : (f : ℕ) → f < length gs → (τ : Place parameter → Place device) (F : ℕ → Bool) → W f τ F ≡ walk_set R F (commands_at τ (signature gs f).commands)
+  pub by_commands_lem : (f : ℕ) → f < length gs → (τ : Place parameter → Place device) (F : ℕ → Bool)
+      → W f τ F ≡ walk_set R F (commands_at τ (signature gs f).commands)
   pub keeps : (f : ℕ) → f < length gs → Keeps (signature gs f)
 
 module _ {s : Side} (R : Region) (W : Walker) (σ : Place s → Place device) (C : Context s) (H : Good R W C.functions) where
@@ -147,7 +165,9 @@ module _ {s : Side} (R : Region) (W : Walker) (σ : Place s → Place device) (C
         → Same σ Δ (walk_statement R W σ t st) (walk_set R st.free (commands_at σ c))
     statement_follows (op o a) {Γ = Γ} (T-Op j) st A = op_follows Γ o a j st A
     statement_follows (if o y b b') {Δ = Δ} (T-If {c = c} {c' = c'} e j k) st A =
-        rw (block_follows b j st A, block_follows b' k st A) (same_if Δ (walk_set R st.free (commands_at σ c)) (walk_set R st.free (commands_at σ c')) st.frame (agrees_older (record { was = block_qubit C b j }) A))
+        rw (block_follows b j st A, block_follows b' k st A)
+        (same_if Δ (walk_set R st.free (commands_at σ c)) (walk_set R st.free (commands_at σ c')) st.frame
+        (agrees_older (record { was = block_qubit C b j }) A))
     statement_follows (while o r b) {Γ = Γ} (T-While {c = c} e j) st A = rw (block_follows b j st A) (same_while Γ (walk_set R st.free (commands_at σ c)) st A)
     statement_follows (call o f ls xs) {Γ = Γ} (T-Call J) st A =
         let g : Signature = signature C.functions f in

@@ -173,7 +173,8 @@ module _ {w : Walk} {g : ℕ} {n : Names} {p : ℕ} (h : byte w.bytes.now p ≡ 
         depths = 8;
         tree = (function functions callee).body;
         next = b.0;
-        body = record { program = P; offsets = t.body.offsets; reach = omega (arith, l); earlier = refl; room = λ q. (P.head callee l).0; table = t.body.table };
+        body =
+            record { program = P; offsets = t.body.offsets; reach = omega (arith, l); earlier = refl; room = λ q. (P.head callee l).0; table = t.body.table };
         stands = subst
             (λ (i : ℕ). BlockIn w.bytes.now (scope_of functions callee) 8 i (function functions callee).body b.0)
             (sym (t.body.offsets callee l) ∙ ap (λ (y : Head). y.body) (sym e))

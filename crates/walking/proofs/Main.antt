@@ -51,7 +51,8 @@ main_block {w = w} {counts = counts} {p = p} n h K P T =
     }
 
 -- What the walk over it says, for every region and typing of the program.
-pub main_walked : {w : Walk} {counts : List (Option ℕ)} {main : ℕ} {n : Names} {f : List ℕ} {owned after : LocationSet} {r : Result (Unit {0}) NoPath} → n.main ≡ true
+pub main_walked : {w : Walk} {counts : List (Option ℕ)} {main : ℕ} {n : Names} {f : List ℕ} {owned after : LocationSet} {r : Result (Unit {0}) NoPath}
+    → n.main ≡ true
     → Skips w.bytes.now counts w.quiet.now.ends → BlockWalked w w.functions.now.count n main f owned r after
     → (p : Program) (R : Region) (d : Typed device) (e : Derives R.owned p d) → ProgramIn w.bytes.now p → Tabled p w.functions.now main
     → Owned R owned → RowsOf R w.rows.now

@@ -14,7 +14,8 @@ none_placed (suc n) zero = refl
 none_placed (suc n) (suc j) = none_placed n j
 
 -- one more element is filled
-pub filled : (f : List ℕ) (v : ℕ → ℕ) (i l : ℕ) → i < length f → l ≡ v i → ((j : ℕ) → j < i → placed f j ≡ v j) → (j : ℕ) → j < i + 1 → placed (set f i l) j ≡ v j
+pub filled : (f : List ℕ) (v : ℕ → ℕ) (i l : ℕ) → i < length f → l ≡ v i → ((j : ℕ) → j < i → placed f j ≡ v j) → (j : ℕ) → j < i + 1
+    → placed (set f i l) j ≡ v j
 filled f v i l r e h j k = go (ℕ_discrete j i)
   where
     go : Dec (j ≡ i) → placed (set f i l) j ≡ v j

@@ -15,7 +15,7 @@ use Rattle.walking.specs.Stands.{standing, BlockAt, StatementAt, StatementsAt}
 use Rattle.answers.specs.Check.{ok}
 use Rattle.walking.proofs.Views.{view_size, view_call}
 use Rattle.walking.proofs.QuietLaws.{run_rises, stepped_bounds}
-use Rattle.walking.proofs.Steps.{Gives, statements_of, Left, left_on, statement_in, Rest, rest_on, turn}
+use Rattle.walking.proofs.Steps.{Gives, statements_of, Left, left_on, statement_in, Rest, rest_start, rest_on, Loop, turn}
 use Rattle.walking.proofs.Arms.{on_quiet}
 use Rattle.walking.proofs.Inner.{call_quiet}
 
@@ -54,18 +54,20 @@ pub run_bounds : {w : Walk} {g : ℕ} {n : Names} {at stop p r : ℕ} → BlockA
     → Steps w.quiet.now.ends p stop r → p ≤ stop → (p ≤ r) × (r ≤ stop)
 run_bounds {w} {stop = stop} b e k l = let c = statements_of stop e b in stepped_bounds (k.steps w.bytes.now b.counts c.stands.within b.body.table) l
 
--- What a turn of the loop does, and the step after it: the walk goes on behind the statement at p, which every statement there lets it do.
-pub record GoesOn (w : Walk) (g : ℕ) (n : Names) (from stop : ℕ) (f₀ : List ℕ) (F₀ : LocationSet) (p r : ℕ) (f : List ℕ) (F : LocationSet) : Type 0 where
-  pub further : p < r
-  pub inside : r ≤ stop
-  pub rest : Rest w g n from stop f₀ F₀ r f F
+-- where the loop begins, behind the quiet statements that the block begins with
+pub loop_starts : {w : Walk} {g : ℕ} {n : Names} {at stop r : ℕ} {f : List ℕ} {F : LocationSet} → BlockAt w g n at → stop ≡ at + 2 + word w.bytes.now at
+    → Steps w.quiet.now.ends (at + 2) stop r → Loop w g n at stop f F r f F
+loop_starts b e k =
+    let l = run_bounds b e k (omega (arith, e)) in
+    record { starts = l.0; inside = l.1; rest = rest_run k (omega (arith, e)) (rest_start _ _ _ _ _ _ _) }
 
+-- what a turn does, and the step after it: the walk goes on behind the statement at p, which every statement there lets it do
 pub goes_on : {w : Walk} {g : ℕ} {n : Names} {at stop : ℕ} {f₀ : List ℕ} {F₀ : LocationSet} {p q r : ℕ} {f f' : List ℕ} {F F' : LocationSet}
-    → BlockAt w g n at → stop ≡ at + 2 + word w.bytes.now at → p ≤ stop → (p ≡ stop → ⊥) → Rest w g n (at + 2) stop f₀ F₀ p f F
+    → BlockAt w g n at → stop ≡ at + 2 + word w.bytes.now at → Loop w g n at stop f₀ F₀ p f F → (p ≡ stop → ⊥)
     → ((t : StatementAt w g n p) → q ≡ t.next) → Steps w.quiet.now.ends q stop r → Gives w g n p f F (ok (standing f' F'))
-    → GoesOn w g n (at + 2) stop f₀ F₀ p r f' F'
-goes_on b e l d H ends k h =
-    let T = turn b e l d H in
+    → Loop w g n at stop f₀ F₀ r f' F'
+goes_on b e L d ends k h =
+    let T = turn b e L d in
     let a = ends T.here in
     let c = run_bounds b e k (omega (arith, a, T.fits)) in
-    record { further = omega (arith, a, T.further, c.0); inside = c.1; rest = rest_run k (omega (arith, a, T.fits)) (rest_on H T.inside ends h) }
+    record { starts = omega (arith, L.starts, a, T.further, c.0); inside = c.1; rest = rest_run k (omega (arith, a, T.fits)) (rest_on L.rest T.inside ends h) }

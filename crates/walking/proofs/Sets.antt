@@ -42,7 +42,9 @@ set_then R σ (connect o b l e k c) d F =
     let r : Check (List ℕ) = need_route (route R F (σ l).no (σ k).no) o in
     ap (λ w. r >> w) (set_then R σ c d F) ∙ sym (then_bind r _ _)
 set_then R σ (either a b c) d F =
-    bind_under (walk_set R F (commands_at σ a)) (λ G. ap (λ w. walk_set R F (commands_at σ b) >> w) (set_then R σ c d G) ∙ sym (then_bind (walk_set R F (commands_at σ b)) _ _))
+    bind_under
+    (walk_set R F (commands_at σ a))
+    (λ G. ap (λ w. walk_set R F (commands_at σ b) >> w) (set_then R σ c d G) ∙ sym (then_bind (walk_set R F (commands_at σ b)) _ _))
     ∙ sym (bind_assoc (walk_set R F (commands_at σ a)) _ _)
 set_then R σ (repeat a c) d F = ap (λ w. walk_set R F (commands_at σ a) >> w) (set_then R σ c d F) ∙ sym (then_bind (walk_set R F (commands_at σ a)) _ _)
 
@@ -75,7 +77,8 @@ unfolding ◌>>=◌
 agree_bind k h both_no f = both_no
 agree_bind k h (both_ok a) f = f _ _ a
 
-agree_then : {n : ℕ} {p : Check (ℕ → Bool)} {q : Check (List Bool)} {k : Check (ℕ → Bool)} {h : Check (List Bool)} → Agree n p q → Agree n k h → Agree n (p >> k) (q >> h)
+agree_then : {n : ℕ} {p : Check (ℕ → Bool)} {q : Check (List Bool)} {k : Check (ℕ → Bool)} {h : Check (List Bool)} → Agree n p q → Agree n k h
+    → Agree n (p >> k) (q >> h)
 unfolding ◌>>◌
 agree_then both_no f = both_no
 agree_then (both_ok a) f = f

@@ -127,6 +127,12 @@ module _ {w : Walk} {g : ℕ} {n : Names} {at stop : ℕ} {f₀ : List ℕ} {F�
     block = λ b R W σ o. sym (block_opens stop e b R W σ (standing f₀ F₀) ∙ rest_ends H l (statements_of stop e b) R W σ o);
   }
 
+-- where the loop stands, at p, with this frame and these locations free
+pub record Loop (w : Walk) (g : ℕ) (n : Names) (at stop : ℕ) (f₀ : List ℕ) (F₀ : LocationSet) (p : ℕ) (f : List ℕ) (F : LocationSet) : Type 0 where
+  pub starts : at + 2 ≤ p
+  pub inside : p ≤ stop
+  pub rest : Rest w g n (at + 2) stop f₀ F₀ p f F
+
 -- A turn of the loop: the statement that it is at, and where this and the block end.
 pub record Turn (w : Walk) (g : ℕ) (n : Names) (p stop : ℕ) : Type 0 where
   pub here : StatementAt w g n p
@@ -137,12 +143,12 @@ pub record Turn (w : Walk) (g : ℕ) (n : Names) (p stop : ℕ) : Type 0 where
   pub fits : here.next ≤ stop
 
 pub turn : {w : Walk} {g : ℕ} {n : Names} {at stop : ℕ} {f₀ : List ℕ} {F₀ : LocationSet} {p : ℕ} {f : List ℕ} {F : LocationSet}
-    → BlockAt w g n at → stop ≡ at + 2 + word w.bytes.now at → p ≤ stop → (p ≡ stop → ⊥) → Rest w g n (at + 2) stop f₀ F₀ p f F → Turn w g n p stop
-turn {stop = stop} {p = p} b e l d H =
-    let i : p < stop = omega (arith, l, d) in
+    → BlockAt w g n at → stop ≡ at + 2 + word w.bytes.now at → Loop w g n at stop f₀ F₀ p f F → (p ≡ stop → ⊥) → Turn w g n p stop
+turn {stop = stop} {p = p} b e L d =
+    let i : p < stop = omega (arith, L.inside, d) in
     let c = statements_of stop e b in
-    let k = statements_next (H.left c).stands i in
-    record { here = statement_of H i c; inside = i; within = c.stands.within; size = b.body.program.size; further = k.6; fits = k.7 }
+    let k = statements_next (L.rest.left c).stands i in
+    record { here = statement_of L.rest i c; inside = i; within = c.stands.within; size = b.body.program.size; further = k.6; fits = k.7 }
 
 -- where a block lies
 pub block_bounds : {w : Walk} {g : ℕ} {n : Names} {at : ℕ} → BlockAt w g n at

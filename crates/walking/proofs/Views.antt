@@ -30,7 +30,8 @@ module _ {d : Side} (s : List ℕ) (S : Scope) (at : ℕ) (t : Statement d) (q :
     pub place : byte s (at + 2) < S.places
 
   pub record IsCall : Type 0 where
-    pub is : t ≡ call at (byte s (at + 1)) (up_to (at + 4) (byte s (at + 2)) λ i. record { no = byte s i }) (up_to (at + 4 + byte s (at + 2)) (byte s (at + 3)) λ i. byte s i)
+    pub is : t ≡ call at (byte s (at + 1)) (up_to (at + 4) (byte s (at + 2)) λ i. record { no = byte s i })
+        (up_to (at + 4 + byte s (at + 2)) (byte s (at + 3)) λ i. byte s i)
     pub next : q ≡ at + 4 + byte s (at + 2) + byte s (at + 3)
     pub fits : at + 4 + byte s (at + 2) + byte s (at + 3) ≤ length s
     pub callee : byte s (at + 1) < length S.earlier

@@ -1,3 +1,5 @@
+-- The loop over a block's statements: at each turn there is a statement, which is of its kind; what the walk does with it, it does with every statement
+-- that may be there. The inner walks are of the blocks that the statement has, or of its callee's body.
 use native.Mathlib.Omega.{arith}
 use mathlib.Core.Bool.{false}
 use mathlib.Core.Path.{refl, sym, ap, ◌∙◌}
@@ -9,14 +11,16 @@ use Rattle.walking.proofs.NameLaws.{none_placed}
 use Rattle.walking.proofs.Views.{view_init, view_free, view_merge, view_call}
 use Rattle.walking.specs.Stands.{standing}
 use Rattle.answers.specs.Check.{ok}
-use Rattle.walking.proofs.Steps.{Gives, rest_start, block_refused, block_ended, turn, block_bounds, statement_bounds, statement_kind, place_room}
+use Rattle.walking.proofs.Steps.{Gives, block_refused, block_ended, turn, block_bounds, statement_bounds, statement_kind, place_room}
 use Rattle.walking.proofs.Arms.{gives_as, on_init, on_free, on_merge, on_quiet, on_inner, on_refused}
-use Rattle.walking.proofs.Inner.{passed, Entered, then_block, else_block, loop_block, if_walked, if_refused, while_walked, callee_known, callee_block, call_walked}
+use Rattle.walking.proofs.Inner.{passed, Entered, then_block, else_block, loop_block, if_walked, if_refused, while_walked, callee_known, callee_block}
+use Rattle.walking.proofs.Inner.{call_walked}
 use Rattle.walking.proofs.Ends.{if_ends}
-use Rattle.walking.proofs.QuietRuns.{rest_run, run_bounds, goes_on}
+use Rattle.walking.proofs.QuietRuns.{loop_starts, run_bounds, goes_on}
 use Rattle.walking.proofs.walk.Walk.+walk_block_walk_call_walk_if_walk_while.Goals as goal
 use Rattle.walking.proofs.walk.Walk.+walk_block_walk_call_walk_if_walk_while.Goals.{walk_block-in-Init, walk_block-in-Free, walk_block-in-Merge+else-no_path}
-use Rattle.walking.proofs.walk.Walk.+walk_block_walk_call_walk_if_walk_while.Goals.{walk_block-in-If+in_ok-walk_if-in-If, walk_block-in-While+in_ok-walk_while-in-While}
+use Rattle.walking.proofs.walk.Walk.+walk_block_walk_call_walk_if_walk_while.Goals.{walk_block-in-If+in_ok-walk_if-in-If}
+use Rattle.walking.proofs.walk.Walk.+walk_block_walk_call_walk_if_walk_while.Goals.{walk_block-in-While+in_ok-walk_while-in-While}
 use Rattle.walking.proofs.walk.Walk.+walk_block_walk_call_walk_if_walk_while.Goals.{walk_block-in-Call+in_ok-walk_call-in-Call, walk_block-in-Gate}
 
 pub walk_block-block_end-stop-requires : goal.walk_block-block_end-stop-requires
@@ -33,150 +37,130 @@ pub walk_block-loop-p-init : goal.walk_block-loop-p-init
 walk_block-loop-p-init t c =
     let e = c.block_end-stop.ensures in
     let k = c.skip-p.ensures in
-    record { in_block = run_bounds c.requires e k (omega (arith, e)); rest = rest_run k (omega (arith, e)) (rest_start _ _ _ _ _ _ _) }
+    loop_starts c.requires e k
 
 pub walk_block-bounds-self-p : goal.walk_block-bounds-self-p
 walk_block-bounds-self-p t c =
-    let l = c.loop-p.invariant in
-    let T = turn c.requires c.block_end-stop.ensures l.in_block.1 c.loop-p-test.true l.rest in
+    let T = turn c.requires c.block_end-stop.ensures c.loop-p.invariant c.loop-p-test.true in
     omega (arith, T.inside, T.within)
 
 pub walk_block-known-kind-requires : goal.walk_block-known-kind-requires
 walk_block-known-kind-requires t c =
-    let l = c.loop-p.invariant in
-    let T = turn c.requires c.block_end-stop.ensures l.in_block.1 c.loop-p-test.true l.rest in
+    let T = turn c.requires c.block_end-stop.ensures c.loop-p.invariant c.loop-p-test.true in
     statement_kind T.here
 
 pub walk_block-bounds-self-p-in-Init : goal.walk_block-bounds-self-p-in-Init
 walk_block-bounds-self-p-in-Init t c =
-    let l = c.loop-p.invariant in
-    let T = turn c.requires c.block_end-stop.ensures l.in_block.1 c.loop-p-test.true l.rest in
+    let T = turn c.requires c.block_end-stop.ensures c.loop-p.invariant c.loop-p-test.true in
     let v = view_init (statement_view T.here.stands) (init_byte c.known-kind.ensures c.in-Init.is) in
     omega (arith, v.fits)
 
 pub walk_block-location_of-location-requires : goal.walk_block-location_of-location-requires
 walk_block-location_of-location-requires t c =
-    let l = c.loop-p.invariant in
-    let T = turn c.requires c.block_end-stop.ensures l.in_block.1 c.loop-p-test.true l.rest in
+    let T = turn c.requires c.block_end-stop.ensures c.loop-p.invariant c.loop-p-test.true in
     let v = view_init (statement_view T.here.stands) (init_byte c.known-kind.ensures c.in-Init.is) in
     place_room T.here v.place
 
 pub walk_block-bounds-self-p-in-Init-2 : goal.walk_block-bounds-self-p-in-Init-2
 walk_block-bounds-self-p-in-Init-2 t c =
-    let l = c.loop-p.invariant in
-    let T = turn c.requires c.block_end-stop.ensures l.in_block.1 c.loop-p-test.true l.rest in
+    let T = turn c.requires c.block_end-stop.ensures c.loop-p.invariant c.loop-p-test.true in
     let v = view_init (statement_view T.here.stands) (init_byte c.known-kind.ensures c.in-Init.is) in
     omega (arith, v.fits)
 
 pub walk_block-bounds-frame-self : goal.walk_block-bounds-frame-self
 walk_block-bounds-frame-self t c =
-    let l = c.loop-p.invariant in
-    let T = turn c.requires c.block_end-stop.ensures l.in_block.1 c.loop-p-test.true l.rest in
+    let T = turn c.requires c.block_end-stop.ensures c.loop-p.invariant c.loop-p-test.true in
     let v = view_init (statement_view T.here.stands) (init_byte c.known-kind.ensures c.in-Init.is) in
     omega (arith, v.slot)
 
 pub walk_block-bounds-self-p-in-Free : goal.walk_block-bounds-self-p-in-Free
 walk_block-bounds-self-p-in-Free t c =
-    let l = c.loop-p.invariant in
-    let T = turn c.requires c.block_end-stop.ensures l.in_block.1 c.loop-p-test.true l.rest in
+    let T = turn c.requires c.block_end-stop.ensures c.loop-p.invariant c.loop-p-test.true in
     let v = view_free (statement_view T.here.stands) (byte_as c.known-kind.ensures c.in-Free.is) in
     omega (arith, v.fits)
 
 pub walk_block-bounds-frame-self-in-Free : goal.walk_block-bounds-frame-self-in-Free
 walk_block-bounds-frame-self-in-Free t c =
-    let l = c.loop-p.invariant in
-    let T = turn c.requires c.block_end-stop.ensures l.in_block.1 c.loop-p-test.true l.rest in
+    let T = turn c.requires c.block_end-stop.ensures c.loop-p.invariant c.loop-p-test.true in
     let v = view_free (statement_view T.here.stands) (byte_as c.known-kind.ensures c.in-Free.is) in
     omega (arith, v.slot)
 
 pub walk_block-bounds-self-p-in-Merge : goal.walk_block-bounds-self-p-in-Merge
 walk_block-bounds-self-p-in-Merge t c =
-    let l = c.loop-p.invariant in
-    let T = turn c.requires c.block_end-stop.ensures l.in_block.1 c.loop-p-test.true l.rest in
+    let T = turn c.requires c.block_end-stop.ensures c.loop-p.invariant c.loop-p-test.true in
     let v = view_merge (statement_view T.here.stands) (byte_as c.known-kind.ensures c.in-Merge.is) in
     omega (arith, v.fits)
 
 pub walk_block-bounds-frame-self-in-Merge : goal.walk_block-bounds-frame-self-in-Merge
 walk_block-bounds-frame-self-in-Merge t c =
-    let l = c.loop-p.invariant in
-    let T = turn c.requires c.block_end-stop.ensures l.in_block.1 c.loop-p-test.true l.rest in
+    let T = turn c.requires c.block_end-stop.ensures c.loop-p.invariant c.loop-p-test.true in
     let v = view_merge (statement_view T.here.stands) (byte_as c.known-kind.ensures c.in-Merge.is) in
     omega (arith, v.first)
 
 pub walk_block-bounds-self-p-in-Merge-2 : goal.walk_block-bounds-self-p-in-Merge-2
 walk_block-bounds-self-p-in-Merge-2 t c =
-    let l = c.loop-p.invariant in
-    let T = turn c.requires c.block_end-stop.ensures l.in_block.1 c.loop-p-test.true l.rest in
+    let T = turn c.requires c.block_end-stop.ensures c.loop-p.invariant c.loop-p-test.true in
     let v = view_merge (statement_view T.here.stands) (byte_as c.known-kind.ensures c.in-Merge.is) in
     omega (arith, v.fits)
 
 pub walk_block-bounds-frame-self-in-Merge-2 : goal.walk_block-bounds-frame-self-in-Merge-2
 walk_block-bounds-frame-self-in-Merge-2 t c =
-    let l = c.loop-p.invariant in
-    let T = turn c.requires c.block_end-stop.ensures l.in_block.1 c.loop-p-test.true l.rest in
+    let T = turn c.requires c.block_end-stop.ensures c.loop-p.invariant c.loop-p-test.true in
     let v = view_merge (statement_view T.here.stands) (byte_as c.known-kind.ensures c.in-Merge.is) in
     omega (arith, v.second)
 
 pub walk_block-returns-then-no_path : goal.walk_block-returns-then-no_path
 walk_block-returns-then-no_path t c =
-    let l = c.loop-p.invariant in
-    let T = turn c.requires c.block_end-stop.ensures l.in_block.1 c.loop-p-test.true l.rest in
+    let T = turn c.requires c.block_end-stop.ensures c.loop-p.invariant c.loop-p-test.true in
     let none = on_merge (byte_as c.known-kind.ensures c.in-Merge.is) (λ R o. sym (c.no_path.ensures R o) ∙ c.if-no_path.true) in
-    block_refused l.rest c.block_end-stop.ensures _ T.inside none
+    block_refused c.loop-p.invariant.rest c.block_end-stop.ensures _ T.inside none
 
 pub walk_block-walk_if-requires : goal.walk_block-walk_if-requires
 walk_block-walk_if-requires t c =
-    let l = c.loop-p.invariant in
-    let T = turn c.requires c.block_end-stop.ensures l.in_block.1 c.loop-p-test.true l.rest in
-    (omega (arith, T.inside, T.within, l.in_block, c.requires), (T.here, byte_as c.known-kind.ensures c.in-If.is))
+    let T = turn c.requires c.block_end-stop.ensures c.loop-p.invariant c.loop-p-test.true in
+    (omega (arith, T.inside, T.within, c.loop-p.invariant.starts, c.requires), (T.here, byte_as c.known-kind.ensures c.in-If.is))
 
 pub walk_block-returns-in_err-walk_if-in-If : goal.walk_block-returns-in_err-walk_if-in-If
 walk_block-returns-in_err-walk_if-in-If t c =
-    let l = c.loop-p.invariant in
-    let T = turn c.requires c.block_end-stop.ensures l.in_block.1 c.loop-p-test.true l.rest in
-    rw (passed _ c.from_residual.ensures.1) (block_refused l.rest c.block_end-stop.ensures _ T.inside (on_refused c.in_err-walk_if-in-If.ensures))
+    let T = turn c.requires c.block_end-stop.ensures c.loop-p.invariant c.loop-p-test.true in
+    rw (passed _ c.from_residual.ensures.1) (block_refused c.loop-p.invariant.rest c.block_end-stop.ensures _ T.inside (on_refused c.in_err-walk_if-in-If.ensures))
 
 pub walk_block-walk_while-requires : goal.walk_block-walk_while-requires
 walk_block-walk_while-requires t c =
-    let l = c.loop-p.invariant in
-    let T = turn c.requires c.block_end-stop.ensures l.in_block.1 c.loop-p-test.true l.rest in
-    (omega (arith, T.inside, T.within, l.in_block, c.requires), (T.here, byte_as c.known-kind.ensures c.in-While.is))
+    let T = turn c.requires c.block_end-stop.ensures c.loop-p.invariant c.loop-p-test.true in
+    (omega (arith, T.inside, T.within, c.loop-p.invariant.starts, c.requires), (T.here, byte_as c.known-kind.ensures c.in-While.is))
 
 pub walk_block-returns-in_err-walk_while-in-While : goal.walk_block-returns-in_err-walk_while-in-While
 walk_block-returns-in_err-walk_while-in-While t c =
-    let l = c.loop-p.invariant in
-    let T = turn c.requires c.block_end-stop.ensures l.in_block.1 c.loop-p-test.true l.rest in
-    rw (passed _ c.from_residual-in_err-walk_while-in-While.ensures.1) (block_refused l.rest c.block_end-stop.ensures _ T.inside (on_refused c.in_err-walk_while-in-While.ensures))
+    let T = turn c.requires c.block_end-stop.ensures c.loop-p.invariant c.loop-p-test.true in
+    rw (passed _ c.from_residual-in_err-walk_while-in-While.ensures.1)
+    (block_refused c.loop-p.invariant.rest c.block_end-stop.ensures _ T.inside (on_refused c.in_err-walk_while-in-While.ensures))
 
 pub walk_block-walk_call-requires : goal.walk_block-walk_call-requires
 walk_block-walk_call-requires t c =
-    let l = c.loop-p.invariant in
-    let T = turn c.requires c.block_end-stop.ensures l.in_block.1 c.loop-p-test.true l.rest in
-    (omega (arith, T.inside, T.within, l.in_block, c.requires), (T.here, byte_as c.known-kind.ensures c.in-Call.is))
+    let T = turn c.requires c.block_end-stop.ensures c.loop-p.invariant c.loop-p-test.true in
+    (omega (arith, T.inside, T.within, c.loop-p.invariant.starts, c.requires), (T.here, byte_as c.known-kind.ensures c.in-Call.is))
 
 pub walk_block-returns-in_err-walk_call-in-Call : goal.walk_block-returns-in_err-walk_call-in-Call
 walk_block-returns-in_err-walk_call-in-Call t c =
-    let l = c.loop-p.invariant in
-    let T = turn c.requires c.block_end-stop.ensures l.in_block.1 c.loop-p-test.true l.rest in
-    rw (passed _ c.from_residual-in_err-walk_call-in-Call.ensures.1) (block_refused l.rest c.block_end-stop.ensures _ T.inside (on_refused (c.in_err-walk_call-in-Call.ensures.call c.loop-p.frame)))
+    let T = turn c.requires c.block_end-stop.ensures c.loop-p.invariant c.loop-p-test.true in
+    let inner = c.in_err-walk_call-in-Call.ensures.call c.loop-p.frame in
+    rw (passed _ c.from_residual-in_err-walk_call-in-Call.ensures.1) (block_refused c.loop-p.invariant.rest c.block_end-stop.ensures _ T.inside (on_refused inner))
 
 pub walk_block-statement_end-requires : goal.walk_block-statement_end-requires
 walk_block-statement_end-requires t c =
-    let l = c.loop-p.invariant in
-    let T = turn c.requires c.block_end-stop.ensures l.in_block.1 c.loop-p-test.true l.rest in
+    let T = turn c.requires c.block_end-stop.ensures c.loop-p.invariant c.loop-p-test.true in
     (T.size, c.known-kind.ensures, (_, _, _, _, _, T.here.stands))
 
 pub walk_block-skip-p-requires-in-loop-p : goal.walk_block-skip-p-requires-in-loop-p
 walk_block-skip-p-requires-in-loop-p t c =
-    let l = c.loop-p.invariant in
-    let T = turn c.requires c.block_end-stop.ensures l.in_block.1 c.loop-p-test.true l.rest in
+    let T = turn c.requires c.block_end-stop.ensures c.loop-p.invariant c.loop-p-test.true in
     let e = c.statement_end.ensures _ _ _ _ _ T.here.stands in
     (omega (arith, e, T.fits), omega (arith, T.within, T.size))
 
 pub walk_block-loop-p-smaller : goal.walk_block-loop-p-smaller
 walk_block-loop-p-smaller t c =
-    let l = c.loop-p.invariant in
-    let T = turn c.requires c.block_end-stop.ensures l.in_block.1 c.loop-p-test.true l.rest in
+    let T = turn c.requires c.block_end-stop.ensures c.loop-p.invariant c.loop-p-test.true in
     let e = c.statement_end.ensures _ _ _ _ _ T.here.stands in
     let k = run_bounds c.requires c.block_end-stop.ensures c.skip-p-in-loop-p.ensures (omega (arith, e, T.fits)) in
     omega (arith, e, T.further, k)
@@ -184,7 +168,6 @@ walk_block-loop-p-smaller t c =
 -- however the statement at p was walked, it lets the walk on
 pub walk_block-loop-p-preserved : goal.walk_block-loop-p-preserved
 walk_block-loop-p-preserved t c =
-    let l = c.loop-p.invariant in
     let k = c.known-kind.ensures in
     let m = c.match-kind in
     let long = m.array_long in
@@ -202,9 +185,7 @@ walk_block-loop-p-preserved t c =
       | walk_block-in-Call+in_ok-walk_call-in-Call w ↦ gives_as w.frame-is w.free-is (on_inner (w.in_ok-walk_call-in-Call.ensures.call c.loop-p.frame))
       | walk_block-in-Gate w ↦ gives_as w.frame-is w.free-is (on_quiet (silent k w.in-Gate.is))
     ] in
-    let e = c.block_end-stop.ensures in
-    let on = goes_on c.requires e l.in_block.1 c.loop-p-test.true l.rest (λ t. c.statement_end.ensures _ _ _ _ _ t.stands) c.skip-p-in-loop-p.ensures step in
-    record { in_block = (omega (arith, on.further, l.in_block), on.inside); rest = on.rest }
+    goes_on c.requires c.block_end-stop.ensures c.loop-p.invariant c.loop-p-test.true (λ t. c.statement_end.ensures _ _ _ _ _ t.stands) c.skip-p-in-loop-p.ensures step
 
 pub walk_block-returns : goal.walk_block-returns
 walk_block-returns t c =
@@ -233,7 +214,8 @@ walk_call-walk_block-requires t c =
 pub walk_call-returns : goal.walk_call-returns
 walk_call-returns t c =
     let e = c.enter.ensures in
-    let entered : Entered c.args.self.now (names_of c.args.body.now) c.args.at (record { main = false; at = c.enter.new.inner }) c.enter.new.frame = record { in_function = refl; named_so = e.named; passed = e.passed; rest = λ i l. e.rest i l ∙ none_placed 32 i } in
+    let entered : Entered c.args.self.now (names_of c.args.body.now) c.args.at (record { main = false; at = c.enter.new.inner }) c.enter.new.frame =
+    record { in_function = refl; named_so = e.named; passed = e.passed; rest = λ i l. e.rest i l ∙ none_placed 32 i } in
     call_walked c.requires.1 entered c.head.ensures c.walk_block.ensures
 
 pub walk_if-walk_block-requires : goal.walk_if-walk_block-requires

@@ -26,79 +26,81 @@ pub struct Sum {
     pub next: usize,
 }
 
-// The block whose length word is at `at`.
-#[cycle(count_block_count_callee_count_statement)]
-pub fn count_block(body: Body<'_>, at: usize, memory: &mut Memory) -> Sum
-    requires { ((p : Program) × Placed body p)
-        × ((d : Side) × (x : Block d) × (q : ℕ) × BlockBelow body.bytes.now body.before at x q) }
-    ensures found { BlockFound body.entry at memory.old result memory.new }
-    ensures in_file { (at + 2 ≤ result.next) × (result.next ≤ length body.entry.bytes.now) }
-    ensures capped { result.count ≤ 65536 }
-{
-    let end = block_end(body.bytes, at);
-    let mut count = 0;
-    let mut next = at + 2;
-    while next < end {
-        let statement = count_statement(body, next, memory);
-        count = add(count, statement.count);
-        next = statement.next;
+impl Body<'_> {
+    // The block whose length word is at `at`.
+    #[cycle(count_block_count_callee_count_statement)]
+    pub fn count_block(&self, at: usize, memory: &mut Memory) -> Sum
+        requires { ((p : Program) × Placed self.now p)
+            × ((d : Side) × (x : Block d) × (q : ℕ) × BlockBelow self.now.bytes.now self.now.before at x q) }
+        ensures found { BlockFound self.now at memory.old result memory.new }
+        ensures in_file { (at + 2 ≤ result.next) × (result.next ≤ length self.now.bytes.now) }
+        ensures capped { result.count ≤ 65536 }
+    {
+        let end = block_end(self.bytes, at);
+        let mut count = 0;
+        let mut next = at + 2;
+        while next < end {
+            let statement = self.count_statement(next, memory);
+            count = add(count, statement.count);
+            next = statement.next;
+        }
+        Sum { count, next }
     }
-    Sum { count, next }
-}
 
-// The statement at `at`, with the blocks of an if or a while and the callee of a call.
-#[cycle(count_block_count_callee_count_statement)]
-fn count_statement(body: Body<'_>, at: usize, memory: &mut Memory) -> Sum
-    requires { ((p : Program) × Placed body p)
-        × ((d : Side) × (x : Statement d) × (q : ℕ) × StatementBelow body.bytes.now body.before at x q) }
-    ensures found { StatementFound body.entry at memory.old result memory.new }
-    ensures in_file { (at + 2 ≤ result.next) × (result.next ≤ length body.entry.bytes.now) }
-{
-    match Kind::known(body.bytes[at]) {
-        Kind::If => {
-            let then = count_block(body, at + 2, memory);
-            let other = count_block(body, then.next, memory);
-            Sum {
-                count: add(1, add(then.count, other.count)),
-                next: other.next,
+    // The statement at `at`, with the blocks of an if or a while and the callee of a call.
+    #[cycle(count_block_count_callee_count_statement)]
+    fn count_statement(&self, at: usize, memory: &mut Memory) -> Sum
+        requires { ((p : Program) × Placed self.now p)
+            × ((d : Side) × (x : Statement d) × (q : ℕ) × StatementBelow self.now.bytes.now self.now.before at x q) }
+        ensures found { StatementFound self.now at memory.old result memory.new }
+        ensures in_file { (at + 2 ≤ result.next) × (result.next ≤ length self.now.bytes.now) }
+    {
+        match Kind::known(self.bytes[at]) {
+            Kind::If => {
+                let then = self.count_block(at + 2, memory);
+                let other = self.count_block(then.next, memory);
+                Sum {
+                    count: add(1, add(then.count, other.count)),
+                    next: other.next,
+                }
             }
-        }
-        Kind::While => {
-            let inside = count_block(body, at + 2, memory);
-            Sum {
-                count: add(1, inside.count),
-                next: inside.next,
+            Kind::While => {
+                let inside = self.count_block(at + 2, memory);
+                Sum {
+                    count: add(1, inside.count),
+                    next: inside.next,
+                }
             }
-        }
-        Kind::Call => {
-            let callee = body.bytes[at + 1];
-            Sum {
-                count: count_callee(body, callee, memory),
-                next: call_end(body.bytes, at),
+            Kind::Call => {
+                let callee = self.bytes[at + 1];
+                Sum {
+                    count: self.count_callee(callee, memory),
+                    next: call_end(self.bytes, at),
+                }
             }
+            kind => Sum {
+                count: own_count(kind),
+                next: at + kind.size(),
+            },
         }
-        kind => Sum {
-            count: own_count(kind),
-            next: at + kind.size(),
-        },
     }
-}
 
-// Function `f`, which comes before the body: counted where it has not been.
-#[cycle(count_block_count_callee_count_statement)]
-pub fn count_callee(body: Body<'_>, f: u8, memory: &mut Memory) -> usize
-    requires { (f < body.before) × ((p : Program) × Placed body p) }
-    ensures found { Found body.entry (λ φ. φ f) memory.old result memory.new }
-    ensures known { get_or memory.new.counts f None ≡ Some result }
-{
-    if let Some(count) = memory.recall(f) {
-        return count;
+    // Function `f`, which comes before the body: counted where it has not been.
+    #[cycle(count_block_count_callee_count_statement)]
+    pub fn count_callee(&self, f: u8, memory: &mut Memory) -> usize
+        requires { (f < self.now.before) × ((p : Program) × Placed self.now p) }
+        ensures found { Found self.now (λ φ. φ f) memory.old result memory.new }
+        ensures known { get_or memory.new.counts f None ≡ Some result }
+    {
+        if let Some(count) = memory.recall(f) {
+            return count;
+        }
+        let callee = Body {
+            before: f as usize,
+            ..*self
+        };
+        let sum = callee.count_block(self.functions.head(f).body, memory);
+        memory.remember(f, sum.count);
+        sum.count
     }
-    let callee = Body {
-        before: f as usize,
-        ..body
-    };
-    let sum = count_block(callee, body.functions.head(f).body, memory);
-    memory.remember(f, sum.count);
-    sum.count
 }

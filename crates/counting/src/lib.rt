@@ -7,7 +7,7 @@ ghost use Rattle.program.specs.In.{ProgramIn};
 ghost use Rattle.program.specs.Heads.{Tabled};
 ghost use Rattle.counting.specs.Counting.{Sizes, Counts};
 
-use blocks::{Body, count_block, count_callee};
+use blocks::Body;
 use memory::Memory;
 use program::file::ReadProgram;
 
@@ -36,9 +36,9 @@ pub fn count_program(program: &ReadProgram) -> Counted
     };
     let mut memory = Memory::blank();
     for f in 0..program.functions.count as u8 {
-        count_callee(main, f, &mut memory);
+        main.count_callee(f, &mut memory);
     }
-    let sum = count_block(main, program.main, &mut memory);
+    let sum = main.count_block(program.main, &mut memory);
     Counted {
         main: sum.count,
         functions: memory.counts,

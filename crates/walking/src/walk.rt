@@ -1,5 +1,6 @@
 // The walk over blocks: a loop goes over a block's statements, runs of quiet ones in one move; only nesting and callees recurse. The free locations are
-// lent, and each walk leaves there what is free after it. A frame is lent too, as the locations of its slots, to the one block that may change it.
+// lent, and each walk leaves there what is free after it. A frame is lent too, as the locations of its slots, to the one block that may change it. They
+// are no struct: a callee has a frame of its own, and its caller's free locations.
 ghost use Rattle.std.specs.Prelude.{◌≡◌};
 ghost use Rattle.rules.specs.Basics.{byte};
 ghost use Rattle.rules.specs.Region.{Region};
@@ -34,7 +35,7 @@ pub struct NoPath {
 }
 
 impl Walk<'_> {
-    // Whether no path over free locations joins two ends.
+    // Whether no path over free locations joins two ends. On its own, so that the copy that it searches is no part of each block's stack.
     fn no_path(&self, free: &LocationSet, a: u8, b: u8) -> bool
         ensures { (R : Region) → RowsOf R self.now.rows.now → result ≡ no_path R (has free.now) a b }
     {

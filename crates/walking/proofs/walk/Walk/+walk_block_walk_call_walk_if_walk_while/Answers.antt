@@ -123,7 +123,8 @@ walk_block-walk_if-requires t c =
 pub walk_block-returns-in_err-walk_if-in-If : goal.walk_block-returns-in_err-walk_if-in-If
 walk_block-returns-in_err-walk_if-in-If t c =
     let T = turn c.requires c.block_end-stop.ensures c.loop-p.invariant c.loop-p-test.true in
-    rw (passed _ c.from_residual.ensures.1) (block_refused c.loop-p.invariant.rest c.block_end-stop.ensures _ T.inside (on_refused c.in_err-walk_if-in-If.ensures))
+    rw (passed _ c.from_residual.ensures.1)
+    (block_refused c.loop-p.invariant.rest c.block_end-stop.ensures _ T.inside (on_refused c.in_err-walk_if-in-If.ensures))
 
 pub walk_block-walk_while-requires : goal.walk_block-walk_while-requires
 walk_block-walk_while-requires t c =
@@ -145,7 +146,8 @@ pub walk_block-returns-in_err-walk_call-in-Call : goal.walk_block-returns-in_err
 walk_block-returns-in_err-walk_call-in-Call t c =
     let T = turn c.requires c.block_end-stop.ensures c.loop-p.invariant c.loop-p-test.true in
     let inner = c.in_err-walk_call-in-Call.ensures.call c.loop-p.frame in
-    rw (passed _ c.from_residual-in_err-walk_call-in-Call.ensures.1) (block_refused c.loop-p.invariant.rest c.block_end-stop.ensures _ T.inside (on_refused inner))
+    rw (passed _ c.from_residual-in_err-walk_call-in-Call.ensures.1)
+    (block_refused c.loop-p.invariant.rest c.block_end-stop.ensures _ T.inside (on_refused inner))
 
 pub walk_block-statement_end-requires : goal.walk_block-statement_end-requires
 walk_block-statement_end-requires t c =
@@ -185,7 +187,8 @@ walk_block-loop-p-preserved t c =
       | walk_block-in-Call+in_ok-walk_call-in-Call w ↦ gives_as w.frame-is w.free-is (on_inner (w.in_ok-walk_call-in-Call.ensures.call c.loop-p.frame))
       | walk_block-in-Gate w ↦ gives_as w.frame-is w.free-is (on_quiet (silent k w.in-Gate.is))
     ] in
-    goes_on c.requires c.block_end-stop.ensures c.loop-p.invariant c.loop-p-test.true (λ t. c.statement_end.ensures _ _ _ _ _ t.stands) c.skip-p-in-loop-p.ensures step
+    let ends = c.statement_end.ensures in
+    goes_on c.requires c.block_end-stop.ensures c.loop-p.invariant c.loop-p-test.true (λ t. ends _ _ _ _ _ t.stands) c.skip-p-in-loop-p.ensures step
 
 pub walk_block-returns : goal.walk_block-returns
 walk_block-returns t c =

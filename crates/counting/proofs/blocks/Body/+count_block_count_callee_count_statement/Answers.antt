@@ -5,7 +5,7 @@ use Rattle.rules.specs.Kinds.{byte_of}
 use Rattle.counting.proofs.Apart.{block_apart, byte_apart, if_apart, while_apart, call_apart}
 use Rattle.counting.proofs.Along.{along_start, along_next, along_step, along_end}
 use Rattle.counting.proofs.Exits.{fewer, callee_body, if_exit, while_exit, call_exit, op_exit, known_exit, counted_exit}
-use Rattle.counting.proofs.blocks.+count_block_count_callee_count_statement.Goals as goal
+use Rattle.counting.proofs.blocks.Body.+count_block_count_callee_count_statement.Goals as goal
 
 pub count_block-block_end-end-requires : goal.count_block-block_end-end-requires
 count_block-block_end-end-requires t c = let q = c.requires in let k = block_apart q.1.3 in (omega (arith, k.2, k.3), q.0.1.size)
@@ -53,8 +53,8 @@ count_callee-count_block-sum-requires t c =
 pub count_callee-returns-clause-found : goal.count_callee-returns-clause-found
 count_callee-returns-clause-found t c = counted_exit c.requires.0 c.head.ensures c.count_block-sum.ensures.found c.remember.ensures.noted
 
-pub count_statement-bounds-body-at : goal.count_statement-bounds-body-at
-count_statement-bounds-body-at t c = let b = byte_apart c.requires.1.3 in omega (arith, b)
+pub count_statement-bounds-self-at : goal.count_statement-bounds-self-at
+count_statement-bounds-self-at t c = let b = byte_apart c.requires.1.3 in omega (arith, b)
 
 pub count_statement-known-requires : goal.count_statement-known-requires
 count_statement-known-requires t c = let b = byte_apart c.requires.1.3 in (b.0, b.1)
@@ -81,8 +81,8 @@ count_statement-count_block-inside-requires t c =
     let k = while_apart q.1.3 (sym c.known.ensures ∙ ap byte_of c.in-While.is) in
     (omega (arith, b), (q.0, (_, k.0, q.1.2, k.1)))
 
-pub count_statement-bounds-body-at-in-Call : goal.count_statement-bounds-body-at-in-Call
-count_statement-bounds-body-at-in-Call t c =
+pub count_statement-bounds-self-at-in-Call : goal.count_statement-bounds-self-at-in-Call
+count_statement-bounds-self-at-in-Call t c =
     let q = c.requires in
     let b = byte_apart q.1.3 in
     let k = call_apart q.1.3 (sym c.known.ensures ∙ ap byte_of c.in-Call.is) in omega (arith, b, k.1)

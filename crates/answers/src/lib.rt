@@ -6,7 +6,8 @@ ghost use Rattle.answers.specs.Check.{refusal, in_file, number_of};
 
 use std::fmt;
 
-// The file that a place is in. A program is named by the job that it is for, 0 where it is read for no job.
+// The file that a place is in. A program is named by the job that it is for, 0 where it is read for no job. Neither that nor `NoFile` is an option: so say
+// `read_program_of` and `refusal` of the rules, and the calls for C have a code for each (`file_code`).
 #[derive(Clone, Copy, Debug, PartialEq, Eq)]
 pub enum File {
     NoFile,
@@ -62,6 +63,7 @@ pub enum Fault {
 }
 
 impl Fault {
+    // (A method and no `From`: its name says which number.)
     pub fn number(self) -> u8
         ensures { result ≡ number_of self }
     {
@@ -76,7 +78,8 @@ impl Fault {
     }
 }
 
-// The number is the document's, as every definition of the rules and the calls for C say it: so it stands here and not the fault.
+// The number is the document's, as every definition of the rules (`refusal`) and the calls for C (`packed_refusal`) say it: so it stands here and not
+// the fault.
 #[derive(Clone, Copy, Debug, PartialEq, Eq)]
 pub struct Refusal {
     pub number: u8,

@@ -9,6 +9,6 @@ use rules::device::DeviceHeader;
 pub struct DeviceFile<'a> {
     pub bytes: &'a [u8],
     pub header: DeviceHeader,
-    // they read as a device
+    // they read as a device; clauses say what holds of any device that they read as
     ghost reads: { ∥ ((D : Device) × Reads bytes.now header D) ∥₁ },
 }

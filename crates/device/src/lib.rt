@@ -25,6 +25,7 @@ pub fn read_device(s: &[u8]) -> Result<DeviceFile<'_>, Refusal>
     ensures said { file_said result ≡ within Device (device_read s.now) }
     ensures bytes { IfOk result (λ file. file.bytes.now ≡ s.now) }
 {
+    // no `map_err`: what is known of the header is not seen through its closure
     match read(s) {
         Ok(header) => Ok(DeviceFile { bytes: s, header }),
         Err(x) => Err(x.in_file(File::Device)),

@@ -14,6 +14,7 @@ pub fn put_block(out: &mut Writer, s: &[u8], at: usize, depth: usize) -> usize
 {
     let stop = block_end(s, at);
     let mut p = at + 2;
+    // no range counts this loop: each statement says where the next one stands
     while p < stop {
         p = put_statement(out, s, p, depth);
     }

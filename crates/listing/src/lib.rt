@@ -25,7 +25,8 @@ pub fn write_listing(s: &[u8], out: &mut [u8]) -> Result<usize, Refusal>
     write_read(&program, out)
 }
 
-// Of a program that was read. The pass over an empty buffer measures, so that nothing is written where the buffer is too short.
+// Of a program that was read. The pass over an empty buffer measures, so that nothing is written where the buffer is too short. (`unlisting` does so too;
+// what its pass answers may be a refusal.)
 fn write_read(program: &ReadProgram, out: &mut [u8]) -> Result<usize, Refusal>
     ensures { told result out.new ≡ write_listing_of program.now.bytes.now out.old }
 {

@@ -8,7 +8,8 @@ ghost use Rattle.listing.specs.Puts.{Puts};
 use crate::put::put;
 use rules::words::Word;
 
-// A buffer, and where the text in it ends. The buffer is lent, not held: no heap.
+// A buffer, and where the text in it ends. The buffer is lent, not held: no heap. No `fmt::Write`: that one may refuse, and this counts on past the
+// buffer's end.
 #[derive(Drop)]
 pub struct Writer<'a> {
     pub buffer: &'a mut [u8],

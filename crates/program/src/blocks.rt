@@ -38,6 +38,7 @@ pub fn read_block(
     }
     let end = first + len;
     let mut next = first;
+    // no range counts this loop: each statement says where the next one stands
     while next < end {
         next = read_statement(s, next, end, depths - 1, scope)?;
     }

@@ -17,6 +17,12 @@ pub struct Head {
     pub body: usize,
 }
 
+const NO_HEAD: Head = Head {
+    locations: 0,
+    arguments: 0,
+    body: 0,
+};
+
 // The heads of so many functions. No heap: a file has at most 15.
 #[derive(Clone, Copy)]
 pub struct FunctionTable {
@@ -28,14 +34,9 @@ impl FunctionTable {
     pub fn empty() -> Self
         ensures { result ≡ no_functions }
     {
-        let none = Head {
-            locations: 0,
-            arguments: 0,
-            body: 0,
-        };
         FunctionTable {
             count: 0,
-            heads: [none; 16],
+            heads: [NO_HEAD; 16],
         }
     }
 
@@ -48,19 +49,11 @@ impl FunctionTable {
         self.count += 1;
     }
 
-    // The head of function `g`, one of zeros where there is none.
+    // The head of function `g`, one of zeros where there is none: so the rules' `function` says, and `in_range` asks it of any first operand.
     pub fn head(&self, g: u8) -> Head
         ensures { result ≡ entry self.now g }
     {
-        if g < 16 {
-            self.heads[g as usize]
-        } else {
-            Head {
-                locations: 0,
-                arguments: 0,
-                body: 0,
-            }
-        }
+        self.heads.get(g as usize).copied().unwrap_or(NO_HEAD)
     }
 }
 

@@ -20,7 +20,7 @@ pub mod file;
 pub mod functions;
 pub mod operands;
 
-// What a file that reads has: its functions, and the place of main's length word.
+// What a file that reads has: its functions, and the place of main's length word. No `ReadProgram` yet: that has to show that the whole file reads.
 #[derive(Clone, Copy)]
 struct Parts {
     functions: FunctionTable,
@@ -33,6 +33,7 @@ pub fn read_program(s: &[u8], job: u8) -> Result<ReadProgram<'_>, Refusal>
     ensures tables { (p : Program) → read_program s.now ≡ ok p → IfOk result (λ r. Tabled p r.functions r.main) }
     ensures bytes { IfOk result (λ r. r.bytes.now ≡ s.now) }
 {
+    // no `map_err`: what is known of the parts is not seen through its closure
     match read_file(s) {
         Ok(parts) => Ok(ReadProgram {
             bytes: s,
@@ -51,7 +52,7 @@ fn read_file(s: &[u8]) -> Result<Parts, Refusal>
     read_bodies(s, header.functions)
 }
 
-// The file's own header: its length, mark, version and number of functions.
+// The file's own header: its length, mark, version and number of functions. Like a device's, but that 4 comes between 1 and 2, as in `head_of`.
 fn read_head(s: &[u8]) -> Result<ProgramHeader, Refusal>
     ensures { said result ≡ head_of s.now }
 {

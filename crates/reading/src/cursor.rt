@@ -16,7 +16,8 @@ pub enum Unread {
     Begun,
 }
 
-// The word at a position: none is left; it is unfinished; or it ends at a position. An option or a result says less than these three.
+// The word at a position: none is left; it is unfinished; or it ends at a position. An option or a result says less than these three. Who reads a word
+// matches on them: one function for all would take what begins and what is read as two closures.
 #[derive(Clone, Copy, Debug, PartialEq, Eq)]
 pub enum Next {
     Nothing,
@@ -63,7 +64,7 @@ impl Line<'_> {
         ensures blank { Blank self.now.text.now at self.now.end depth result }
     {
         let mut p = at;
-        for n in 0..2 * depth {
+        for _ in 0..2 * depth {
             match self.next_word(p) {
                 Next::To(to) if to == p => p = to + 1,
                 Next::Unfinished if p == self.end && lives => return Err(Begun),

@@ -17,14 +17,14 @@ pub enum Token {
 }
 
 impl Token {
-    // Its characters; those of a decimal are put into `room`.
+    // Its characters; those of a decimal are put into `room`, since there is no heap.
     fn letters(self, room: &mut [u8; 3]) -> &[u8]
         ensures { result.now ≡ spelling self }
     {
         match self {
             Token::Word(word) => word.letters(),
             Token::Decimal(n) => {
-                *room = [0x30 + n / 100, 0x30 + n / 10 % 10, 0x30 + n % 10];
+                *room = [b'0' + n / 100, b'0' + n / 10 % 10, b'0' + n % 10];
                 if n < 10 {
                     &room[2..]
                 } else if n < 100 {
@@ -50,7 +50,7 @@ pub fn line_end(text: &[u8], at: usize) -> usize
     ensures within { (at ≤ result) × (result ≤ length text.now) }
     ensures line_end { LineEnd text.now at result }
 {
-    at + until(&text[at..], 0x0A)
+    at + until(&text[at..], b'\n')
 }
 
 // Where the word at `at` ends: at the next space, or with the line.
@@ -59,7 +59,7 @@ pub fn word_end(text: &[u8], at: usize, end: usize) -> usize
     ensures within { (at ≤ result) × (result ≤ end) }
     ensures word_end { WordEnd text.now at end result }
 {
-    at + until(&text[at..end], 0x20)
+    at + until(&text[at..end], b' ')
 }
 
 // Whether what is written begins a word: its first characters, or all of them.
@@ -83,19 +83,19 @@ fn digit(c: u8) -> Option<usize>
     ensures { Digit c result }
 {
     match c {
-        0x30..=0x39 => Some((c - 0x30) as usize),
+        b'0'..=b'9' => Some((c - b'0') as usize),
         _ => None,
     }
 }
 
-// The number below 1,000 that is written, in decimal without leading zeros.
+// The number below 1,000 that is written, in decimal without leading zeros. (No `parse`: it takes a sign and leading zeros.)
 pub fn number(part: &[u8]) -> Option<usize>
     ensures { Numeral part.now result }
 {
     if part.is_empty() || 3 < part.len() {
         return None;
     }
-    if 1 < part.len() && part[0] == 0x30 {
+    if 1 < part.len() && part[0] == b'0' {
         return None; // a leading zero
     }
     let mut n = 0;
@@ -109,6 +109,7 @@ pub fn number(part: &[u8]) -> Option<usize>
 pub fn kind_named(part: &[u8]) -> Option<Kind>
     ensures { Named part.now result }
 {
+    // by the bytes and not over `KINDS`: that proof needs what stands at each place of it
     for byte in 1..14 {
         let kind = Kind::known(byte);
         if is_word(part, Token::Word(Word::Name(kind))) {
@@ -118,7 +119,7 @@ pub fn kind_named(part: &[u8]) -> Option<Kind>
     None
 }
 
-// The number of the gate or basis that is written.
+// The number of the gate or basis that is written: as above, over another table.
 fn gate(part: &[u8]) -> Option<usize>
     ensures gates { Valued Operand.Gate part.now result }
     ensures bases { Valued Operand.Basis part.now result }
@@ -142,7 +143,8 @@ pub fn value(part: &[u8], operand: Operand) -> Option<usize>
     }
 }
 
-// The word for operand `v`. A gate above the four has none, and no line asks for it.
+// The word for operand `v`. A gate above the four has none: no line asks for it, as callers go over numbers below how many words there are, so an option would
+// never be none.
 pub fn word_for(operand: Operand, v: u8) -> Token
     ensures { result ≡ token_for operand v }
 {

@@ -7,7 +7,7 @@ use sets::LocationSet;
 use sets::rows::Rows;
 use sets::words::Bits;
 
-// The locations that are left, and the level that comes next.
+// The locations that are left, and the level that comes next. The hops are lent beside it: with them it were no value that goes from word to word.
 #[derive(Clone, Copy)]
 pub struct Front {
     pub left: LocationSet,

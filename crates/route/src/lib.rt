@@ -28,7 +28,8 @@ pub enum NoRoute {
 }
 
 // How many edges the route from a to b through free locations has, if there is one. The levels of both ends grow in turn, until a new one of one end
-// meets what is joined to the newest of the other; a path has each location once, so no route has more than 255 edges.
+// meets what is joined to the newest of the other; a path has each location once, so no route has more than 255 edges. (`search` finds this number too, from
+// one end and with the hops, in twice the time.)
 pub fn distance(rows: &Rows, free: LocationSet, a: u8, b: u8) -> Option<u8>
     ensures { (R : Region) → RowsOf R rows.now → result ≡ edges_of (route R (has free) a b) }
 {

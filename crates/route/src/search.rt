@@ -10,7 +10,7 @@ use super::front::{Front, further, reach};
 use sets::LocationSet;
 use sets::rows::Rows;
 
-// How many edges the route has, if there is one. From the first end on the hops are the route.
+// How many edges the route has, if there is one. From the first end on the hops are the route. No heap: they are a byte for each location.
 pub fn search(rows: &Rows, free: LocationSet, a: u8, b: u8, hop: &mut [u8; 256]) -> Option<u8>
     ensures { (R : Region) → RowsOf R rows.now → route R (has free) a b ≡ followed hop.new a result }
 {

@@ -8,7 +8,8 @@ use super::joined::join_word;
 use sets::LocationSet;
 use sets::rows::Rows;
 
-// What is left after a turn, what the new level is joined to, and whether the level has any location.
+// What is left after a turn, what the new level is joined to, and whether the level has any location: a fact of the level, which as a case of its own would
+// be tested in each word.
 #[derive(Clone, Copy)]
 pub struct Turn {
     pub left: LocationSet,

@@ -129,7 +129,7 @@ impl Kind {
         1 + self.operands().len()
     }
 
-    // What operand number `i` is, from 1 on; nothing where there is none.
+    // What operand number `i` is, from 1 on. `Nothing` and no option where there is none: so say `operand_at` and `in_range` of the rules.
     pub fn operand(self, i: usize) -> Operand
         requires { 0 < i }
         ensures { result ≡ operand_at (byte_of self) i }

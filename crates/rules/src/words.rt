@@ -30,11 +30,7 @@ impl Word {
     pub fn gate(number: u8) -> Option<Word>
         ensures { result ≡ gate_word number }
     {
-        if number < 4 {
-            Some(GATES[number as usize])
-        } else {
-            None
-        }
+        GATES.get(number as usize).copied()
     }
 
     pub fn letters(self) -> &'static [u8]

@@ -6,7 +6,7 @@ ghost use Rattle.sets.specs.Sets.{has};
 
 use super::LocationSet;
 
-// Whether each of the bytes is in the set.
+// Whether each of the bytes is in the set. (`steps` asks the same of locations, which are no bytes.)
 pub fn all_in(bytes: &[u8], set: LocationSet) -> bool
     ensures { result ≡ list_all (has set) bytes.now }
 {
@@ -18,6 +18,7 @@ pub fn no_repeat(bytes: &[u8]) -> bool
     ensures { result ≡ all_apart bytes.now }
 {
     let mut later = LocationSet::empty();
+    // by index: what is yielded from the end is no rest of the list, which is what `all_apart` goes over
     for i in (0..bytes.len()).rev() {
         let b = bytes[i];
         if later.contains(b) {

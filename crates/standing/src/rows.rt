@@ -62,7 +62,7 @@ impl Standing {
         self.room(kind.size() + blocks) && (blocks == 0 || self.depth < ProgramHeader::DEEPEST)
     }
 
-    // How many words there are for an operand.
+    // How many words there are for an operand. (`in_range` of `program` says the same of an operand byte; the rules have both, each for its reader.)
     pub fn count(&self, operand: Operand) -> usize
         ensures value { result ≡ count_of self.now operand }
         ensures most { result ≤ 256 }
@@ -77,7 +77,8 @@ impl Standing {
         }
     }
 
-    // What an operand that is not written is, where the first of the statement is `first`; 0 for one that is written.
+    // What an operand that is not written is, where the first of the statement is `first`; 0 for one that is written: who calls has asked `is_silent`, so an
+    // option would be unwrapped, and never none.
     pub fn unwritten(&self, operand: Operand, first: usize) -> u8
         ensures { result ≡ unwritten_of self.now operand first }
     {
@@ -188,6 +189,7 @@ impl Standing {
         requires { 0 < n }
         ensures { result ≡ operand_begins self.now part.now (byte_of kind) n first }
     {
+        // no `any`: tried, and the closure's part does not close, with five variables in it
         for v in 0..self.count(kind.operand(n)) {
             if self.offers(part, kind, n, first, v as u8) {
                 return true;

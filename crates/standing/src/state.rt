@@ -35,7 +35,8 @@ pub enum Part {
     Main,
 }
 
-// What a listing has said so far. Which program the numbers mean is a clause of the reader's functions and no invariant here: `fresh` means none yet.
+// What a listing has said so far. Which program the numbers mean, and how large they are, are clauses of the reader's functions and no invariant here: the
+// steps below (`added` to `main`) take and give any numbers, and may ask no more. No heap: a program has at most 15 functions, and 8 blocks are open.
 #[derive(Clone, Copy)]
 pub struct Standing {
     pub part: Part,

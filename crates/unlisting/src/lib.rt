@@ -27,6 +27,7 @@ fn read_lines(text: &[u8], out: &mut [u8]) -> Result<usize, Refusal>
 {
     let mut at = 0;
     let mut c = Standing::fresh();
+    // no range counts this loop: a line begins where the one before it stops
     while at < text.len() {
         let line = line_at(text, at);
         match read_line(&line, at, &c, out) {
@@ -52,7 +53,7 @@ fn line_at(text: &[u8], at: usize) -> Line
     ensures stop { Stop text.now result.end result.stop }
 {
     let end = line_end(text, at);
-    let stop = if end < text.len() { end + 1 } else { end };
+    let stop = text.len().min(end + 1);
     Line { text, end, stop }
 }
 
@@ -67,8 +68,7 @@ fn no_line(place: usize) -> Refusal
 pub fn read_listing(text: &[u8], program: &mut [u8]) -> Result<usize, Refusal>
     ensures { told result program.new ≡ read_listing_of text.now program.old }
 {
-    let mut nowhere = [0; 0];
-    let n = read_lines(text, &mut nowhere)?;
+    let n = read_lines(text, &mut [])?;
     if program.len() < n {
         return Err(Fault::NoSpace.at(0));
     }

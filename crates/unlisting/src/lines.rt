@@ -123,9 +123,8 @@ fn top_line(line: &Line, at: usize, c: &Standing, out: &mut [u8]) -> Result<Stan
         return Err(Unread::Not);
     }
     match function_line(line, at, c, out) {
-        Ok(next) => Ok(next),
-        Err(Unread::Begun) => Err(Unread::Begun),
         Err(Unread::Not) => main_line(line, at, c, out),
+        read => read,
     }
 }
 

@@ -9,8 +9,6 @@ use Rattle.std.specs.Prelude.{Some, None}
 use Rattle.rules.specs.Syntax.{Side, device, Block, function, Program}
 use Rattle.program.specs.In.{ProgramIn, BlockIn, scope_of, main_scope}
 use Rattle.program.specs.Heads.{Tabled, entry}
-use Rattle.program.specs.Reading.{Reading}
-use Rattle.program.proofs.Whole.{whole}
 use Rattle.counting.specs.Counting.{Sizes, Counts}
 use Rattle.counting.specs.Below.{BlockBelow, Placed}
 use Rattle.counting.specs.Found.{Right, Found, BlockFound, nothing_known}
@@ -55,9 +53,9 @@ pub before_start : (b : Body) → Before b 0 nothing_known
 before_start b = record { known = λ p φ P Z. right_blank φ }
 
 -- what is asked of main's block, where its functions were counted
-pub main_asks : {b : Body} {f main : ℕ} {m : Memory} → IsMain b → Before b f m → Reading b.bytes.now b.functions.now main
+pub main_asks : {b : Body} {f main : ℕ} {m : Memory} → IsMain b → Before b f m → (p : Program) × ProgramIn b.bytes.now p × Tabled p b.functions.now main
     → ((p : Program) × Placed b p) × ((d : Side) × (x : Block d) × (q : ℕ) × BlockBelow b.bytes.now b.before main x q)
-main_asks {b} e k r = let w = whole r in ((_, placed b e w.stands w.tabled), (_, _, _, main_below b e w.stands w.tabled))
+main_asks {b} e k (p, P, T) = ((p, placed b e P T), (_, _, _, main_below b e P T))
 
 module _ {b : Body} {f : ℕ} {m m' : Memory} where
   pub before_step : {c : ℕ} → Before b f m → Found b (λ φ. φ f) m c m' → get_or m'.counts f None ≡ Some c → Before b (f + 1) m'

@@ -6,7 +6,7 @@ ghost use Rattle.counting.specs.Below.{StatementBelow, BlockBelow, Placed};
 ghost use Rattle.counting.specs.Found.{Found, BlockFound, StatementFound};
 
 use super::memory::Memory;
-use super::sums::{add, own_count};
+use super::sums::{MOST, add, own_count};
 use program::functions::FunctionTable;
 use rules::positions::{block_end, call_end};
 use rules::statements::Kind;
@@ -54,6 +54,7 @@ impl Body<'_> {
             × ((d : Side) × (x : Statement d) × (q : ℕ) × StatementBelow self.now.bytes.now self.now.before at x q) }
         ensures found { StatementFound self.now at memory.old result memory.new }
         ensures in_file { (at + 2 ≤ result.next) × (result.next ≤ length self.now.bytes.now) }
+        ensures capped { result.count ≤ 65536 }
     {
         match Kind::known(self.bytes[at]) {
             Kind::If => {
@@ -91,16 +92,19 @@ impl Body<'_> {
         requires { (f < self.now.before) × ((p : Program) × Placed self.now p) }
         ensures found { Found self.now (λ φ. φ f) memory.old result memory.new }
         ensures known { get_or memory.new.counts f None ≡ Some result }
+        ensures capped { result ≤ 65536 }
     {
-        if let Some(count) = memory.recall(f) {
-            return count;
+        match memory.recall(f) {
+            Some(count) if count <= MOST => count,
+            _ => {
+                let callee = Body {
+                    before: f as usize,
+                    ..*self
+                };
+                let sum = callee.count_block(self.functions.head(f).body, memory);
+                memory.remember(f, sum.count);
+                sum.count
+            }
         }
-        let callee = Body {
-            before: f as usize,
-            ..*self
-        };
-        let sum = callee.count_block(self.functions.head(f).body, memory);
-        memory.remember(f, sum.count);
-        sum.count
     }
 }

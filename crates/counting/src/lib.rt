@@ -9,7 +9,7 @@ ghost use Rattle.counting.specs.Counting.{Sizes, Counts};
 
 use blocks::Body;
 use memory::Memory;
-use program::file::ReadProgram;
+use program::functions::FunctionTable;
 
 mod blocks;
 mod memory;
@@ -24,21 +24,22 @@ pub struct Counted {
 
 // The counts of all functions and of main. The functions come first, in their order, so that every callee is remembered when its caller is counted and
 // the calls of the count do not nest from function to function.
-pub fn count_program(program: &ReadProgram) -> Counted
-    ensures counts { (p : Program) → ProgramIn program.now.bytes.now p → Tabled p program.now.functions program.now.main
-        → (φ : ℕ → ℕ) → Sizes p φ → Counts p φ result }
+// (No `ReadProgram`: a program that stands in the bytes is less than one that they read as.)
+pub fn count_program(s: &[u8], functions: &FunctionTable, main: usize) -> Counted
+    requires { (p : Program) × ProgramIn s.now p × Tabled p functions.now main }
+    ensures counts { (p : Program) → ProgramIn s.now p → Tabled p functions.now main → (φ : ℕ → ℕ) → Sizes p φ → Counts p φ result }
     ensures main_bound { result.main ≤ 65536 }
 {
-    let main = Body {
-        bytes: program.bytes,
-        functions: &program.functions,
-        before: program.functions.count,
+    let body = Body {
+        bytes: s,
+        functions,
+        before: functions.count,
     };
     let mut memory = Memory::blank();
-    for f in 0..program.functions.count as u8 {
-        main.count_callee(f, &mut memory);
+    for f in 0..functions.count as u8 {
+        body.count_callee(f, &mut memory);
     }
-    let sum = main.count_block(program.main, &mut memory);
+    let sum = body.count_block(main, &mut memory);
     Counted {
         main: sum.count,
         functions: memory.counts,

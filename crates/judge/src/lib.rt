@@ -27,12 +27,13 @@ pub fn judge(program: &ReadProgram<'_>, rows: &Rows, owned: LocationSet) -> Resu
     ensures { (p : Program) → read_program program.now.bytes.now ≡ ok p → Tabled p program.now.functions program.now.main
         → (R : Region) → Owned R owned → RowsOf R rows.now → said result ≡ judged R p }
 {
-    let live = type_program(program, owned)?;
-    let counted = count_program(program);
+    let (s, functions, main) = (program.bytes, &program.functions, program.main);
+    let live = type_program(s, functions, main, owned)?;
+    let counted = count_program(s, functions, main);
     if MOST_COMMANDS < counted.main {
         return Err(Fault::TooManyCommands.at(0));
     }
-    walk_program(program, &counted.functions, rows, owned)?;
+    walk_program(s, functions, main, &counted.functions, rows, owned)?;
     Ok(Counted {
         count: counted.main,
         live,

@@ -13,7 +13,7 @@ use super::endings::Endings;
 use super::env::Env;
 use super::slots::Slot;
 use answers::Refusal;
-use program::file::ReadProgram;
+use program::functions::FunctionTable;
 use rules::place::SlotNumber;
 use sets::LocationSet;
 
@@ -41,15 +41,16 @@ fn entered(k: u8, m: u8) -> Env
 }
 
 // What the functions end with, or the first refusal in them.
-pub fn type_functions(program: &ReadProgram) -> Result<Endings, Refusal>
-    ensures { (p : Program) → ProgramIn program.now.bytes.now p → Heads p.functions program.now.functions
+pub fn type_functions(s: &[u8], functions: &FunctionTable) -> Result<Endings, Refusal>
+    requires { (p : Program) × ProgramIn s.now p × Heads p.functions functions.now }
+    ensures { (p : Program) → ProgramIn s.now p → Heads p.functions functions.now
         → Learns p.functions (type_functions [] p.functions) result }
 {
     let mut endings = Endings::new();
-    for f in 0..program.functions.count as u8 {
-        let head = program.functions.head(f);
+    for f in 0..functions.count as u8 {
+        let head = functions.head(f);
         let body = Body {
-            bytes: program.bytes,
+            bytes: s,
             endings,
             inside: first(head.locations),
         };

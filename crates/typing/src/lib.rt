@@ -14,7 +14,7 @@ use answers::Refusal;
 use body::Body;
 use env::Env;
 use functions::type_functions;
-use program::file::ReadProgram;
+use program::functions::FunctionTable;
 use sets::LocationSet;
 
 mod blocks;
@@ -30,16 +30,23 @@ mod slots;
 
 // The functions, each by those before it, then main with all of the job's own locations free: the number of qubits left live, since main's own block
 // may end with some.
-pub fn type_program(program: &ReadProgram, owned: LocationSet) -> Result<usize, Refusal>
-    ensures { (p : Program) → ProgramIn program.now.bytes.now p → Tabled p program.now.functions program.now.main
-        → (R : Region) → Owned R owned → said result ≡ typing R.owned p }
+// (No `ReadProgram`: a program that stands in the bytes is less than one that they read as.)
+pub fn type_program(
+    s: &[u8],
+    functions: &FunctionTable,
+    main: usize,
+    owned: LocationSet,
+) -> Result<usize, Refusal>
+    requires { (p : Program) × ProgramIn s.now p × Tabled p functions.now main }
+    ensures { (p : Program) → ProgramIn s.now p → Tabled p functions.now main → (R : Region) → Owned R owned
+        → said result ≡ typing R.owned p }
 {
-    let endings = type_functions(program)?;
+    let endings = type_functions(s, functions)?;
     let body = Body {
-        bytes: program.bytes,
+        bytes: s,
         endings,
         inside: owned,
     };
-    let typed = body.type_statements(Env::new(owned), program.main)?;
+    let typed = body.type_statements(Env::new(owned), main)?;
     Ok(typed.env.live())
 }

@@ -15,7 +15,7 @@ ghost use Rattle.program.specs.Heads.{Tabled};
 
 use answers::{Fault, Refusal};
 use body::Body;
-use program::file::ReadProgram;
+use program::functions::FunctionTable;
 use quiet::Quiet;
 use sets::LocationSet;
 use sets::rows::Rows;
@@ -27,32 +27,36 @@ mod quiet;
 mod walk;
 
 // Walks a typed program, with the command counts of its functions: all of the region's locations are free.
+// (No `ReadProgram`: a program that stands in the bytes is less than one that they read as.)
 pub fn walk_program(
-    program: &ReadProgram,
+    s: &[u8],
+    functions: &FunctionTable,
+    main: usize,
     counts: &[Option<usize>; 16],
     rows: &Rows,
     owned: LocationSet,
 ) -> Result<(), Refusal>
+    requires { (p : Program) × ProgramIn s.now p × Tabled p functions.now main }
     ensures { (p : Program) (R : Region) (d : Typed device) (e : Derives R.owned p d)
-        → ProgramIn program.now.bytes.now p → Tabled p program.now.functions program.now.main → Owned R owned → RowsOf R rows.now
+        → ProgramIn s.now p → Tabled p functions.now main → Owned R owned → RowsOf R rows.now
         → ((f : ℕ) → f < length p.functions → get_or counts.now f None ≡ Some 0 → size_of (signature e.signatures f).commands ≡ 0)
         → said result ≡ (walk R R.owned d.commands then ok tt) }
 {
     let mut quiet = Quiet { ends: [0; 4096] };
-    quiet.mark(program.bytes, counts);
+    quiet.mark(s, counts);
     let walk = Walk {
-        bytes: program.bytes,
-        functions: &program.functions,
+        bytes: s,
+        functions,
         quiet: &quiet,
         rows,
     };
-    let main = Body {
-        before: program.functions.count,
+    let body = Body {
+        before: functions.count,
         names: None,
     };
     let mut frame = [0; 32];
     let mut free = owned;
-    match walk.walk_block(&main, program.main, &mut frame, &mut free) {
+    match walk.walk_block(&body, main, &mut frame, &mut free) {
         Ok(()) => Ok(()),
         Err(merge) => Err(Fault::NoPath.at(merge.place)),
     }

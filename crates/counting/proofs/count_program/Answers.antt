@@ -1,5 +1,4 @@
 use mathlib.Core.Path.{refl}
-use Rattle.program.proofs.Whole.{whole}
 use Rattle.counting.proofs.Whole.{placed, main_asks, before_start, before_step, program_exit}
 use Rattle.counting.proofs.count_program.Goals as goal
 
@@ -7,13 +6,13 @@ pub loop-f-init : goal.loop-f-init
 loop-f-init c = rw c.blank-memory.ensures (before_start _)
 
 pub count_callee-requires : goal.count_callee-requires
-count_callee-requires c = let w = whole c.args.program.now.reading in (c.loop-f-test.true, (_, placed _ refl w.stands w.tabled))
+count_callee-requires c = let (p, P, T) = c.requires in (c.loop-f-test.true, (p, placed _ refl P T))
 
 pub loop-f-preserved : goal.loop-f-preserved
 loop-f-preserved c = before_step c.loop-f.invariant c.count_callee.ensures.found c.count_callee.ensures.known
 
 pub count_block-sum-requires : goal.count_block-sum-requires
-count_block-sum-requires c = main_asks refl c.loop-f.invariant c.args.program.now.reading
+count_block-sum-requires c = main_asks refl c.loop-f.invariant c.requires
 
 pub returns : goal.returns
 returns c =

@@ -3,4 +3,4 @@ use Rattle.counting.proofs.Whole.{Before}
 use Rattle.counting.proofs.count_program.Given as goal
 
 abbrev pub invariant-loop-f : goal.invariant-loop-f
-invariant-loop-f l = Before l.main l.f l.memory
+invariant-loop-f l = Before l.body l.f l.memory

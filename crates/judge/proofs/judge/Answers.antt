@@ -4,8 +4,18 @@ use native.Mathlib.Omega.{arith}
 use Rattle.answers.specs.Check.{refused}
 use Rattle.answers.proofs.Passed.{passed_on}
 use Rattle.program.proofs.In.{program_in}
+use Rattle.program.proofs.Whole.{whole}
 use Rattle.judge.proofs.Judged.{not_typed, judgeable, sizes, sizes_fit, no_commands, too_many, no_path, accepted}
 use Rattle.judge.proofs.judge.Goals as goal
+
+pub type_program-requires : goal.type_program-requires
+type_program-requires c = let w = whole c.args.program.now.reading in (w.it, w.stands, w.tabled)
+
+pub count_program-counted-requires : goal.count_program-counted-requires
+count_program-counted-requires c = let w = whole c.args.program.now.reading in (w.it, w.stands, w.tabled)
+
+pub walk_program-requires : goal.walk_program-requires
+walk_program-requires c = let w = whole c.args.program.now.reading in (w.it, w.stands, w.tabled)
 
 pub returns-in_err-live : goal.returns-in_err-live
 returns-in_err-live c p e t R O W =

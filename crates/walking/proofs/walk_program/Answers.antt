@@ -1,15 +1,14 @@
 -- The walk over a program: that over main's block, with all of the region's locations free, and the table of quiet runs made before.
 use mathlib.Core.Path.{refl, ap, ◌∙◌}
 use Rattle.answers.specs.Check.{refused, ◌>>◌}
-use Rattle.program.proofs.Whole.{whole}
 use Rattle.walking.proofs.Main.{main_block, main_walked}
 use Rattle.walking.proofs.walk_program.Goals as goal
 
 pub mark-requires : goal.mark-requires
-mark-requires c = (whole c.args.program.now.reading).stands.size
+mark-requires c = let (p, P, T) = c.requires in P.size
 
 pub walk_block-requires : goal.walk_block-requires
-walk_block-requires c = let p = whole c.args.program.now.reading in main_block _ refl c.mark.ensures p.stands p.tabled
+walk_block-requires c = let (p, P, T) = c.requires in main_block _ refl c.mark.ensures P T
 
 pub returns-in-Ok : goal.returns-in-Ok
 unfolding ◌>>◌

@@ -6,4 +6,4 @@ use Rattle.typing.proofs.FunctionTypes.{Upto}
 use Rattle.typing.proofs.functions.type_functions.Given as goal
 
 abbrev pub invariant-loop-f : goal.invariant-loop-f
-invariant-loop-f l = (p : Program) → ProgramIn l.program.bytes.now p → Heads p.functions l.program.functions → Upto p.functions l.f l.endings
+invariant-loop-f l = (p : Program) → ProgramIn l.s p → Heads p.functions l.functions → Upto p.functions l.f l.endings

@@ -41,7 +41,7 @@ pub count_callee-recall-requires : goal.count_callee-recall-requires
 count_callee-recall-requires t c = let P = c.requires.1.1 in omega (arith, c.requires.0, P.enough, P.few)
 
 pub count_callee-returns-in-Some : goal.count_callee-returns-in-Some
-count_callee-returns-in-Some t c = let e = sym c.recall.ensures ∙ c.in-Some.is in record { found = known_exit e; known = e }
+count_callee-returns-in-Some t c = let e = sym c.recall.ensures ∙ c.in-Some.is in record { found = known_exit e; known = e; capped = c.if-count-le-MOST.true }
 
 pub count_callee-count_block-sum-requires : goal.count_callee-count_block-sum-requires
 count_callee-count_block-sum-requires t c =
@@ -50,8 +50,8 @@ count_callee-count_block-sum-requires t c =
     let w = callee_body P (omega (arith, l, P.enough)) c.head.ensures in
     (omega (arith, l), ((_, fewer _ (omega (arith, l)) P), (_, _, w.0, w.1)))
 
-pub count_callee-returns-clause-found : goal.count_callee-returns-clause-found
-count_callee-returns-clause-found t c = counted_exit c.requires.0 c.head.ensures c.count_block-sum.ensures.found c.remember.ensures.noted
+pub count_callee-returns-in_default-clause-found : goal.count_callee-returns-in_default-clause-found
+count_callee-returns-in_default-clause-found t c = counted_exit c.requires.0 c.head.ensures c.count_block-sum.ensures.found c.remember.ensures.noted
 
 pub count_statement-bounds-self-at : goal.count_statement-bounds-self-at
 count_statement-bounds-self-at t c = let b = byte_apart c.requires.1.3 in omega (arith, b)
@@ -117,7 +117,7 @@ count_statement-returns-in-Call t c =
     let e = sym c.known.ensures ∙ ap byte_of c.in-Call.is in
     let k = call_apart c.requires.1.3 e in
     let n = c.call_end.ensures in
-    record { found = call_exit e c.count_callee.ensures.found n; in_file = (omega (arith, n), omega (arith, n, b, k.1)) }
+    record { found = call_exit e c.count_callee.ensures.found n; in_file = (omega (arith, n), omega (arith, n, b, k.1)); capped = c.count_callee.ensures.capped }
 
 pub count_statement-returns-in_default : goal.count_statement-returns-in_default
 count_statement-returns-in_default t c =
@@ -125,4 +125,4 @@ count_statement-returns-in_default t c =
     let b = byte_apart q.1.3 in
     let n = c.in_default in
     let found = op_exit _ c.known.ensures n.not-If n.not-While n.not-Call c.own_count.ensures.0 c.own_count.ensures.1 c.size.ensures.value in
-    record { found = found; in_file = (omega (arith, c.size.ensures.between), omega (arith, b, (found.statement _ q.1.1 q.1.2 q.1.3).0)) }
+    record { found = found; in_file = (omega (arith, c.size.ensures.between), omega (arith, b, (found.statement _ q.1.1 q.1.2 q.1.3).0)); capped = omega (arith, c.own_count.ensures.1) }

@@ -14,3 +14,4 @@ pub mod Perform
 pub mod Returning
 pub mod Seen
 pub mod Stand
+pub mod Unique

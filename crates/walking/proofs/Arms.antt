@@ -57,11 +57,6 @@ unfolding walk_statement
 as_op t R W σ st a e = ap (λ (x : Statement t.side). walk_statement R W σ x st) e
 
 module _ {w : Walk} {g : ℕ} {n : Names} {p : ℕ} {f : List ℕ} {F : LocationSet} where
-  -- with a frame and a set that are equal to those
-  pub gives_as : {f' f'' : List ℕ} {F' F'' : LocationSet} → f' ≡ f'' → F' ≡ F'' → Gives w g n p f F (ok (standing f'' F''))
-      → Gives w g n p f F (ok (standing f' F'))
-  gives_as e d h = rw (e, d) h
-
   -- an init: its slot has its qubit at l, which is no longer free
   pub on_init : {l : ℕ} (G : LocationSet) → byte w.bytes.now p < 3 → length f ≡ 32 → l ≡ named n (byte w.bytes.now (p + 2))
       → ((y : ℕ) → has G y ≡ (not (eqb y l) && has F y)) → Gives w g n p f F (ok (standing (set f (byte w.bytes.now (p + 1)) l) G))

@@ -4,7 +4,7 @@ use mathlib.Core.List.{List}
 use mathlib.Core.Path.{◌≡◌, sym, subst}
 use native.Mathlib.Decide.{dec_lt}
 use native.Mathlib.Omega.{arith}
-use Prim.Native.Nat.{ℕ, ◌+◌, ◌<◌, ◌≤◌}
+use Prim.Native.Nat.{ℕ, ◌+◌, ◌-◌, ◌<◌, ◌≤◌}
 use Rattle.rules.specs.Basics.{word}
 use Rattle.sets.specs.declared.LocationSet.{LocationSet}
 use Rattle.program.proofs.In.{statement_view, statements_next}
@@ -15,7 +15,7 @@ use Rattle.walking.specs.Stands.{standing, BlockAt, StatementAt, StatementsAt}
 use Rattle.answers.specs.Check.{ok}
 use Rattle.walking.proofs.Views.{view_size, view_call}
 use Rattle.walking.proofs.QuietLaws.{run_rises, stepped_bounds}
-use Rattle.walking.proofs.Steps.{Gives, statements_of, Left, left_on, statement_in, Rest, rest_start, rest_on, Loop, turn}
+use Rattle.walking.proofs.Steps.{Gives, statements_of, Left, left_on, statement_in, Rest, rest_start, rest_on, Loop, Turn}
 use Rattle.walking.proofs.Arms.{on_quiet}
 use Rattle.walking.proofs.Inner.{call_quiet}
 
@@ -61,13 +61,22 @@ loop_starts b e k =
     let l = run_bounds b e k (omega (arith, e)) in
     record { starts = l.0; inside = l.1; rest = rest_run k (omega (arith, e)) (rest_start _ _ _ _ _ _ _) }
 
--- what a turn does, and the step after it: the walk goes on behind the statement at p, which every statement there lets it do
+-- The step behind the statement that a turn is at, and what the turn does: the walk goes on there, which every statement at p lets it do.
+module _ {w : Walk} {g : ℕ} {n : Names} {p q stop r : ℕ} (T : Turn w g n p stop) (ends : (t : StatementAt w g n p) → q ≡ t.next)
+    (k : Steps w.quiet.now.ends q stop r) where
+  step_bounds : (q ≤ stop) × (p < r) × (r ≤ stop)
+  step_bounds =
+      let a = ends T.here in
+      let c = stepped_bounds (k.steps w.bytes.now T.here.counts T.within T.here.body.table) (omega (arith, a, T.fits)) in
+      (omega (arith, a, T.fits), omega (arith, a, T.further, c.0), c.1)
+
+  -- less is left of the block
+  pub further : stop - r < stop - p
+  further = omega (arith, step_bounds.1, step_bounds.2)
+
 pub goes_on : {w : Walk} {g : ℕ} {n : Names} {at stop : ℕ} {f₀ : List ℕ} {F₀ : LocationSet} {p q r : ℕ} {f f' : List ℕ} {F F' : LocationSet}
-    → BlockAt w g n at → stop ≡ at + 2 + word w.bytes.now at → Loop w g n at stop f₀ F₀ p f F → (p ≡ stop → ⊥)
-    → ((t : StatementAt w g n p) → q ≡ t.next) → Steps w.quiet.now.ends q stop r → Gives w g n p f F (ok (standing f' F'))
-    → Loop w g n at stop f₀ F₀ r f' F'
-goes_on b e L d ends k h =
-    let T = turn b e L d in
-    let a = ends T.here in
-    let c = run_bounds b e k (omega (arith, a, T.fits)) in
-    record { starts = omega (arith, L.starts, a, T.further, c.0); inside = c.1; rest = rest_run k (omega (arith, a, T.fits)) (rest_on L.rest T.inside ends h) }
+    → Loop w g n at stop f₀ F₀ p f F → Turn w g n p stop → ((t : StatementAt w g n p) → q ≡ t.next) → Steps w.quiet.now.ends q stop r
+    → Gives w g n p f F (ok (standing f' F')) → Loop w g n at stop f₀ F₀ r f' F'
+goes_on L T ends k h =
+    let c = step_bounds T ends k in
+    record { starts = omega (arith, L.starts, c.1); inside = c.2; rest = rest_run k c.0 (rest_on L.rest T.inside ends h) }

@@ -58,6 +58,8 @@ impl Walk<'_> {
         let mut p = self.quiet.skip(at + 2, stop);
         while p != stop {
             let kind = Kind::known(self.bytes[p]);
+            // before the rest: to find it after a callee returns takes longer
+            let next = self.quiet.skip(statement_end(self.bytes, p, kind), stop);
             match kind {
                 Kind::Init | Kind::Magic => {
                     let location = body.location_of(self.bytes[p + 2]);
@@ -78,7 +80,7 @@ impl Walk<'_> {
                 // a quiet one is met where it ends the file
                 Kind::Gate | Kind::Measure | Kind::Ref | Kind::Get | Kind::Set | Kind::Bool => {}
             }
-            p = self.quiet.skip(statement_end(self.bytes, p, kind), stop);
+            p = next;
         }
         Ok(())
     }

@@ -2,26 +2,20 @@
 -- that may be there. The inner walks are of the blocks that the statement has, or of its callee's body.
 use native.Mathlib.Omega.{arith}
 use mathlib.Core.Bool.{false}
-use mathlib.Core.Path.{refl, sym, ap, ◌∙◌}
-use lib.ListN.{length, length-set}
+use mathlib.Core.Path.{refl, sym, ◌∙◌}
+use lib.ListN.{length-set}
 use Rattle.program.proofs.In.{statement_view}
 use Rattle.walking.specs.Names.{names_of}
 use Rattle.walking.proofs.Bytes.{byte_as, init_byte, silent}
 use Rattle.walking.proofs.NameLaws.{none_placed}
 use Rattle.walking.proofs.Views.{view_init, view_free, view_merge, view_call}
-use Rattle.walking.specs.Stands.{standing}
-use Rattle.answers.specs.Check.{ok}
-use Rattle.walking.proofs.Steps.{Gives, block_refused, block_ended, turn, block_bounds, statement_bounds, statement_kind, place_room}
-use Rattle.walking.proofs.Arms.{gives_as, on_init, on_free, on_merge, on_quiet, on_inner, on_refused}
+use Rattle.walking.proofs.Steps.{block_refused, block_ended, turn, block_bounds, statement_bounds, statement_kind, place_room}
+use Rattle.walking.proofs.Arms.{on_init, on_free, on_merge, on_quiet, on_inner, on_refused}
 use Rattle.walking.proofs.Inner.{passed, Entered, then_block, else_block, loop_block, if_walked, if_refused, while_walked, callee_known, callee_block}
 use Rattle.walking.proofs.Inner.{call_walked}
 use Rattle.walking.proofs.Ends.{if_ends}
-use Rattle.walking.proofs.QuietRuns.{loop_starts, run_bounds, goes_on}
+use Rattle.walking.proofs.QuietRuns.{loop_starts, further, goes_on}
 use Rattle.walking.proofs.walk.Walk.+walk_block_walk_call_walk_if_walk_while.Goals as goal
-use Rattle.walking.proofs.walk.Walk.+walk_block_walk_call_walk_if_walk_while.Goals.{walk_block-in-Init, walk_block-in-Free, walk_block-in-Merge+else-no_path}
-use Rattle.walking.proofs.walk.Walk.+walk_block_walk_call_walk_if_walk_while.Goals.{walk_block-in-If+in_ok-walk_if-in-If}
-use Rattle.walking.proofs.walk.Walk.+walk_block_walk_call_walk_if_walk_while.Goals.{walk_block-in-While+in_ok-walk_while-in-While}
-use Rattle.walking.proofs.walk.Walk.+walk_block_walk_call_walk_if_walk_while.Goals.{walk_block-in-Call+in_ok-walk_call-in-Call, walk_block-in-Gate}
 
 pub walk_block-block_end-stop-requires : goal.walk_block-block_end-stop-requires
 walk_block-block_end-stop-requires t c =
@@ -154,41 +148,97 @@ walk_block-statement_end-requires t c =
     let T = turn c.requires c.block_end-stop.ensures c.loop-p.invariant c.loop-p-test.true in
     (T.size, c.known-kind.ensures, (_, _, _, _, _, T.here.stands))
 
-pub walk_block-skip-p-requires-in-loop-p : goal.walk_block-skip-p-requires-in-loop-p
-walk_block-skip-p-requires-in-loop-p t c =
+pub walk_block-skip-next-requires : goal.walk_block-skip-next-requires
+walk_block-skip-next-requires t c =
     let T = turn c.requires c.block_end-stop.ensures c.loop-p.invariant c.loop-p-test.true in
     let e = c.statement_end.ensures _ _ _ _ _ T.here.stands in
     (omega (arith, e, T.fits), omega (arith, T.within, T.size))
 
+-- However the statement at p is walked, it lets the walk on, behind it.
+pub walk_block-loop-p-smaller-in-Init : goal.walk_block-loop-p-smaller-in-Init
+walk_block-loop-p-smaller-in-Init t c =
+    let T = turn c.requires c.block_end-stop.ensures c.loop-p.invariant c.loop-p-test.true in
+    further T (λ t. c.statement_end.ensures _ _ _ _ _ t.stands) c.skip-next.ensures
+
+pub walk_block-loop-p-preserved-in-Init : goal.walk_block-loop-p-preserved-in-Init
+walk_block-loop-p-preserved-in-Init t c =
+    let T = turn c.requires c.block_end-stop.ensures c.loop-p.invariant c.loop-p-test.true in
+    let ends = c.statement_end.ensures in
+    goes_on c.loop-p.invariant T (λ t. ends _ _ _ _ _ t.stands) c.skip-next.ensures
+    (on_init _ (init_byte c.known-kind.ensures c.in-Init.is)
+    (sym (length-set c.loop-p.frame _ _) ∙ c.erase.array_long) c.location_of-location.ensures c.erase.ensures)
+
+pub walk_block-loop-p-smaller-in-Free : goal.walk_block-loop-p-smaller-in-Free
+walk_block-loop-p-smaller-in-Free t c =
+    let T = turn c.requires c.block_end-stop.ensures c.loop-p.invariant c.loop-p-test.true in
+    further T (λ t. c.statement_end.ensures _ _ _ _ _ t.stands) c.skip-next.ensures
+
+pub walk_block-loop-p-preserved-in-Free : goal.walk_block-loop-p-preserved-in-Free
+walk_block-loop-p-preserved-in-Free t c =
+    let T = turn c.requires c.block_end-stop.ensures c.loop-p.invariant c.loop-p-test.true in
+    let ends = c.statement_end.ensures in
+    goes_on c.loop-p.invariant T (λ t. ends _ _ _ _ _ t.stands) c.skip-next.ensures
+    (on_free _ (byte_as c.known-kind.ensures c.in-Free.is) c.insert.ensures)
+
+pub walk_block-loop-p-smaller-else-no_path : goal.walk_block-loop-p-smaller-else-no_path
+walk_block-loop-p-smaller-else-no_path t c =
+    let T = turn c.requires c.block_end-stop.ensures c.loop-p.invariant c.loop-p-test.true in
+    further T (λ t. c.statement_end.ensures _ _ _ _ _ t.stands) c.skip-next.ensures
+
+pub walk_block-loop-p-preserved-else-no_path : goal.walk_block-loop-p-preserved-else-no_path
+walk_block-loop-p-preserved-else-no_path t c =
+    let T = turn c.requires c.block_end-stop.ensures c.loop-p.invariant c.loop-p-test.true in
+    let ends = c.statement_end.ensures in
+    goes_on c.loop-p.invariant T (λ t. ends _ _ _ _ _ t.stands) c.skip-next.ensures
+    (on_merge (byte_as c.known-kind.ensures c.in-Merge.is) (λ R o. sym (c.no_path.ensures R o) ∙ c.if-no_path.false))
+
+pub walk_block-loop-p-smaller-in_ok-walk_if-in-If : goal.walk_block-loop-p-smaller-in_ok-walk_if-in-If
+walk_block-loop-p-smaller-in_ok-walk_if-in-If t c =
+    let T = turn c.requires c.block_end-stop.ensures c.loop-p.invariant c.loop-p-test.true in
+    further T (λ t. c.statement_end.ensures _ _ _ _ _ t.stands) c.skip-next.ensures
+
+pub walk_block-loop-p-preserved-in_ok-walk_if-in-If : goal.walk_block-loop-p-preserved-in_ok-walk_if-in-If
+walk_block-loop-p-preserved-in_ok-walk_if-in-If t c =
+    let T = turn c.requires c.block_end-stop.ensures c.loop-p.invariant c.loop-p-test.true in
+    let ends = c.statement_end.ensures in
+    goes_on c.loop-p.invariant T (λ t. ends _ _ _ _ _ t.stands) c.skip-next.ensures
+    (on_inner c.in_ok-walk_if-in-If.ensures)
+
+pub walk_block-loop-p-smaller-in_ok-walk_while-in-While : goal.walk_block-loop-p-smaller-in_ok-walk_while-in-While
+walk_block-loop-p-smaller-in_ok-walk_while-in-While t c =
+    let T = turn c.requires c.block_end-stop.ensures c.loop-p.invariant c.loop-p-test.true in
+    further T (λ t. c.statement_end.ensures _ _ _ _ _ t.stands) c.skip-next.ensures
+
+pub walk_block-loop-p-preserved-in_ok-walk_while-in-While : goal.walk_block-loop-p-preserved-in_ok-walk_while-in-While
+walk_block-loop-p-preserved-in_ok-walk_while-in-While t c =
+    let T = turn c.requires c.block_end-stop.ensures c.loop-p.invariant c.loop-p-test.true in
+    let ends = c.statement_end.ensures in
+    goes_on c.loop-p.invariant T (λ t. ends _ _ _ _ _ t.stands) c.skip-next.ensures
+    (on_inner c.in_ok-walk_while-in-While.ensures)
+
+pub walk_block-loop-p-smaller-in_ok-walk_call-in-Call : goal.walk_block-loop-p-smaller-in_ok-walk_call-in-Call
+walk_block-loop-p-smaller-in_ok-walk_call-in-Call t c =
+    let T = turn c.requires c.block_end-stop.ensures c.loop-p.invariant c.loop-p-test.true in
+    further T (λ t. c.statement_end.ensures _ _ _ _ _ t.stands) c.skip-next.ensures
+
+pub walk_block-loop-p-preserved-in_ok-walk_call-in-Call : goal.walk_block-loop-p-preserved-in_ok-walk_call-in-Call
+walk_block-loop-p-preserved-in_ok-walk_call-in-Call t c =
+    let T = turn c.requires c.block_end-stop.ensures c.loop-p.invariant c.loop-p-test.true in
+    let ends = c.statement_end.ensures in
+    goes_on c.loop-p.invariant T (λ t. ends _ _ _ _ _ t.stands) c.skip-next.ensures
+    (on_inner (c.in_ok-walk_call-in-Call.ensures.call c.loop-p.frame))
+
 pub walk_block-loop-p-smaller : goal.walk_block-loop-p-smaller
 walk_block-loop-p-smaller t c =
     let T = turn c.requires c.block_end-stop.ensures c.loop-p.invariant c.loop-p-test.true in
-    let e = c.statement_end.ensures _ _ _ _ _ T.here.stands in
-    let k = run_bounds c.requires c.block_end-stop.ensures c.skip-p-in-loop-p.ensures (omega (arith, e, T.fits)) in
-    omega (arith, e, T.further, k)
+    further T (λ t. c.statement_end.ensures _ _ _ _ _ t.stands) c.skip-next.ensures
 
--- however the statement at p was walked, it lets the walk on
 pub walk_block-loop-p-preserved : goal.walk_block-loop-p-preserved
 walk_block-loop-p-preserved t c =
-    let k = c.known-kind.ensures in
-    let m = c.match-kind in
-    let long = m.array_long in
-    let step
-    : Gives c.args.self.now c.args.body.now.before (names_of c.args.body.now) c.loop-p.p c.loop-p.frame c.loop-p.free (ok (standing m.frame m.free))
-    = elim m.branch [
-      | walk_block-in-Init w ↦
-          let long = sym (length-set c.loop-p.frame _ _) ∙ ap length (sym w.frame-is) ∙ long in
-          gives_as w.frame-is w.free-is (on_init _ (init_byte k w.in-Init.is) long w.location_of-location.ensures w.erase.ensures)
-      | walk_block-in-Free w ↦ gives_as w.frame-is w.free-is (on_free _ (byte_as k w.in-Free.is) w.insert.ensures)
-      | walk_block-in-Merge+else-no_path w ↦
-          gives_as w.frame-is w.free-is (on_merge (byte_as k w.in-Merge.is) (λ R o. sym (w.no_path.ensures R o) ∙ w.if-no_path.false))
-      | walk_block-in-If+in_ok-walk_if-in-If w ↦ gives_as w.frame-is w.free-is (on_inner w.in_ok-walk_if-in-If.ensures)
-      | walk_block-in-While+in_ok-walk_while-in-While w ↦ gives_as w.frame-is w.free-is (on_inner w.in_ok-walk_while-in-While.ensures)
-      | walk_block-in-Call+in_ok-walk_call-in-Call w ↦ gives_as w.frame-is w.free-is (on_inner (w.in_ok-walk_call-in-Call.ensures.call c.loop-p.frame))
-      | walk_block-in-Gate w ↦ gives_as w.frame-is w.free-is (on_quiet (silent k w.in-Gate.is))
-    ] in
+    let T = turn c.requires c.block_end-stop.ensures c.loop-p.invariant c.loop-p-test.true in
     let ends = c.statement_end.ensures in
-    goes_on c.requires c.block_end-stop.ensures c.loop-p.invariant c.loop-p-test.true (λ t. ends _ _ _ _ _ t.stands) c.skip-p-in-loop-p.ensures step
+    goes_on c.loop-p.invariant T (λ t. ends _ _ _ _ _ t.stands) c.skip-next.ensures
+    (on_quiet (silent c.known-kind.ensures c.in-Gate.is))
 
 pub walk_block-returns : goal.walk_block-returns
 walk_block-returns t c =

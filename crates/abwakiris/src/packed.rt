@@ -6,6 +6,7 @@ ghost use Rattle.abwakiris.specs.Packed.{file_code, packed_refusal, packed_pair,
 use answers::{Counted, File, Moved, Refusal};
 
 // What a call answers has a value of 32 bits.
+// No `Into<u64>`: the law `small` keeps a value out of the bits of a refusal, and `From` has no such law.
 pub trait Value {
     ghost value: { Self → ℕ };
 
@@ -46,6 +47,7 @@ impl Value for Moved {
     }
 }
 
+// The numbers of the header for C, as `Packed.file_code` has them.
 fn file_code(file: File) -> u64
     ensures { (result ≡ file_code file) × (result < 272) }
 {

@@ -14,6 +14,7 @@ pub fn read_device(bytes: &[u8]) -> Result<usize, Refusal>
 }
 
 // Whether a program file reads, for no job.
+// Job 0 is none: a refusal's file has it so in the answers of the calls for C (`file_code`, `packed_refusal`).
 pub fn read_program(bytes: &[u8]) -> Result<(), Refusal>
     ensures { said result ≡ read_program_of bytes.now }
 {

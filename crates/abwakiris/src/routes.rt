@@ -34,6 +34,7 @@ pub fn route(
 }
 
 // On a device that was read, for a job that is one.
+// The parameters are the call's own, as `abwakiris_route` has them.
 fn route_in(
     device: DeviceFile<'_>,
     job: u8,

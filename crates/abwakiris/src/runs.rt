@@ -11,6 +11,7 @@ use machine::schedule::read_schedule;
 use program::read_program;
 
 // Device, program 1, program 2, 22, 23, 24, then the run. Records and map are written only where the run is answered.
+// The parameters are the call's own, as `abwakiris_run` has them.
 pub fn run(
     device: &[u8],
     first: &[u8],

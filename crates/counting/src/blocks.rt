@@ -39,6 +39,7 @@ impl Body<'_> {
         let end = block_end(self.bytes, at);
         let mut count = 0;
         let mut next = at + 2;
+        // no range counts this loop: where the next statement stands is what this one answers
         while next < end {
             let statement = self.count_statement(next, memory);
             count = add(count, statement.count);

@@ -17,6 +17,7 @@ impl Memory {
     }
 
     // What is kept for function `f`.
+    // (Below 16 by a clause: a type for a function's number would be made where it is looked up, with the same bound.)
     pub fn recall(&self, f: u8) -> Option<usize>
         requires { f < 16 }
         ensures { result ≡ get_or self.now.counts f None }

@@ -7,6 +7,7 @@ ghost use Rattle.counting.specs.Found.{own_count};
 use rules::statements::Kind;
 
 // What stands for too large a count.
+// A number and no option: a sum with a count that is too large is too large, so that no addition has a case of its own.
 pub const MOST: usize = 65536;
 
 // The sum of two counts.

@@ -44,6 +44,7 @@ pub fn check(
 }
 
 // The number of locations, and the buffer.
+// The parameters are those of the call, behind the way out of `main` and the words of the line.
 pub fn route(
     rt: &impl Print,
     what: &str,
@@ -61,6 +62,7 @@ pub fn route(
 }
 
 // How many steps each job moved, the records and the map.
+// The parameters are those of the call, as above.
 pub fn run(
     rt: &impl Print,
     what: &str,

@@ -23,6 +23,7 @@ use walking::walk_program;
 // Main may have so many commands and no more.
 const MOST_COMMANDS: usize = 65535;
 
+// Typing takes the set of the job's locations and the routes take the rows: here both are only handed on.
 pub fn judge(program: &ReadProgram<'_>, rows: &Rows, owned: LocationSet) -> Result<Counted, Refusal>
     ensures { (p : Program) → read_program program.now.bytes.now ≡ ok p → Tabled p program.now.functions program.now.main
         → (R : Region) → Owned R owned → RowsOf R rows.now → said result ≡ judged R p }

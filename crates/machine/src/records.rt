@@ -7,6 +7,7 @@ ghost use Rattle.machine.specs.Running.{bytes_of};
 use steps::Record;
 
 // A record's four bytes, from a position on.
+// Into the whole buffer at a position: `sets` says so of any buffer, and a part that is lent would have to be put back into it.
 pub fn write_record(r: Record, records: &mut [u8], at: usize)
     requires { at + 4 ≤ length records.old }
     ensures { records.new ≡ sets records.old at (bytes_of r) }

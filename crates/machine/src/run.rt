@@ -25,6 +25,7 @@ pub fn deal(
         first: 0,
         second: 0,
     };
+    // by number: record i stands at 4 * i
     for i in 0..schedule.len() {
         let byte = schedule[i];
         let record = turn(players, machine, byte);

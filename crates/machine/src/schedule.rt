@@ -9,6 +9,7 @@ use answers::{Fault, File, Refusal};
 // A schedule may have so many bytes and no more.
 const MOST_STEPS: usize = 4096;
 
+// A turn is its byte, read where it is used as `is_turn` and `turn_of` of the theorems read it: the two halves are its job and its outcome.
 fn is_turn(b: u8) -> bool
     ensures { result ≡ is_turn b }
 {

@@ -20,6 +20,7 @@ pub struct Player<'p, 'r> {
 }
 
 // What both jobs bring.
+// Two fields, as the machine's jobs are. Beside the machine and not in it: what a job brings is read only, its state changes.
 #[derive(Clone, Copy)]
 pub struct Players<'p, 'r> {
     pub first: Player<'p, 'r>,

@@ -6,6 +6,7 @@ use answers::{Counted, Refusal};
 use std::fmt;
 
 // What a check said, or that the bundle does not fit.
+// A type of its own, since it is printed: `Display` cannot be given to an option of a result.
 #[derive(Clone, Copy)]
 pub enum Line {
     Accepted(Counted),

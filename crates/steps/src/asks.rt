@@ -16,17 +16,20 @@ use rules::place::{Location, SlotNumber};
 use sets::bytes::no_repeat;
 
 // The locations that a call's place bytes name.
+// Sixteen, of which the call has the first few: no heap.
 pub fn actuals(bytes: &[u8], job: &Job) -> [Location; 16]
     requires { (length bytes.now ≤ 16) × (0 < job.now.depth → (i : ℕ) → i < length bytes.now → byte bytes.now i < 16) }
     ensures { (i : ℕ) → i < length bytes.now → location_at result i ≡ located_in job.now (byte bytes.now i) }
 {
     let mut places = [Location(0); 16];
+    // by number: those past the call's are left, and each is said of by its number
     for i in 0..bytes.len() {
         places[i] = job.located(bytes[i]);
     }
     places
 }
 
+// Two tests of one line each: the test as a parameter would stand in the clause as well.
 pub fn all_inside(floor: &Floor<'_>, places: &[Location]) -> bool
     ensures { result ≡ list_all (λ l. has floor.now.owned l.0) places.now }
 {
@@ -48,6 +51,7 @@ pub fn no_location_twice(places: &[Location]) -> bool
 }
 
 // The numbers of at most 16 locations.
+// The one test for repeats goes over bytes; a set of locations would be the same loop.
 fn numbers(places: &[Location]) -> [u8; 16]
     requires { length places.now ≤ 16 }
     ensures { (i : ℕ) → i < length places.now → get_or result i 0 ≡ (location_at places.now i).0 }
@@ -75,6 +79,7 @@ pub fn arguments(slots: &Slots, given: &[u8], places: &[Location]) -> Result<(),
     requires { (length given.now ≤ length places.now) × ((i : ℕ) → i < length given.now → byte given.now i < 32) }
     ensures { Arguments slots.now given.now (map place_of places.now) result }
 {
+    // by number: the bound of an argument's slot is known by its place in the list
     for i in 0..given.len() {
         argument(slots, SlotNumber::known(given[i]), places[i])?;
     }
@@ -82,6 +87,7 @@ pub fn arguments(slots: &Slots, given: &[u8], places: &[Location]) -> Result<(),
 }
 
 // All that a call asks, its locations being known: the first of them are its arguments', which are given in slots.
+// Typing asks this of the file's own bytes, a step of the locations that they name: the tests are the same, what they are over is not.
 pub fn callable(
     slots: &Slots,
     given: &[u8],

@@ -11,11 +11,13 @@ use crate::slots::Slots;
 use rules::place::SlotNumber;
 
 // The caller's slots after the callee's frame, the arguments being given in slots: from the last argument to the first.
+// (`Call::after` of typing also gives the place back: here the callee's own frees have told the map.)
 pub fn hand_back(given: &[u8], callee: &Frame, caller: Slots) -> Slots
     requires { (length given.now ≤ 16) × ((i : ℕ) → i < length given.now → byte given.now i < 32) }
     ensures { slots_of result ≡ handed_back callee.now 0 given.now (length given.now) (slots_of caller) }
 {
     let mut slots = caller;
+    // by number: it is the argument's, which the callee keeps or not
     for i in (0..given.len()).rev() {
         if callee.keeps(i) {
             continue;

@@ -28,6 +28,7 @@ pub fn branch(s: &[u8], at: usize, job: &mut Job) -> Result<Effect, Fault>
 }
 
 // A while whose reference holds true goes on with its body and stays to come; else it is passed.
+// (It shares with an if the test alone: what comes next differs.)
 pub fn repeat(s: &[u8], at: usize, job: &mut Job) -> Result<Effect, Fault>
     requires { Comes s.now job.old at × (byte s.now at ≡ 11) }
     ensures { Anyway s.now at job.old job.new result }

@@ -8,6 +8,7 @@ use crate::slots::Slots;
 use rules::place::{Location, Parameter, SlotNumber};
 
 // Statements to come: from a position to a block's end.
+// Positions are `usize` where they are counted with: a frame keeps them in two bytes, and the casts stand here and not at each caller.
 #[derive(Clone, Copy)]
 pub struct Range {
     pub at: u16,
@@ -16,6 +17,8 @@ pub struct Range {
 
 // The first `n` ranges are in use: there is no heap, and a block stands in at most 7 others. In a function the places are the call's locations, and
 // `call` is the call's offset.
+// Main's frame has zeros for both, which nothing reads: the job's depth says which frame is main's. `n ≤ 8` is a clause and no invariant: `advanced`,
+// `pushed` and `entering` build frames by hand, and each would carry the proof.
 #[derive(Clone, Copy)]
 pub struct Frame {
     pub slots: Slots,

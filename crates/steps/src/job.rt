@@ -6,6 +6,7 @@ use crate::frames::Frame;
 use rules::place::{Location, Parameter};
 
 // The first `depth` frames below are in use: there is no heap, and a function calls only those before it, 15 at most.
+// The ranges of a frame are such a stack too: one struct for both would be generic over an array, whose size is not known to fit, and gets no proof.
 #[derive(Clone, Copy)]
 pub struct Job {
     pub top: Frame,
@@ -15,6 +16,7 @@ pub struct Job {
 
 impl Job {
     // The location that a place byte names: in main itself, in a function what the parameter stands for.
+    // A place byte is below 16 in a function and any byte in main: a type of parameters below 16 would be made here, behind the same test.
     pub fn located(&self, b: u8) -> Location
         requires { 0 < self.now.depth → b < 16 }
         ensures { result ≡ located_in self.now b }

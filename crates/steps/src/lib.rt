@@ -22,6 +22,7 @@ pub mod slots;
 pub mod step;
 
 // What a step does to the occupancy map.
+// Three cases and no option of two: the rules' acts are such, and to do nothing is one of them (`act_of`).
 #[derive(Clone, Copy)]
 pub enum Act {
     Quiet,

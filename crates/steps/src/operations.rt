@@ -30,6 +30,7 @@ impl Performed {
     }
 }
 
+// These are the rules' operations, as typing's are: its `Setting` as a trait would add six methods, and a step also says what it does to the map.
 pub fn init(
     slots: &Slots,
     x: SlotNumber,

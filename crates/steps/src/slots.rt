@@ -48,6 +48,7 @@ impl Slots {
         }
     }
 
+    // `boolean` and `reference` differ in the case that they match, which is all there is of them.
     pub fn boolean(&self, x: SlotNumber) -> Result<bool, Fault>
         ensures { (o : ℕ) → said_at itself result o ≡ need_bool (slot (slots_of self.now) x) o }
     {

@@ -32,6 +32,7 @@ pub fn start(s: &[u8], main: usize) -> Job
 }
 
 // The statement to come, by its kind.
+// Where it stands is a clause (`Comes`) and no type: it is of the job before the step, and over once the job has moved.
 fn go_on(
     s: &[u8],
     functions: &FunctionTable,

@@ -30,6 +30,7 @@ impl Body<'_> {
         let first = at + 2;
         let stop = first + word_at(self.bytes, at);
         let mut typed = Typed { next: first, env };
+        // no range counts this loop: where the next statement stands is what this one answers
         while typed.next < stop {
             typed = self.type_statement(typed.env, typed.next)?;
         }

@@ -57,6 +57,7 @@ impl Call<'_> {
         ensures { (d : Side) (n : ℕ) (C : Context d) (Γ : Environment d) → EnvIs n env Γ
             → said result ≡ arguments_at (kinds C Γ) at Γ.slots self.now.slots.now (places d self.now.places.now) }
     {
+        // by number: the bound of an argument's slot is known by its place in the list
         for i in 0..self.slots.len() {
             let place = env.need_qubit(SlotNumber::known(self.slots[i]), at)?;
             if place != self.places[i] {
@@ -90,6 +91,7 @@ impl Call<'_> {
             → EnvIs n result (after_call g (places d self.now.places.now) self.now.slots.now Γ) }
     {
         let mut after = env;
+        // by number: it is the argument's, which the endings are kept by
         for i in (0..self.slots.len()).rev() {
             if !endings.keeps(self.callee, i as u8) {
                 after = after

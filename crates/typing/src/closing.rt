@@ -34,6 +34,7 @@ impl Env {
         ensures { (d : Side) (n : ℕ) (Γ Δ : Environment d) → EnvIs n entry Γ → EnvIs n self Δ
             → result ≡ all_stay Γ.slots Δ.slots }
     {
+        // one number for the two arrays: they are read at the same slots
         for x in 0..32 {
             if strays(entry.slots[x], self.slots[x]) {
                 return false;

@@ -9,6 +9,7 @@ use super::env::Env;
 use sets::LocationSet;
 
 // Whether no place is in one set alone.
+// By members, as every clause of sets speaks: `==` on the words would need that sets with the same members have the same words, which none says.
 fn same_places(a: LocationSet, b: LocationSet) -> bool
     ensures same { result ≡ true → (y : ℕ) → has a y ≡ has b y }
     ensures differ { result ≡ false → (y : ℕ) × (has a y ≡ not (has b y)) }

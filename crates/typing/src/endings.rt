@@ -37,6 +37,7 @@ impl Endings {
         ensures { Remembers self f m env result }
     {
         let mut kept = self.kept;
+        // by number: argument i is looked for in slot i, at place i
         for i in 0..m {
             kept = kept.add_if(8 * f + i, env.slots[i as usize] == Slot::Qubit(i));
         }

@@ -7,6 +7,7 @@ use super::slots::Slot;
 use rules::place::SlotNumber;
 use sets::LocationSet;
 
+// Which environment of the rules it stands for is no invariant: the same slots serve main and functions, with any number of places.
 #[derive(Clone, Copy)]
 pub struct Env {
     pub slots: [Slot; 32],

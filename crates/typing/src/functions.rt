@@ -29,6 +29,7 @@ fn first(k: u8) -> LocationSet
 }
 
 // What a function with k places and m arguments is entered with: argument i is a qubit in slot i at place i, the other places are free.
+// As `callee` of a step, over typing's own slots.
 fn entered(k: u8, m: u8) -> Env
     requires { (m ≤ 8) × (m ≤ k) }
     ensures { (g : Function) → g.k ≡ k → g.m ≡ m → EnvIs k result (entry g) }

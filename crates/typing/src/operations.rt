@@ -17,6 +17,7 @@ use sets::LocationSet;
 // What is asked of a slot.
 impl Env {
     // 12: it holds nothing.
+    // Each test of the rules has its own name: one function over the case and the fault would hide which.
     pub fn need_unbound(self, x: SlotNumber, at: usize) -> Result<(), Refusal>
         ensures { (d : Side) (n : ℕ) (Γ : Environment d) → EnvIs n self Γ → said result ≡ need (is_unbound (slot Γ.slots x)) 12 at }
     {
@@ -59,6 +60,7 @@ impl Env {
 }
 
 // The operation at `at`, whose statement ends at `next`.
+// `at` is for refusals and `next` for the answer: a struct of the two would be made at one call and taken apart in nine.
 impl Env {
     // A qubit at a place in slot x: 12, 13, 14.
     pub fn init(

@@ -5,6 +5,7 @@ ghost use Rattle.rules.specs.Syntax.{Side};
 ghost use Rattle.rules.specs.Slots.{is_classical};
 ghost use Rattle.typing.specs.Stands.{kind_of, place_of};
 
+// Not the slots of steps with other types: a step needs the location and the bool that it finds, typing only which of the four it is.
 #[derive(Clone, Copy, Debug, PartialEq, Eq)]
 pub enum Slot {
     Unbound,

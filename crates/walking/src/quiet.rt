@@ -20,6 +20,7 @@ impl Quiet {
         requires { length s.now ≤ 4096 }
         ensures { Skips s.now counts.now self.new.ends }
     {
+        // by position: a run's end is a position too
         for i in (0..s.len()).rev() {
             self.ends[i] = match quiet_end(s, counts, i) {
                 Some(next) if next < s.len() => self.ends[next],
@@ -41,6 +42,7 @@ impl Quiet {
 }
 
 // The end of the statement at i, where it is quiet.
+// (The bytes and the counts are those of one call of `mark`: a struct of the two would be made there and go.)
 fn quiet_end(s: &[u8], counts: &[Option<usize>; 16], i: usize) -> Option<usize>
     requires { (i < length s.now) × (length s.now ≤ 4096) }
     ensures { IfSome result (λ next. (i < next) × Run s.now counts.now i next) }

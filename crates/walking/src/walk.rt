@@ -29,6 +29,7 @@ pub struct Walk<'a> {
 }
 
 // No path joins the qubits of the merge at a place.
+// A walk has this one refusal, so its error is the place alone, and its type says that it is no other.
 #[derive(Clone, Copy, Debug, PartialEq, Eq)]
 pub struct NoPath {
     pub place: usize,
@@ -56,6 +57,7 @@ impl Walk<'_> {
     {
         let stop = block_end(self.bytes, at);
         let mut p = self.quiet.skip(at + 2, stop);
+        // no range counts this loop: where the next statement stands is what this one answers
         while p != stop {
             let kind = Kind::known(self.bytes[p]);
             // before the rest: to find it after a callee returns takes longer

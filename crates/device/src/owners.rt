@@ -8,11 +8,11 @@ use answers::{Fault, Refusal};
 use rules::device::DeviceHeader;
 
 // Whether a location is the job's.
-pub fn is_owner(s: &[u8], job: u8, x: u8) -> bool
+pub fn is_owner(s: &[u8], job: u8, x: usize) -> bool
     requires { 9 + x < length s.now }
     ensures { result ≡ owned_by s.now job x }
 {
-    s[DeviceHeader::BYTES + x as usize] == job
+    s[DeviceHeader::BYTES + x] == job
 }
 
 // Tests n owner bytes: 6 at the first that names neither nobody nor a job.

@@ -19,7 +19,7 @@ fn join_owned(s: &[u8], job: u8, a: u8, b: u8, rows: &mut Rows)
         ≡ ((owned_by s.now job x && owned_by s.now job y && touches x y (record { from = a; to = b }))
         || has (row_of rows.old x) y) }
 {
-    if is_owner(s, job, a) && is_owner(s, job, b) {
+    if is_owner(s, job, a as usize) && is_owner(s, job, b as usize) {
         rows.join(a, b);
         rows.join(b, a);
     }
@@ -32,8 +32,7 @@ impl DeviceFile<'_> {
     {
         let mut owned = LocationSet::empty();
         for x in 0..self.header.locations {
-            let x = x as u8;
-            owned = owned.add_if(x, is_owner(self.bytes, job, x));
+            owned = owned.add_if(x as u8, is_owner(self.bytes, job, x));
         }
         owned
     }

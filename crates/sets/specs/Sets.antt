@@ -1,5 +1,5 @@
 -- Sets of locations as 256 bits: which locations a set has. Nothing but the functions of the set looks into `has`.
-use Rattle.std.specs.Prelude.{Bool, true, false, ◌&&◌, [], ◌≡◌, ℕ, ◌/◌, ◌%◌, ◌^◌, ◌<◌, eqb, ltb, get_or}
+use Rattle.std.specs.Prelude.{Bool, true, false, ◌&&◌, [], ◌≡◌, ℕ, ◌/◌, ◌%◌, ◌^◌, ◌≤◌, ◌<◌, eqb, ltb, get_or}
 use Rattle.sets.specs.declared.LocationSet.{LocationSet}
 use Rattle.sets.specs.declared.rows.Rows.{Rows}
 
@@ -19,6 +19,12 @@ row_of t x = get_or t.rows x (record { words = [] })
 pub record First (s : LocationSet) (x : ℕ) : Type 0 where
   pub member : has s x ≡ true
   pub passed : (j : ℕ) → j < x → has s j ≡ false
+
+-- x is the first member of s from a number on
+pub record FirstFrom (s : LocationSet) (start x : ℕ) : Type 0 where
+  pub least : start ≤ x
+  pub member : has s x ≡ true
+  pub passed : (j : ℕ) → start ≤ j → j < x → has s j ≡ false
 
 -- t is the lowest bit of w that is set
 pub record Lowest (w t : ℕ) : Type 0 where

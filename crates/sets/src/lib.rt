@@ -1,8 +1,8 @@
 // Sets of the device's locations, as 256 bits. What a function does is said pointwise over `has`, for every number: from 256 on no set has any.
 #![tactic(auto)]
 
-ghost use Rattle.std.specs.Prelude.{true, false, not, ◌&&◌, ◌||◌, MatchOption, ◌≡◌, ℕ, ◌/◌, ◌%◌, ◌^◌, ◌<◌, eqb, get_or};
-ghost use Rattle.sets.specs.Sets.{has, First};
+ghost use Rattle.std.specs.Prelude.{true, false, not, ◌&&◌, ◌||◌, MatchOption, ◌≡◌, ℕ, ◌/◌, ◌%◌, ◌^◌, ◌≤◌, ◌<◌, eqb, get_or};
+ghost use Rattle.sets.specs.Sets.{has, First, FirstFrom};
 
 pub mod bytes;
 pub mod rows;
@@ -100,10 +100,19 @@ impl LocationSet {
     pub fn first(self) -> Option<u8>
         ensures { MatchOption result ((y : ℕ) → has self y ≡ false) (First self) }
     {
-        for i in 0..4u8 {
-            let w = self.words[i as usize];
+        self.first_from(0)
+    }
+
+    // The first member from a number on, if any.
+    pub fn first_from(self, start: usize) -> Option<u8>
+        requires { start ≤ 256 }
+        ensures { MatchOption result ((y : ℕ) → start ≤ y → has self y ≡ false) (FirstFrom self start) }
+    {
+        for i in start / 64..4 {
+            let from = start.max(i * 64);
+            let w = self.words[i] >> (from % 64);
             if w != 0 {
-                return Some(i * 64 + low(w));
+                return Some(from as u8 + low(w));
             }
         }
         None

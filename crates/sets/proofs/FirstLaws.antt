@@ -1,5 +1,5 @@
--- Laws of the first member of a set, and of the test for no member: the search shifts the word where it
--- starts, so its bits are those from the start on; the words before one that is not 0 have no member, and its lowest bit is the first.
+-- Laws of the first member of a set from a number on, and of the test for no member. The search shifts the word that it looks at, so that its bits are
+-- those from the number on: where none is set the word has no member from there on, and else the lowest is the first.
 use mathlib.Core.Bool.{true, false}
 use mathlib.Core.Logic.{⊎_elim}
 use mathlib.Core.List.{List, [], ◌∷◌}

@@ -11,7 +11,7 @@ found : (c : goal.After-low) → FirstFrom c.args.self c.args.start (c.max-from.
 found c =
     let e = c.max-from.ensures in
     let a = c.loop-i.auto.i in
-    first_in _ _ c.loop-i.i c.max-from.result (omega arith) (omega (arith, e, a)) (omega (arith, e)) (λ j p q. c.loop-i.invariant j p (omega (arith, e, q, p)))
+    first_in _ _ c.loop-i.i c.max-from.result (omega arith) (omega (arith, e, a)) (omega (arith, e)) (λ j p q. c.loop-i.invariant j p (omega (arith, e)))
     _ (search rules) c.low.ensures
 
 pub overflow_add-result : goal.overflow_add-result
@@ -25,7 +25,7 @@ loop-i-preserved c =
     let e = c.max-from.ensures in
     let a = c.loop-i.auto.i in
     none_more _ _ c.loop-i.i c.max-from.result (omega arith) (omega (arith, e, a)) (omega (arith, e))
-    (λ j p q. c.loop-i.invariant j p (omega (arith, e, q, p))) (omega arith)
+    (λ j p q. c.loop-i.invariant j p (omega (arith, e))) (omega arith)
 
 pub returns : goal.returns
 returns c = none_from _ _ (λ j p q. c.loop-i.invariant j p (omega (arith, c.loop-i-test.false)))

@@ -2,5 +2,5 @@
 use Rattle.reading.proofs.Indenting.{Passed}
 use Rattle.reading.proofs.line.Line.indent.Given as goal
 
-abbrev pub invariant-loop-n : goal.invariant-loop-n
-invariant-loop-n l = Passed l.self.text.now l.at l.self.end l.self.stop l.depth l.p l.n
+abbrev pub invariant-loop : goal.invariant-loop
+invariant-loop l = Passed l.self.text.now l.at l.self.end l.self.stop l.depth l.p l.counter

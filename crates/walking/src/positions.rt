@@ -1,7 +1,5 @@
 // Where statements end.
 ghost use Rattle.std.specs.Prelude.{◌≡◌, ℕ, ◌≤◌, length};
-ghost use Rattle.rules.specs.Basics.{byte};
-ghost use Rattle.rules.specs.Kinds.{byte_of};
 ghost use Rattle.rules.specs.Syntax.{Side, Statement};
 ghost use Rattle.rules.specs.Program.{Scope};
 ghost use Rattle.program.specs.In.{StatementIn};
@@ -9,12 +7,13 @@ ghost use Rattle.program.specs.In.{StatementIn};
 use rules::positions::{block_end, call_end};
 use rules::statements::Kind;
 
-// The position after the statement at `at`, whose kind is known.
-pub fn statement_end(s: &[u8], at: usize, kind: Kind) -> usize
-    requires { (length s.now ≤ 4096) × (byte_of kind ≡ byte s.now at)
-        × ((d : Side) × (S : Scope) × (depths : ℕ) × (t : Statement d) × (q : ℕ) × StatementIn s.now S depths at t q) }
+// The position after the statement at `at`.
+pub fn statement_end(s: &[u8], at: usize) -> usize
+    requires { (length s.now ≤ 4096) × ((d : Side) × (S : Scope) × (depths : ℕ) × (t : Statement d)
+        × (q : ℕ) × StatementIn s.now S depths at t q) }
     ensures { (d : Side) (S : Scope) (depths : ℕ) (t : Statement d) (q : ℕ) → StatementIn s.now S depths at t q → result ≡ q }
 {
+    let kind = Kind::known(s[at]);
     match kind {
         Kind::If => block_end(s, block_end(s, at + 2)),
         Kind::While => block_end(s, at + 2),

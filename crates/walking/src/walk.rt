@@ -61,7 +61,7 @@ impl Walk<'_> {
         while p != stop {
             let kind = Kind::known(self.bytes[p]);
             // before the rest: to find it after a callee returns takes longer
-            let next = self.quiet.skip(statement_end(self.bytes, p, kind), stop);
+            let next = self.quiet.skip(statement_end(self.bytes, p), stop);
             match kind {
                 Kind::Init | Kind::Magic => {
                     let location = body.location_of(self.bytes[p + 2]);

@@ -146,7 +146,7 @@ walk_block-returns-in_err-walk_call-in-Call t c =
 pub walk_block-statement_end-requires : goal.walk_block-statement_end-requires
 walk_block-statement_end-requires t c =
     let T = turn c.requires c.block_end-stop.ensures c.loop-p.invariant c.loop-p-test.true in
-    (T.size, c.known-kind.ensures, (_, _, _, _, _, T.here.stands))
+    (T.size, (_, _, _, _, _, T.here.stands))
 
 pub walk_block-skip-next-requires : goal.walk_block-skip-next-requires
 walk_block-skip-next-requires t c =

@@ -1,5 +1,5 @@
 // A schedule's bytes: 10, 11 hex for job 1 with outcome 0, 1; 20, 21 hex for job 2.
-ghost use Rattle.std.specs.Prelude.{◌≡◌};
+ghost use Rattle.std.specs.Prelude.{◌≡◌, not, position};
 ghost use Rattle.answers.specs.Said.{said};
 ghost use Rattle.theory.specs.TheRun.{is_turn};
 ghost use Rattle.machine.specs.Scheduled.{scheduled};
@@ -16,6 +16,13 @@ fn is_turn(b: u8) -> bool
     1 <= b / 16 && b / 16 <= 2 && b % 16 <= 1
 }
 
+// Where the first byte stands that is no turn.
+fn first_no_turn(schedule: &[u8]) -> Option<usize>
+    ensures { result ≡ position (λ b. not (is_turn b)) schedule.now }
+{
+    schedule.iter().position(|byte| !is_turn(*byte))
+}
+
 // Refuses a schedule that is too long, then the first byte that is no turn.
 pub fn read_schedule(schedule: &[u8]) -> Result<(), Refusal>
     ensures { said result ≡ scheduled schedule.now }
@@ -23,10 +30,8 @@ pub fn read_schedule(schedule: &[u8]) -> Result<(), Refusal>
     if MOST_STEPS < schedule.len() {
         return Err(Fault::TooManySteps.at(0).in_file(File::Schedule));
     }
-    for i in 0..schedule.len() {
-        if !is_turn(schedule[i]) {
-            return Err(Fault::NoTurn.at(i).in_file(File::Schedule));
-        }
+    match first_no_turn(schedule) {
+        Some(i) => Err(Fault::NoTurn.at(i).in_file(File::Schedule)),
+        None => Ok(()),
     }
-    Ok(())
 }

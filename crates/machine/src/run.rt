@@ -25,13 +25,11 @@ pub fn deal(
         first: 0,
         second: 0,
     };
-    // by number: record i stands at 4 * i
-    for i in 0..schedule.len() {
-        let byte = schedule[i];
-        let record = turn(players, machine, byte);
+    for (i, byte) in schedule.iter().enumerate() {
+        let record = turn(players, machine, *byte);
         write_record(record, records, 4 * i);
-        moved.first += moved_more(byte, 1, record.code);
-        moved.second += moved_more(byte, 2, record.code);
+        moved.first += moved_more(*byte, 1, record.code);
+        moved.second += moved_more(*byte, 2, record.code);
     }
     moved
 }

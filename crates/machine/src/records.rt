@@ -23,7 +23,7 @@ pub fn moved_more(turn: u8, job: u8, code: u8) -> usize
     ensures more { result ≡ chosen (eqb (turn / 16) job && eqb code 0) 1 0 }
     ensures one { result ≤ 1 }
 {
-    if turn / 16 == job && code == 0 { 1 } else { 0 }
+    usize::from(turn / 16 == job && code == 0)
 }
 
 // The first n bytes of the occupancy map.

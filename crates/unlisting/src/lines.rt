@@ -124,7 +124,8 @@ fn top_line(line: &Line, at: usize, c: &Standing, out: &mut [u8]) -> Result<Stan
     }
     match function_line(line, at, c, out) {
         Err(Unread::Not) => main_line(line, at, c, out),
-        read => read,
+        Ok(next) => Ok(next),
+        Err(Unread::Begun) => Err(Unread::Begun),
     }
 }
 

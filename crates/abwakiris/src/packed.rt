@@ -35,7 +35,7 @@ impl Value for Counted {
     ghost value = { λ a. packed_pair a.count a.live };
 
     fn value(self) -> u64 {
-        self.count as u64 % 65536 + self.live as u64 % 65536 * 65536
+        pair(self.count, self.live)
     }
 }
 
@@ -43,8 +43,16 @@ impl Value for Moved {
     ghost value = { λ m. packed_pair m.first m.second };
 
     fn value(self) -> u64 {
-        self.first as u64 % 65536 + self.second as u64 % 65536 * 65536
+        pair(self.first, self.second)
     }
+}
+
+// Two numbers of 16 bits, the first in the low ones.
+fn pair(a: usize, b: usize) -> u64
+    ensures value { result ≡ packed_pair a b }
+    ensures small { result < 2 ^ 32 }
+{
+    a as u64 % 65536 + b as u64 % 65536 * 65536
 }
 
 // The numbers of the header for C, as `Packed.file_code` has them.

@@ -8,6 +8,8 @@ use Rattle.answers.specs.Check.{Check, ok, refused, refusal, in_file, ◌>>=◌,
 use Rattle.answers.specs.declared.Counted.{Counted}
 use Rattle.answers.specs.declared.File.TheVariants.{Device, Program}
 use Rattle.answers.specs.declared.Refusal.{Refusal}
+use Rattle.answers.specs.Said.{said}
+use Rattle.std.specs.Prelude.{Result, Ok, Err, IsErrAnd, MatchResult}
 use Rattle.answers.proofs.Laws.{ok_not_refused}
 use Rattle.rules.specs.Device as rules
 use Rattle.rules.specs.Device.{read_device}
@@ -16,6 +18,14 @@ use Rattle.rules.specs.Syntax as syntax
 use Rattle.rules.specs.Program.{read_program}
 use Rattle.rules.specs.Promises.{judged, check_of}
 use Rattle.abwakiris.specs.Checking.{checked_in}
+
+-- ---- a judgement, and its refusal with the program's name
+pub judgement_named : (job : ℕ) (j r : Result Counted Refusal) (Named : Refusal → Refusal → Type 0)
+    → ((x y : Refusal) → Named x y → y ≡ in_file (Program job) x)
+    → MatchResult j (λ a. r ≡ Ok a) (λ x. IsErrAnd r (Named x)) → said r ≡ within (Program job) (said j)
+judgement_named job (Ok a) r Named named e = ap said e
+judgement_named job (Err x) (Ok a) Named named e = absurd e
+judgement_named job (Err x) (Err y) Named named e = ap refused (named x y e)
 
 -- ---- a program as its reader answers
 module _ (s : List ℕ) (job : ℕ) where

@@ -32,8 +32,5 @@ fn check_in(device: DeviceFile<'_>, program: &[u8], job: u8) -> Result<Counted, 
     let owned = device.owned_by(job);
     let mut rows = Rows::empty();
     device.region_rows(job, &mut rows);
-    match judge(&program, &rows, owned) {
-        Ok(counted) => Ok(counted),
-        Err(x) => Err(x.in_file(File::Program(job))),
-    }
+    judge(&program, &rows, owned).map_err(|x| x.in_file(File::Program(job)))
 }

@@ -5,7 +5,7 @@ use mathlib.Core.Option.{Option}
 use mathlib.Core.Path.{◌≡◌, refl, sym, ap, ◌∙◌, fun_ext}
 use native.Mathlib.Decide.{ℕ_discrete}
 use native.Mathlib.Omega.{arith}
-use Prim.Native.Nat.{ℕ, ◌≤◌}
+use Prim.Native.Nat.{ℕ, ◌≤◌, ◌<◌}
 use borrow.Author.Tests.{eq-eqb, ne_eqb, eqb-true}
 use lib.Dec.{eqb}
 use lib.ListN.{length}
@@ -13,7 +13,8 @@ use Rattle.answers.specs.Check.{Check, ok, refused, refusal, ◌>>=◌, ◌>>◌
 use Rattle.answers.specs.declared.File.TheVariants.{Device}
 use Rattle.answers.specs.declared.Refusal.{Refusal}
 use Rattle.answers.specs.Said.{said}
-use Rattle.std.specs.Prelude.{Result, Ok, Err}
+use Rattle.std.specs.Prelude.{Option as Maybe, Some, None, Result, Ok, Err, OkIff, ok_or}
+use Rattle.std.specs.Result.{result_ok}
 use Rattle.answers.proofs.Laws.{ok_not_refused}
 use Rattle.rules.specs.Device as rules
 use Rattle.rules.specs.Device.{read_device}
@@ -46,6 +47,18 @@ pub finds_as : (o : Option (List ℕ)) (before after : List ℕ) (f : Result ℕ
 finds_as o before after f r a q = rw (q, same_said f) a.said
 
 -- ---- what is asked before it
+some_not_none : {n : ℕ} → ◌≡◌ {A = Maybe ℕ} (Some n) None → ⊥
+some_not_none e = let z : ◌≡◌ {A = ℕ} 1 0 = ap (λ (d : Maybe ℕ). elim d [ None ↦ 0 | Some x ↦ 1 ]) e in absurd (omega arith)
+
+-- a number that no byte has
+pub beyond : {E : Type 0} (x : ℕ) (r : Result ℕ E) → OkIff r (x < 256) x → ◌≡◌ {A = Maybe ℕ} (result_ok r) None → 256 ≤ x
+beyond x (Ok l) h z = absurd (some_not_none z)
+beyond x (Err e) h z = omega arith
+
+-- an option that is none is refused as it says
+pub refusal_is : (o : Maybe ℕ) → o ≡ None → (x e : Refusal) → ◌≡◌ {A = Result ℕ Refusal} (Err x) (ok_or o e) → x ≡ e
+refusal_is o z x e q = let p : ◌≡◌ {A = Result ℕ Refusal} (Err x) (Err e) = q ∙ ap (λ (n : Maybe ℕ). ok_or n e) z in cc
+
 module _ (inside : ℕ → Bool) (n : ℕ) (occupancy : List ℕ) (a b : ℕ) where
   pub asked_length : (length occupancy ≡ n → ⊥) → refused (refusal 26 0) ≡ asked inside n occupancy a b
   unfolding asked ◌>>◌

@@ -67,12 +67,8 @@ fn ends(
     if occupancy.len() != n {
         return Err(Fault::MapLength.at(0));
     }
-    let Some(a) = inside(owned, first) else {
-        return Err(Fault::Outside.at(0));
-    };
-    let Some(b) = inside(owned, second) else {
-        return Err(Fault::Outside.at(1));
-    };
+    let a = inside(owned, first).ok_or(Fault::Outside.at(0))?;
+    let b = inside(owned, second).ok_or(Fault::Outside.at(1))?;
     if a == b {
         return Err(Fault::Twice.at(0));
     }
@@ -84,20 +80,16 @@ fn inside(owned: LocationSet, x: u64) -> Option<u8>
     ensures some { IfSome result (λ l. (l ≡ x) × (has owned x ≡ true)) }
     ensures none { IfNone result (has owned x ≡ false) }
 {
-    if x < 256 && owned.contains(x as u8) {
-        Some(x as u8)
-    } else {
-        None
-    }
+    let l = u8::try_from(x).ok()?;
+    owned.contains(l).then_some(l)
 }
 
 // The search: 21, then 24 where the route is longer than the buffer.
 fn search(rows: &Rows, free: LocationSet, a: u8, b: u8, buffer: &mut [u8]) -> Result<usize, Refusal>
     ensures { (R : Region) → RowsOf R rows.now → Finds (path.route R (has free) a b) buffer.old result buffer.new }
 {
-    match find_route(rows, free, a, b, buffer) {
-        Ok(n) => Ok(n),
-        Err(NoRoute::NoPath) => Err(Fault::NoPath.at(0)),
-        Err(NoRoute::Short) => Err(Fault::NoSpace.at(0)),
-    }
+    find_route(rows, free, a, b, buffer).map_err(|why| match why {
+        NoRoute::NoPath => Fault::NoPath.at(0),
+        NoRoute::Short => Fault::NoSpace.at(0),
+    })
 }

@@ -1,7 +1,7 @@
 -- The program, then the judgement, whose places are in the program.
 use mathlib.Core.Path.{ap, ◌∙◌}
 use Rattle.std.proofs.Common.{rules}
-use Rattle.answers.specs.Check.{refused, within}
+use Rattle.answers.specs.Check.{within}
 use Rattle.answers.specs.declared.File.TheVariants.{Program}
 use Rattle.answers.proofs.Passed.{passed_on}
 use Rattle.rules.specs.Region.{region_of}

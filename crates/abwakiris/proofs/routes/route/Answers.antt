@@ -1,5 +1,5 @@
 -- The row of the promise's checks, each exit at its place.
-use mathlib.Core.Path.{sym, ap, ◌∙◌}
+use mathlib.Core.Path.{ap, ◌∙◌}
 use Rattle.std.specs.Prelude.{Err}
 use Rattle.answers.specs.declared.File.TheVariants.{Device}
 use Rattle.answers.proofs.Passed.{passed_as}

@@ -1,5 +1,4 @@
 -- What is asked, then the search, whose set has the free locations of the region.
-use mathlib.Core.Path.{sym}
 use native.Mathlib.Omega.{arith}
 use Rattle.answers.proofs.Passed.{passed_as}
 use Rattle.device.proofs.DeviceLaws.{sound}

@@ -26,12 +26,12 @@ pub fn run(
     let device = device::read_device(device)?;
     let one = read_program(first, 1)?;
     let two = read_program(second, 2)?;
-    read_schedule(schedule)?;
+    let turns = read_schedule(schedule)?;
     if records.len() / 4 < schedule.len() {
         return Err(Fault::NoSpace.at(0));
     }
     if map.len() < device.header.locations {
         return Err(Fault::NoSpace.at(0));
     }
-    Ok(machine::run::run(device, &one, &two, schedule, records, map))
+    Ok(machine::run::run(device, &one, &two, turns, records, map))
 }

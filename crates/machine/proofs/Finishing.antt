@@ -118,7 +118,7 @@ module _ (device : List ℕ) (h : DeviceHeader) (c : Players) (main₁ main₂ :
     }
 
     pub dealing : {room₁ room₂ : ℕ} → Runnable h schedule room₁ room₂ → Dealing c fresh schedule room₁
-    dealing A = record { D = D; p = p; q = q; M = _; both = both; holds = fresh_holds; all_turns = A.all_turns; short = A.short; fits = A.fits }
+    dealing A = record { D = D; p = p; q = q; M = _; both = both; holds = fresh_holds; fits = A.fits }
 
     pub run_is : (before₁ before₂ now₁ now₂ : List ℕ) (m : Machine) (r : Moved) → Runnable h schedule (length before₁) (length before₂)
         → Deals c fresh schedule before₁ m r now₁ → now₂ ≡ sets before₂ 0 (take h.locations m.map)

@@ -1,7 +1,7 @@
 -- What it is for the code's machine to stand for a machine of the rules, and what a turn and the run promise.
-use Rattle.std.specs.Prelude.{Bool, true, List, [], ◌∷◌, map, ◌≡◌, ℕ, ◌*◌, ◌/◌, ◌%◌, ◌≤◌, ◌<◌, eqb, length}
+use Rattle.std.specs.Prelude.{Bool, true, List, [], ◌∷◌, map, ◌≡◌, ℕ, ◌*◌, ◌/◌, ◌%◌, ◌≤◌, eqb, length}
 use Rattle.std.proofs.lemmas.List.Edits.{sets}
-use Rattle.rules.specs.Basics.{byte, chosen}
+use Rattle.rules.specs.Basics.{chosen}
 use Rattle.rules.specs.Device.{Device}
 use Rattle.rules.specs.Region.{Region, region_of, free_in}
 use Rattle.rules.specs.Syntax.{Program}
@@ -82,7 +82,7 @@ module _ (players : Players) where
       (D : Device) (p q : Program) (M : run.Machine) → Both D p q → Holds D p q M m
       → Holds D p q (after D (programs p q) (turn_of b) M) n × (r ≡ record_of (step_of D (programs p q) (turn_of b) M).answer)
 
-  -- a machine under way, and a schedule that may be run, with room for its records
+  -- a machine under way, and room for the records of a schedule
   pub record Dealing (m : Machine) (schedule : List ℕ) (room : ℕ) : Type 0 where
     pub D : Device
     pub p : Program
@@ -90,8 +90,6 @@ module _ (players : Players) where
     pub M : run.Machine
     pub both : Both D p q
     pub holds : Holds D p q M m
-    pub all_turns : (i : ℕ) → i < length schedule → is_turn (byte schedule i) ≡ true
-    pub short : length schedule ≤ 4096
     pub fits : 4 * length schedule ≤ room
 
   -- all turns ts taken from M on: the records, the map at the end, and how many steps each job moved

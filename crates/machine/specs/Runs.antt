@@ -1,9 +1,8 @@
 -- What the run of two read programs on a read device promises: the answer and the final bytes of both buffers are those of the promise's finished run.
-use Rattle.std.specs.Prelude.{true, List, map, ◌≡◌, ℕ, ◌*◌, ◌≤◌, ◌<◌, length}
+use Rattle.std.specs.Prelude.{List, map, ◌≡◌, ℕ, ◌*◌, ◌≤◌, length}
 use Rattle.answers.specs.Check.{ok}
 use Rattle.answers.specs.declared.Moved.{Moved}
 use Rattle.rules.specs.declared.device.DeviceHeader.{DeviceHeader}
-use Rattle.rules.specs.Basics.{byte}
 use Rattle.rules.specs.Device.{Device}
 use Rattle.rules.specs.Syntax.{Program}
 use Rattle.rules.specs.Program.{read_program}
@@ -12,7 +11,7 @@ use Rattle.rules.specs.Promises.{Finished, Ran, run_written}
 use Rattle.device.specs.Reader.{Reads}
 use Rattle.program.specs.declared.functions.FunctionTable.{FunctionTable}
 use Rattle.program.specs.Reader.{Tabled}
-use Rattle.theory.specs.TheRun.{is_turn, turn_of}
+use Rattle.theory.specs.TheRun.{turn_of}
 use Rattle.machine.specs.Running.{programs}
 
 -- a program's file reads as p, and the table and main's place are its
@@ -20,10 +19,8 @@ pub record Loaded (s : List ℕ) (t : FunctionTable) (main : ℕ) (p : Program) 
   pub reads : read_program s ≡ ok p
   pub tabled : Tabled p t main
 
--- all that a run asks: a schedule that may be run, and room
+-- all that a run asks: room
 pub record Runnable (h : DeviceHeader) (schedule : List ℕ) (room₁ room₂ : ℕ) : Type 0 where
-  pub all_turns : (i : ℕ) → i < length schedule → is_turn (byte schedule i) ≡ true
-  pub short : length schedule ≤ 4096
   pub fits : 4 * length schedule ≤ room₁
   pub map_fits : h.locations ≤ room₂
 

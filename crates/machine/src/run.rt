@@ -4,6 +4,7 @@ ghost use Rattle.machine.specs.Running.{Dealing, Deals};
 ghost use Rattle.machine.specs.Runs.{Runnable, Runs};
 
 use crate::records::{moved_more, write_map, write_record};
+use crate::schedule::Schedule;
 use crate::turn::{Machine, Player, Players, turn};
 use answers::Moved;
 use device::file::DeviceFile;
@@ -11,21 +12,21 @@ use program::file::ReadProgram;
 use sets::rows::Rows;
 use steps::step::start;
 
-// One turn for each byte of a schedule that may be run; how many steps of each job moved.
+// One turn for each byte of a schedule; how many steps of each job moved.
 pub fn deal(
     players: &Players<'_, '_>,
     machine: &mut Machine,
-    schedule: &[u8],
+    schedule: Schedule<'_>,
     records: &mut [u8],
 ) -> Moved
-    requires { Dealing players.now machine.old schedule.now (length records.old) }
-    ensures { Deals players.now machine.old schedule.now records.old machine.new result records.new }
+    requires { Dealing players.now machine.old schedule.bytes.now (length records.old) }
+    ensures { Deals players.now machine.old schedule.entry.bytes.now records.old machine.new result records.new }
 {
     let mut moved = Moved {
         first: 0,
         second: 0,
     };
-    for (i, byte) in schedule.iter().enumerate() {
+    for (i, byte) in schedule.bytes.iter().enumerate() {
         let record = turn(players, machine, *byte);
         write_record(record, records, 4 * i);
         moved.first += moved_more(*byte, 1, record.code);
@@ -39,13 +40,13 @@ pub fn run<'p>(
     device: DeviceFile<'_>,
     first: &'p ReadProgram<'p>,
     second: &'p ReadProgram<'p>,
-    schedule: &[u8],
+    schedule: Schedule<'_>,
     records: &mut [u8],
     map: &mut [u8],
 ) -> Moved
-    requires { Runnable device.header schedule.now (length records.old) (length map.old) }
+    requires { Runnable device.header schedule.bytes.now (length records.old) (length map.old) }
     ensures { Runs device.entry.bytes.now device.entry.header first.now.bytes.now first.now.functions first.now.main
-        second.now.bytes.now second.now.functions second.now.main schedule.now records.old map.old result records.new map.new }
+        second.now.bytes.now second.now.functions second.now.main schedule.entry.bytes.now records.old map.old result records.new map.new }
 {
     let mut first_rows = Rows::empty();
     device.region_rows(1, &mut first_rows);

@@ -60,39 +60,36 @@ returns-in_err-two c =
     ∙ run_no_second a.device.now a.first.now a.second.now a.schedule.now a.records.now a.map.now g.0 g.1.reads p.0 p.1 _
     (program_refuses a.second.now 2 _ c.in_err-two.ensures.answers)
 
-pub returns-in_err-read_schedule : goal.returns-in_err-read_schedule
-returns-in_err-read_schedule c =
+pub returns-in_err-turns : goal.returns-in_err-turns
+returns-in_err-turns c =
     let a = c.args in
     let g = read_gives a.device.now Device _ c.in_ok-device.ensures.said in
     let p = program_gives a.first.now 1 c.in_ok-one.ensures.answers in
     let q = program_gives a.second.now 2 c.in_ok-two.ensures.answers in
-    ap (λ r. ended r a.records.now a.map.now) (passed_as _ c.from_residual-in_err-read_schedule.ensures.1)
+    ap (λ r. ended r a.records.now a.map.now) (passed_as _ c.from_residual-in_err-turns.ensures.passed.1)
     ∙ run_no_schedule a.device.now a.first.now a.second.now a.schedule.now a.records.now a.map.now g.0 g.1.reads p.0 p.1 q.0 q.1 _
-    c.in_err-read_schedule.ensures
+    c.in_err-turns.ensures.passed
 
 pub returns-then-records-schedule : goal.returns-then-records-schedule
 returns-then-records-schedule c =
     let a = c.args in
-    let g = given _ _ _ _ _ c.in_ok-device.ensures.said c.in_ok-one.ensures.answers c.in_ok-two.ensures.answers c.in_ok-read_schedule.ensures in
+    let g = given _ _ _ _ _ c.in_ok-device.ensures.said c.in_ok-one.ensures.answers c.in_ok-two.ensures.answers c.in_ok-turns.ensures.passed in
     ap (λ x. ended (Err x) a.records.now a.map.now) c.at.ensures
     ∙ run_no_records a.device.now a.first.now a.second.now a.schedule.now a.records.now a.map.now g.inputs (omega (arith, c.if-records-schedule.true))
 
 pub returns-then-map-device : goal.returns-then-map-device
 returns-then-map-device c =
     let a = c.args in
-    let g = given _ _ _ _ _ c.in_ok-device.ensures.said c.in_ok-one.ensures.answers c.in_ok-two.ensures.answers c.in_ok-read_schedule.ensures in
+    let g = given _ _ _ _ _ c.in_ok-device.ensures.said c.in_ok-one.ensures.answers c.in_ok-two.ensures.answers c.in_ok-turns.ensures.passed in
     ap (λ x. ended (Err x) a.records.now a.map.now) c.at-then-map-device.ensures
     ∙ run_no_map a.device.now a.first.now a.second.now a.schedule.now a.records.now a.map.now g.inputs
     (omega (arith, c.if-records-schedule.false)) (omega (arith, c.if-map-device.true, g.the_device.locations))
 
 pub run-requires : goal.run-requires
-run-requires c =
-    let m = may_run c.args.schedule.now c.in_ok-read_schedule.ensures in record {
-      all_turns = m.all_turns;
-      short = m.short;
-      fits = omega (arith, c.if-records-schedule.false);
-      map_fits = omega (arith, c.if-map-device.false);
-    }
+run-requires c = record {
+  fits = rw c.in_ok-turns.ensures.bytes (omega (arith, c.if-records-schedule.false));
+  map_fits = omega (arith, c.if-map-device.false);
+}
 
 pub returns : goal.returns
 returns c =
@@ -100,10 +97,10 @@ returns c =
     let d = c.in_ok-device.ensures in
     let one = c.in_ok-one.ensures in
     let two = c.in_ok-two.ensures in
-    let g = given _ _ _ _ _ d.said one.answers two.answers c.in_ok-read_schedule.ensures in
+    let g = given _ _ _ _ _ d.said one.answers two.answers c.in_ok-turns.ensures.passed in
     let i = g.inputs in
     let r = c.run in
     run_done a.device.now a.first.now a.second.now a.schedule.now a.records.now a.map.now i
     (omega (arith, c.if-records-schedule.false)) (omega (arith, c.if-map-device.false, g.the_device.locations)) _ _ _ _ _ r.result _ _ g.the_device
     (record { reads = i.first; tabled = one.tables i.p i.first }) (record { reads = i.second; tabled = two.tables i.q i.second })
-    (rw (d.bytes, one.bytes, two.bytes) at r.ensures)
+    (rw (d.bytes, one.bytes, two.bytes, c.in_ok-turns.ensures.bytes) at r.ensures)

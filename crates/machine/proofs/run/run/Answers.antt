@@ -14,7 +14,7 @@ deal-moved-requires c =
     let d = device_of c.args.device.reads in
     let l = loaded c.args.first.now.reading in
     let r = loaded c.args.second.now.reading in
-    dealing c.args.device.bytes.now c.args.device.header _ c.args.first.now.main c.args.second.now.main c.args.schedule.now d.0 l.0 r.0 d.1 l.1 r.1
+    dealing c.args.device.bytes.now c.args.device.header _ c.args.first.now.main c.args.second.now.main c.args.schedule.bytes.now d.0 l.0 r.0 d.1 l.1 r.1
     (c.owned_by.ensures d.0 d.1) (c.region_rows.ensures d.0 d.1) (c.owned_by-2.ensures d.0 d.1) (c.region_rows-2.ensures d.0 d.1)
     _ _ c.start.ensures c.start-2.ensures c.requires
 
@@ -23,6 +23,6 @@ write_map-requires c = ((sound c.args.device.reads).few, c.requires.map_fits)
 
 pub returns : goal.returns
 returns c = λ D p q Q L₁ L₂.
-    run_is c.args.device.bytes.now c.args.device.header _ c.args.first.now.main c.args.second.now.main c.args.schedule.now D p q Q L₁ L₂
+    run_is c.args.device.bytes.now c.args.device.header _ c.args.first.now.main c.args.second.now.main c.args.schedule.bytes.now D p q Q L₁ L₂
     (c.owned_by.ensures D Q) (c.region_rows.ensures D Q) (c.owned_by-2.ensures D Q) (c.region_rows-2.ensures D Q)
     _ _ c.start.ensures c.start-2.ensures c.args.records.now c.args.map.now _ _ _ _ c.requires c.deal-moved.ensures c.write_map.ensures

@@ -66,7 +66,7 @@ returns-in_err-turns c =
     let g = read_gives a.device.now Device _ c.in_ok-device.ensures.said in
     let p = program_gives a.first.now 1 c.in_ok-one.ensures.answers in
     let q = program_gives a.second.now 2 c.in_ok-two.ensures.answers in
-    ap (λ r. ended r a.records.now a.map.now) (passed_as _ c.from_residual-in_err-turns.ensures.passed.1)
+    ap (λ r. ended r a.records.now a.map.now) (passed_as _ c.from_residual-in_err-turns.ensures.1)
     ∙ run_no_schedule a.device.now a.first.now a.second.now a.schedule.now a.records.now a.map.now g.0 g.1.reads p.0 p.1 q.0 q.1 _
     c.in_err-turns.ensures.passed
 

@@ -20,4 +20,5 @@ returns c D d =
     let p = program_gives a.program.now a.job r.answers in
     let R = region_of D a.job in
     let j = c.judge.ensures p.0 (rw r.bytes p.1) (r.tables p.0 p.1) R (c.owned_by-owned.ensures D d) (c.region_rows.ensures D d) in
-    check_judged a.program.now a.job R p.0 p.1 _ (judgement_named a.job _ _ _ (λ x y h. search rules) c.map_err.ensures.cases ∙ ap (λ m. within (Program a.job) m) j)
+    check_judged a.program.now a.job R p.0 p.1 _
+    (judgement_named a.job _ _ _ (λ x y h. search rules) c.map_err.ensures.cases ∙ ap (λ m. within (Program a.job) m) j)

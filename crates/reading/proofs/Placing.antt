@@ -2,7 +2,8 @@
 use mathlib.Core.Bool.{Bool, true, false}
 use mathlib.Core.Option as places
 use mathlib.Core.Option.{none, some}
-use mathlib.Core.Path.{◌≡◌, refl, sym, ap, ◌∙◌}
+use mathlib.Core.Path.{◌≡◌, refl, sym, ap, subst, ◌∙◌}
+use native.Mathlib.Decide.{ℕ_discrete}
 use native.Mathlib.Nat.{zero-add, add-zero}
 use native.Mathlib.Omega.{arith}
 use Prim.Native.Nat.{ℕ, zero, suc, ◌+◌, ◌-◌, ◌<◌, ◌≤◌}
@@ -16,7 +17,9 @@ use Rattle.rules.specs.Words.{Text, place}
 use Rattle.rules.specs.Table.{name_of}
 use Rattle.rules.specs.Kinds.{byte_of}
 use Rattle.rules.specs.Listing.{spoken}
-use Rattle.reading.specs.Cursor.{below, Named, Valued}
+use Rattle.reading.specs.declared.words.Token.{Token}
+use Rattle.reading.specs.Cursor.{spelling, token_for, below, Named, Valued}
+use Rattle.reading.proofs.Spellings.{spelling_gate}
 
 abbrev next : places.Option ℕ → places.Option ℕ
 next none = none
@@ -87,6 +90,17 @@ module _ (u : Text) where
       placed = λ S l. place_none u (spoken Gate) 2 (λ k h. others k (omega arith));
       most = λ v e. absurd (let z : ◌≡◌ {A = ℕ} 0 1 = cc in omega arith);
     }
+
+  -- whether the word of the next gate is written; none of those before it and of it
+  pub gate_tested : (g : ℕ) → g < 4 → (w : Token) → w ≡ token_for Gate g → (t : Bool) → t ≡ same_list eqb u (spelling w) → GateIs g t
+  gate_tested g h w e t d = ap (λ (v : Text). same_list eqb u v) (sym (spelling_gate g h) ∙ ap spelling (sym e)) ∙ sym d
+
+  pub gates_next : (g : ℕ) → ((k : ℕ) → k < g → GateIs k false) → GateIs g false → (k : ℕ) → k < g + 1 → GateIs k false
+  gates_next g others it k h = go (ℕ_discrete k g)
+    where
+      go : Dec (k ≡ g) → GateIs k false
+      go (yes e) = subst (λ (j : ℕ). GateIs j false) (sym e) it
+      go (no n) = others k (omega arith)
 
 -- the names of the statement bytes, which are 1 to 13
 module _ (u : Text) where

@@ -11,12 +11,11 @@ use Rattle.rules.specs.declared.statements.Operand.TheVariants.{Slot, Location, 
 use Rattle.rules.specs.Basics.{chosen}
 use Rattle.rules.specs.Program.{Scope}
 use Rattle.rules.specs.Words.{Text, space, onto, split}
-use Rattle.rules.specs.Kinds.{gate_word}
 use Rattle.rules.specs.Listing.{spoken, silent}
 use Rattle.rules.specs.Unlisting.{count}
 use Rattle.reading.specs.Cursor.{part, words_from, spelling, gate_token, token_for}
 
-pub spelling_gate : (v : ℕ) → v < 4 → spelling (gate_token (gate_word v) v) ≡ spoken Gate v
+pub spelling_gate : (v : ℕ) → v < 4 → spelling (gate_token v) ≡ spoken Gate v
 spelling_gate zero h = refl
 spelling_gate (suc zero) h = refl
 spelling_gate (suc (suc zero)) h = refl

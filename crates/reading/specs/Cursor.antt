@@ -5,12 +5,11 @@ use Rattle.std.proofs.Math.Option.{none, some}
 use Rattle.rules.specs.declared.statements.Operand.{Operand}
 use Rattle.rules.specs.declared.statements.Operand.TheVariants.{Slot, Location, Gate, Basis, Value, Callee, CalleeK, CalleeM, Nothing}
 use Rattle.rules.specs.declared.statements.Kind.{Kind}
-use Rattle.rules.specs.declared.words.Word as vocabulary
 use Rattle.rules.specs.Basics.{chosen}
 use Rattle.rules.specs.Program.{Scope}
 use Rattle.rules.specs.Words.{Text, space, newline, split, decimal, place}
 use Rattle.rules.specs.Table.{names}
-use Rattle.rules.specs.Kinds.{byte_of, text_of, gate_word}
+use Rattle.rules.specs.Kinds.{byte_of, text_of, numbered}
 use Rattle.rules.specs.Unlisting.{count, words_for}
 use Rattle.reading.specs.declared.words.Token.{Token}
 use Rattle.reading.specs.declared.words.Token.TheVariants.{Word, Decimal}
@@ -65,16 +64,19 @@ pub record Valued (operand : Operand) (u : Text) (r : Option ℕ) : Type 0 where
   pub placed : (S : Scope) → count S operand ≤ 256 → place u (words_for S operand) ≡ below r (count S operand)
   pub most : (v : ℕ) → r ≡ Some v → v < 1000
 
--- the token for operand v: of the four gates their letters, else a decimal
-abbrev pub gate_token : Option vocabulary.Word → ℕ → Token
-gate_token None v = Decimal v
-gate_token (Some w) v = Word w
+-- the token of a word's number: the vocabulary and the names, then the decimals
+abbrev pub numbered_token : ℕ → Token
+numbered_token w = chosen (ltb w 26) (Word (numbered w)) (Decimal (w - 26))
+
+-- the token for operand v: the letters of the gates stand in the vocabulary from number 9 on; else a decimal
+abbrev pub gate_token : ℕ → Token
+gate_token v = numbered_token (9 + v)
 
 abbrev pub token_for : Operand → ℕ → Token
 token_for Slot v = Decimal v
 token_for Location v = Decimal v
-token_for Gate v = gate_token (gate_word v) v
-token_for Basis v = gate_token (gate_word v) v
+token_for Gate v = gate_token v
+token_for Basis v = gate_token v
 token_for Value v = Decimal v
 token_for Callee v = Decimal v
 token_for CalleeK v = Decimal v

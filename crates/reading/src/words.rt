@@ -1,10 +1,10 @@
 // Words of a line: where one ends, and which word it is. Callers pass the characters of the word that stands there.
-ghost use Rattle.std.specs.Prelude.{◌≡◌, ◌≤◌, not, false, eqb, length};
+ghost use Rattle.std.specs.Prelude.{◌≡◌, ◌≤◌, ◌<◌, not, false, eqb, length};
 ghost use Rattle.rules.specs.Basics.{same_list};
 ghost use Rattle.rules.specs.Words.{opens};
 ghost use Rattle.std.specs.List.{prefix_len};
 ghost use Rattle.rules.specs.Listing.{silent};
-ghost use Rattle.reading.specs.Cursor.{LineEnd, WordEnd, spelling, Digit, Numeral, Named, Valued, token_for};
+ghost use Rattle.reading.specs.Cursor.{LineEnd, WordEnd, spelling, Digit, Numeral, Named, Valued, numbered_token, token_for};
 
 use rules::statements::{Kind, Operand};
 use rules::words::Word;
@@ -17,6 +17,18 @@ pub enum Token {
 }
 
 impl Token {
+    // The token of a word's number: the vocabulary and the names, then the decimals.
+    pub fn numbered(w: usize) -> Token
+        requires { w < 282 }
+        ensures { result ≡ numbered_token w }
+    {
+        if w < 26 {
+            Token::Word(Word::numbered(w))
+        } else {
+            Token::Decimal((w - 26) as u8)
+        }
+    }
+
     // Its characters; those of a decimal are put into `room`, since there is no heap.
     fn letters(self, room: &mut [u8; 3]) -> &[u8]
         ensures { result.now ≡ spelling self }
@@ -143,13 +155,13 @@ pub fn value(part: &[u8], operand: Operand) -> Option<usize>
     }
 }
 
-// The word for operand `v`. A gate above the four has none: no line asks for it, as callers go over numbers below how many words there are, so an option would
-// never be none.
+// The word for operand `v`. A gate above the four has no word, and gets the one whose number comes next: no line asks for it, as callers go over numbers below
+// how many words there are.
 pub fn word_for(operand: Operand, v: u8) -> Token
     ensures { result ≡ token_for operand v }
 {
     match operand {
-        Operand::Gate | Operand::Basis => Word::gate(v).map_or(Token::Decimal(v), Token::Word),
+        Operand::Gate | Operand::Basis => Token::numbered(9 + v as usize),
         _ => Token::Decimal(v),
     }
 }

@@ -6,7 +6,7 @@ use Rattle.rules.specs.declared.statements.Operand.{Operand}
 use Rattle.rules.specs.declared.statements.Kind.{Kind}
 use Rattle.rules.specs.declared.statements.Kind.TheVariants.{Init, Magic, Free, Gate, Measure, Merge, Ref, Get, Set, If, While, Call, Bool}
 use Rattle.rules.specs.declared.words.Word.{Word}
-use Rattle.rules.specs.declared.words.Word.TheVariants.{Program, Function, Locations, Arguments, Main, Else, At, With, X, Z, H, S, Name}
+use Rattle.rules.specs.declared.words.Word.TheVariants.{Empty, Program, Function, Locations, Arguments, Main, Else, At, With, X, Z, H, S, Name}
 use Rattle.rules.specs.Words.{Text}
 use Rattle.rules.specs.Names as names
 use Rattle.rules.specs.Table.{row_of, name_of}
@@ -32,6 +32,7 @@ operands_of b = elim (row_of b) [ none ↦ [] | some r ↦ r.operands ]
 
 -- the text of a word
 abbrev pub text_of : Word → Text
+text_of Empty = []
 text_of Program = names.program
 text_of Function = names.function
 text_of Locations = names.locations
@@ -49,3 +50,13 @@ text_of (Name kind) = name_of (byte_of kind)
 -- the word of gate or basis number g
 abbrev pub gate_word : ℕ → Option Word
 gate_word g = get_or (Some X ∷ Some Z ∷ Some H ∷ Some S ∷ []) g None
+
+-- the words in the order of their numbers, the names last
+abbrev pub all_words : List Word
+all_words =
+    Empty ∷ Program ∷ Function ∷ Locations ∷ Arguments ∷ Main ∷ Else ∷ At ∷ With ∷ X ∷ Z ∷ H ∷ S
+    ∷ Name Init ∷ Name Magic ∷ Name Free ∷ Name Gate ∷ Name Measure ∷ Name Merge ∷ Name Ref ∷ Name Get ∷ Name Set
+    ∷ Name If ∷ Name While ∷ Name Call ∷ Name Bool ∷ []
+
+abbrev pub numbered : ℕ → Word
+numbered w = get_or all_words w Empty

@@ -63,10 +63,10 @@ impl TryFrom<u8> for Kind {
         ensures ok { IfOk result (λ kind. byte_of kind ≡ byte) }
         ensures err { IfErr result (λ fault. (fault ≡ NoStatement) × (0 < byte → 13 < byte)) }
     {
-        if byte == 0 || 13 < byte {
-            return Err(Fault::NoStatement);
+        match byte {
+            0 | 14..=255 => Err(Fault::NoStatement),
+            _ => Ok(Kind::known(byte)),
         }
-        Ok(Kind::known(byte))
     }
 }
 
@@ -140,5 +140,16 @@ impl Kind {
         } else {
             Operand::Nothing
         }
+    }
+}
+
+// What operand number `i` of a statement byte is; byte 0 begins no statement, and has none.
+pub fn operand_kind(statement: u8, i: usize) -> Operand
+    requires { (statement < 14) × (0 < i) × (i < 6) }
+    ensures { result ≡ operand_at statement i }
+{
+    match Kind::try_from(statement) {
+        Ok(kind) => kind.operand(i),
+        Err(_) => Operand::Nothing,
     }
 }

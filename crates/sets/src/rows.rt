@@ -4,7 +4,7 @@ ghost use Rattle.sets.specs.Sets.{has, row_of};
 
 use super::LocationSet;
 
-#[derive(Drop)]
+#[derive(Clone, Copy)]
 pub struct Rows {
     pub rows: [LocationSet; 256],
 }

@@ -2,6 +2,7 @@
 -- step has main's statements in its one range.
 use mathlib.Core.Bool.{Bool}
 use mathlib.Core.List.{List, []}
+use mathlib.Core.Logic.{◌⊎◌}
 use mathlib.Core.Path.{◌≡◌, refl, sym, ap, ◌∙◌, subst}
 use native.Mathlib.Omega.{arith}
 use Prim.Native.Nat.{ℕ, suc, ◌+◌, ◌≤◌, ◌<◌}
@@ -9,7 +10,7 @@ use lib.ListN.{length, replicate}
 use Rattle.std.specs.Prelude.{Result, Ok}
 use Rattle.answers.specs.declared.Fault.{Fault}
 use Rattle.rules.specs.declared.statements.Kind.{Kind}
-use Rattle.rules.specs.declared.statements.Kind.TheVariants.{Init, Magic, Free, Gate, Measure, Merge, Ref, Get, Set, If, While, Call, Bool as Truth}
+use Rattle.rules.specs.declared.statements.Kind.TheVariants.{Init, Magic, Free, Gate, Measure, Merge, Ref, Get, Set, Bool as Truth}
 use Rattle.rules.specs.Kinds.{byte_of}
 use Rattle.rules.specs.declared.place.Location.{Location}
 use Rattle.rules.specs.Basics.{byte, word}
@@ -52,54 +53,11 @@ starts_there C =
     let N = coming C in
     let b = statement_byte N.here in (b.0, b.1, omega (arith, b.2, b.3), N.size)
 
-kind_10 : (k : Kind) → byte_of k ≡ 10 → (k ≡ If → ⊥) → ⊥
-kind_10 Init e h = absurd (omega (arith, e))
-kind_10 Magic e h = absurd (omega (arith, e))
-kind_10 Free e h = absurd (omega (arith, e))
-kind_10 Gate e h = absurd (omega (arith, e))
-kind_10 Measure e h = absurd (omega (arith, e))
-kind_10 Merge e h = absurd (omega (arith, e))
-kind_10 Ref e h = absurd (omega (arith, e))
-kind_10 Get e h = absurd (omega (arith, e))
-kind_10 Set e h = absurd (omega (arith, e))
-kind_10 If e h = absurd (h refl)
-kind_10 While e h = absurd (omega (arith, e))
-kind_10 Call e h = absurd (omega (arith, e))
-kind_10 Truth e h = absurd (omega (arith, e))
-
-kind_11 : (k : Kind) → byte_of k ≡ 11 → (k ≡ While → ⊥) → ⊥
-kind_11 Init e h = absurd (omega (arith, e))
-kind_11 Magic e h = absurd (omega (arith, e))
-kind_11 Free e h = absurd (omega (arith, e))
-kind_11 Gate e h = absurd (omega (arith, e))
-kind_11 Measure e h = absurd (omega (arith, e))
-kind_11 Merge e h = absurd (omega (arith, e))
-kind_11 Ref e h = absurd (omega (arith, e))
-kind_11 Get e h = absurd (omega (arith, e))
-kind_11 Set e h = absurd (omega (arith, e))
-kind_11 If e h = absurd (omega (arith, e))
-kind_11 While e h = absurd (h refl)
-kind_11 Call e h = absurd (omega (arith, e))
-kind_11 Truth e h = absurd (omega (arith, e))
-
-kind_12 : (k : Kind) → byte_of k ≡ 12 → (k ≡ Call → ⊥) → ⊥
-kind_12 Init e h = absurd (omega (arith, e))
-kind_12 Magic e h = absurd (omega (arith, e))
-kind_12 Free e h = absurd (omega (arith, e))
-kind_12 Gate e h = absurd (omega (arith, e))
-kind_12 Measure e h = absurd (omega (arith, e))
-kind_12 Merge e h = absurd (omega (arith, e))
-kind_12 Ref e h = absurd (omega (arith, e))
-kind_12 Get e h = absurd (omega (arith, e))
-kind_12 Set e h = absurd (omega (arith, e))
-kind_12 If e h = absurd (omega (arith, e))
-kind_12 While e h = absurd (omega (arith, e))
-kind_12 Call e h = absurd (h refl)
-kind_12 Truth e h = absurd (omega (arith, e))
-
--- a statement of another kind than those three is no block's
-pub no_block : (k : Kind) (b : ℕ) → byte_of k ≡ b → (k ≡ If → ⊥) → (k ≡ While → ⊥) → (k ≡ Call → ⊥) → NoBlock b
-no_block k b e x y z = record { no_if = λ h. kind_10 k (e ∙ h) x; no_while = λ h. kind_11 k (e ∙ h) y; no_call = λ h. kind_12 k (e ∙ h) z }
+-- the kinds of operations are no block's
+pub no_block : (k : Kind) (b : ℕ) → byte_of k ≡ b
+    → (k ≡ Init) ⊎ ((k ≡ Magic) ⊎ ((k ≡ Free) ⊎ ((k ≡ Gate) ⊎ ((k ≡ Measure) ⊎ ((k ≡ Merge) ⊎ ((k ≡ Ref) ⊎ ((k ≡ Get) ⊎ ((k ≡ Set) ⊎ (k ≡ Truth)))))))))
+    → NoBlock b
+no_block k b e h = record { no_if = λ f. grind arith; no_while = λ f. grind arith; no_call = λ f. grind arith }
 
 -- what the kinds promise is what a step promises
 module _ (s : List ℕ) (t : FunctionTable) (at : ℕ) (rows : Rows) (owned : LocationSet) (map : List ℕ) (v : Bool) (j i : Job) (r : Result Effect Fault) where

@@ -3,13 +3,13 @@
 use mathlib.Core.Bool.{Bool}
 use mathlib.Core.List.{List}
 use mathlib.Core.Logic.{◌⊎◌, inl, inr}
-use mathlib.Core.Path.{◌≡◌, refl, sym, ap, ◌∙◌, subst}
+use mathlib.Core.Path.{◌≡◌, sym, ap, ◌∙◌, subst}
 use native.Mathlib.Omega.{arith}
 use Prim.Native.Nat.{ℕ, ◌+◌, ◌<◌}
 use lib.Dec.{eqb}
 use lib.ListN.{length}
 use Rattle.rules.specs.declared.statements.Kind.{Kind}
-use Rattle.rules.specs.declared.statements.Kind.TheVariants.{Init, Magic, Free, Gate, Measure, Merge, Ref, Get, Set, If, While, Call, Bool as Truth}
+use Rattle.rules.specs.declared.statements.Kind.TheVariants.{Init, Magic, If, While, Call, Bool as Truth}
 use Rattle.rules.specs.Kinds.{byte_of}
 use Rattle.rules.specs.declared.place.Location.{Location}
 use Rattle.rules.specs.Basics.{byte}
@@ -32,33 +32,17 @@ pub init_byte : (k : Kind) (b : ℕ) → byte_of k ≡ b → (k ≡ Init) ⊎ (k
 init_byte k b e (inl z) = let f = byte_is k Init b e z in omega (arith, f)
 init_byte k b e (inr z) = let f = byte_is k Magic b e z in omega (arith, f)
 
--- the last arm's kind: none of those before it, and no block's
-last_kind : (k : Kind) → (k ≡ Init → ⊥) → (k ≡ Magic → ⊥) → (k ≡ Free → ⊥) → (k ≡ Gate → ⊥) → (k ≡ Measure → ⊥) → (k ≡ Merge → ⊥) → (k ≡ Ref → ⊥)
-    → (k ≡ Get → ⊥) → (k ≡ Set → ⊥)
-    → (byte_of k ≡ 10 → ⊥) → (byte_of k ≡ 11 → ⊥) → (byte_of k ≡ 12 → ⊥) → byte_of k ≡ 13
-last_kind Init a b c d e f g h i m n o = absurd (a refl)
-last_kind Magic a b c d e f g h i m n o = absurd (b refl)
-last_kind Free a b c d e f g h i m n o = absurd (c refl)
-last_kind Gate a b c d e f g h i m n o = absurd (d refl)
-last_kind Measure a b c d e f g h i m n o = absurd (e refl)
-last_kind Merge a b c d e f g h i m n o = absurd (f refl)
-last_kind Ref a b c d e f g h i m n o = absurd (g refl)
-last_kind Get a b c d e f g h i m n o = absurd (h refl)
-last_kind Set a b c d e f g h i m n o = absurd (i refl)
-last_kind If a b c d e f g h i m n o = absurd (m refl)
-last_kind While a b c d e f g h i m n o = absurd (n refl)
-last_kind Call a b c d e f g h i m n o = absurd (o refl)
-last_kind Truth a b c d e f g h i m n o = refl
-
 -- the statement that is known to be there
 module _ {s : List ℕ} {at : ℕ} {j : Job} (O : Operable s at j) where
   pub byte_there : (0 < byte s at) × (byte s at < 14) × (at < length s)
   byte_there = let b = statement_byte O.here in (b.0, b.1, omega (arith, b.2, b.3))
 
-  pub last_byte : (k : Kind) → byte_of k ≡ byte s at → (k ≡ Init → ⊥) → (k ≡ Magic → ⊥) → (k ≡ Free → ⊥) → (k ≡ Gate → ⊥) → (k ≡ Measure → ⊥)
-      → (k ≡ Merge → ⊥) → (k ≡ Ref → ⊥) → (k ≡ Get → ⊥)
-      → (k ≡ Set → ⊥) → byte s at ≡ 13
-  last_byte k e a b c d f g h i l = sym e ∙ last_kind k a b c d f g h i l (λ z. O.no_if (sym e ∙ z)) (λ z. O.no_while (sym e ∙ z)) (λ z. O.no_call (sym e ∙ z))
+  -- the last arm's kind: none of the three that are named beside it stands there
+  pub last_byte : (k : Kind) → byte_of k ≡ byte s at → (k ≡ Truth) ⊎ ((k ≡ If) ⊎ ((k ≡ While) ⊎ (k ≡ Call))) → byte s at ≡ 13
+  last_byte k e (inl z) = byte_is k Truth _ e z
+  last_byte k e (inr (inl z)) = absurd (O.no_if (byte_is k If _ e z))
+  last_byte k e (inr (inr (inl z))) = absurd (O.no_while (byte_is k While _ e z))
+  last_byte k e (inr (inr (inr z))) = absurd (O.no_call (byte_is k Call _ e z))
 
   pub init_there : byte s at < 3 → IsInit s O.S O.depths at O.t O.p
   init_there k = init_seen O.here k

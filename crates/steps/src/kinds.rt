@@ -38,7 +38,10 @@ pub fn operate(
         Kind::Ref => new_reference(slots, slot(s, at + 1), slot(s, at + 2)),
         Kind::Get => get_reference(slots, slot(s, at + 1), slot(s, at + 2)),
         Kind::Set => set_reference(slots, slot(s, at + 1), slot(s, at + 2)),
-        _ => constant(slots, slot(s, at + 1), s[at + 2] == 1),
+        // beside the last operation the three that are none: `Operable` says that none of them stands there
+        Kind::Bool | Kind::If | Kind::While | Kind::Call => {
+            constant(slots, slot(s, at + 1), s[at + 2] == 1)
+        }
     }
 }
 

@@ -48,7 +48,16 @@ fn go_on(
         Kind::If => branch(s, at, job),
         Kind::While => repeat(s, at, job),
         Kind::Call => call(s, functions, at, floor, job),
-        _ => operation(s, at, floor, job, outcome),
+        Kind::Init
+        | Kind::Magic
+        | Kind::Free
+        | Kind::Gate
+        | Kind::Measure
+        | Kind::Merge
+        | Kind::Ref
+        | Kind::Get
+        | Kind::Set
+        | Kind::Bool => operation(s, at, floor, job, outcome),
     }
 }
 

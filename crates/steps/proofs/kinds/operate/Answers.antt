@@ -60,15 +60,11 @@ slot-requires-in-Set c = let f = set_there c.requires (byte_is _ Set _ c.known.e
 pub slot-requires-in-Set-2 : goal.slot-requires-in-Set-2
 slot-requires-in-Set-2 c = let f = set_there c.requires (byte_is _ Set _ c.known.ensures c.in-Set.is) in (omega (arith, f.0), f.2)
 
-pub slot-requires-in_default : goal.slot-requires-in_default
-slot-requires-in_default c = let f = constant_there c.requires
-    (last_byte c.requires _ c.known.ensures c.in_default.not-Init c.in_default.not-Magic c.in_default.not-Free c.in_default.not-Gate c.in_default.not-Measure
-    c.in_default.not-Merge c.in_default.not-Ref c.in_default.not-Get c.in_default.not-Set) in (omega (arith, f.0), f.1)
+pub slot-requires-in-Bool : goal.slot-requires-in-Bool
+slot-requires-in-Bool c = let f = constant_there c.requires (last_byte c.requires _ c.known.ensures c.in-Bool.is) in (omega (arith, f.0), f.1)
 
-pub bounds-s-at-in_default : goal.bounds-s-at-in_default
-bounds-s-at-in_default c = let f = constant_there c.requires
-    (last_byte c.requires _ c.known.ensures c.in_default.not-Init c.in_default.not-Magic c.in_default.not-Free c.in_default.not-Gate c.in_default.not-Measure
-    c.in_default.not-Merge c.in_default.not-Ref c.in_default.not-Get c.in_default.not-Set) in omega (arith, f.0)
+pub bounds-s-at-in-Bool : goal.bounds-s-at-in-Bool
+bounds-s-at-in-Bool c = let f = constant_there c.requires (last_byte c.requires _ c.known.ensures c.in-Bool.is) in omega (arith, f.0)
 
 pub returns-in-Init : goal.returns-in-Init
 returns-in-Init c = init_goes c.args.s.now _ _ _ _ c.args.floor.now.map.now _ _ _ c.slot.ensures _ refl (init_byte _ _ c.known.ensures c.in-Init.is) _
@@ -102,7 +98,6 @@ pub returns-in-Set : goal.returns-in-Set
 returns-in-Set c = set_goes c.args.s.now _ _ _ _ c.args.floor.now.map.now _ _ _ c.slot-in-Set.ensures _ c.slot-in-Set-2.ensures
     (byte_is _ Set _ c.known.ensures c.in-Set.is) c.set_reference.ensures
 
-pub returns-in_default : goal.returns-in_default
-returns-in_default c = constant_goes c.args.s.now _ _ _ _ c.args.floor.now.map.now _ _ _ c.slot-in_default.ensures _ refl
-    (last_byte c.requires _ c.known.ensures c.in_default.not-Init c.in_default.not-Magic c.in_default.not-Free c.in_default.not-Gate c.in_default.not-Measure
-    c.in_default.not-Merge c.in_default.not-Ref c.in_default.not-Get c.in_default.not-Set) c.constant.ensures
+pub returns-in-Bool : goal.returns-in-Bool
+returns-in-Bool c = constant_goes c.args.s.now _ _ _ _ c.args.floor.now.map.now _ _ _ c.slot-in-Bool.ensures _ refl
+    (last_byte c.requires _ c.known.ensures c.in-Bool.is) c.constant.ensures

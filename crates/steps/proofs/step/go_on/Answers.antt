@@ -20,7 +20,7 @@ pub call-requires : goal.call-requires
 call-requires c = (c.requires.0, c.requires.1, byte_is _ Call _ c.known.ensures c.in-Call.is)
 
 pub operation-requires : goal.operation-requires
-operation-requires c = (c.requires.1, no_block _ _ c.known.ensures c.in_default.not-If c.in_default.not-While c.in_default.not-Call)
+operation-requires c = (c.requires.1, no_block _ _ c.known.ensures c.in-Init.is)
 
 pub returns-in-If : goal.returns-in-If
 returns-in-If c = by_anyway c.args.s.now _ _ c.args.floor.now.rows.now _ c.args.floor.now.map.now _ _ _ _ c.branch-s.ensures
@@ -31,5 +31,5 @@ returns-in-While c = by_anyway c.args.s.now _ _ c.args.floor.now.rows.now _ c.ar
 pub returns-in-Call : goal.returns-in-Call
 returns-in-Call c = by_call c.args.s.now _ _ c.args.floor.now.rows.now _ c.args.floor.now.map.now _ _ _ _ c.call.ensures
 
-pub returns-in_default : goal.returns-in_default
-returns-in_default c = by_operation c.args.s.now _ _ c.args.floor.now.rows.now _ c.args.floor.now.map.now _ _ _ _ c.operation.ensures
+pub returns-in-Init : goal.returns-in-Init
+returns-in-Init c = by_operation c.args.s.now _ _ c.args.floor.now.rows.now _ c.args.floor.now.map.now _ _ _ _ c.operation.ensures

@@ -12,14 +12,18 @@ use Rattle.steps.specs.declared.Record.{Record}
 use Rattle.steps.specs.declared.Effect.{Effect}
 use Rattle.steps.specs.declared.Stepped.{Stepped}
 
+-- nothing changes: a code and 0
+abbrev pub stuck : ℕ → ℕ → Stepped
+stuck code o = record { «record» = record { code = code; edges = 0; offset = o }; act = Quiet }
+
 -- the item at the offset o moved: 0 and its edges; or it is stuck: its reason's number and 0
 abbrev pub told : Result Effect Fault → ℕ → Stepped
 told (Ok e) o = record { «record» = record { code = 0; edges = e.edges; offset = o }; act = e.act }
-told (Err reason) o = record { «record» = record { code = number_of reason; edges = 0; offset = o }; act = Quiet }
+told (Err reason) o = stuck (number_of reason) o
 
 -- the job is at its end
 abbrev pub finished : Stepped
-finished = record { «record» = record { code = 1; edges = 0; offset = 65535 }; act = Quiet }
+finished = stuck 1 65535
 
 -- a move with no edges that does nothing to the map
 abbrev pub silent : Effect

@@ -2,7 +2,7 @@
 #![tactic(auto)]
 
 ghost use Rattle.std.specs.Prelude.{◌≡◌, ◌<◌};
-ghost use Rattle.steps.specs.Told.{told, finished};
+ghost use Rattle.steps.specs.Told.{told, stuck, finished};
 
 use answers::Fault;
 use rules::place::Location;
@@ -65,21 +65,28 @@ impl Stepped {
 
     const FINISHED: u8 = 1;
 
-    // The job is at its end: nothing changes, and there is no item.
-    pub fn finished() -> Self
-        ensures { result ≡ finished }
+    // Stuck, or finished: nothing changes.
+    pub fn stuck(code: u8, offset: u16) -> Self
+        ensures { result ≡ stuck code offset }
     {
         Stepped {
             record: Record {
-                code: Stepped::FINISHED,
+                code,
                 edges: 0,
-                offset: 0xFFFF,
+                offset,
             },
             act: Act::Quiet,
         }
     }
 
-    // The item at an offset moved, or it is stuck for a reason, and nothing changes.
+    // The job is at its end: there is no item.
+    pub fn finished() -> Self
+        ensures { result ≡ finished }
+    {
+        Stepped::stuck(Stepped::FINISHED, 0xFFFF)
+    }
+
+    // The item at an offset moved, or it is stuck for a reason.
     pub fn told(done: Result<Effect, Fault>, at: usize) -> Self
         requires { at < 65536 }
         ensures { result ≡ told done at }
@@ -94,14 +101,7 @@ impl Stepped {
                 },
                 act: effect.act,
             },
-            Err(reason) => Stepped {
-                record: Record {
-                    code: reason.number(),
-                    edges: 0,
-                    offset,
-                },
-                act: Act::Quiet,
-            },
+            Err(reason) => Stepped::stuck(reason.number(), offset),
         }
     }
 }

@@ -48,6 +48,6 @@ pub fn call(
     let mut inner = callee(places, s[at + 3], at);
     inner.push(body + 2, block_end(s, body));
     job.top.advance(end);
-    job.enter(inner);
+    job.enter(job.top, inner);
     Ok(Effect::QUIET)
 }

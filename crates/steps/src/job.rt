@@ -29,11 +29,11 @@ impl Job {
     }
 
     // The callee's frame goes on top, the caller's below it.
-    pub fn enter(&mut self, callee: Frame)
+    pub fn enter(&mut self, caller: Frame, callee: Frame)
         requires { self.old.depth < 15 }
-        ensures { self.new ≡ entering self.old self.old.top callee }
+        ensures { self.new ≡ entering self.old caller callee }
     {
-        self.below[self.depth] = self.top;
+        self.below[self.depth] = caller;
         self.top = callee;
         self.depth += 1;
     }

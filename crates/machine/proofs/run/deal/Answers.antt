@@ -9,7 +9,7 @@ pub turn-record-requires : goal.turn-record-requires
 turn-record-requires c =
     let d = c.requires in
     let g = c.loop-i.invariant.going d.D d.p d.q d.M d.both d.holds in
-    record { D = d.D; p = d.p; q = d.q; M = g.M; both = d.both; holds = g.holds; a_turn = c.args.schedule.turns _ c.loop-i-test.true }
+    record { D = d.D; p = d.p; q = d.q; M = g.M; both = d.both; holds = g.holds; a_turn = c.args.schedule.turns _ (omega (arith, c.loop-i-test.true)) }
 
 pub write_record-requires : goal.write_record-requires
 write_record-requires c = let d = c.requires in omega (arith, d.fits, c.loop-i.invariant.long, c.loop-i-test.true)

@@ -3,6 +3,8 @@ ghost use Rattle.std.specs.Prelude.{false, ◌≡◌, ℕ, ◌+◌, ◌<◌, ◌
 ghost use Rattle.rules.specs.Basics.{byte};
 ghost use Rattle.walking.specs.Names.{placed, names_of, named};
 
+use rules::place::Location;
+
 // A body that is walked: how many functions come before it, and the locations that its call named, none in main.
 #[derive(Clone, Copy)]
 pub struct Body<'a> {
@@ -12,13 +14,13 @@ pub struct Body<'a> {
 
 impl Body<'_> {
     // The location that a place byte stands for.
-    pub fn location_of(&self, place: u8) -> u8
+    pub fn location_of(&self, place: u8) -> Location
         requires { (names_of self.now).main ≡ false → place < 16 }
-        ensures { result ≡ named (names_of self.now) place }
+        ensures { result.0 ≡ named (names_of self.now) place }
     {
         match self.names {
-            None => place,
-            Some(names) => names[place as usize],
+            None => Location(place),
+            Some(names) => Location(names[place as usize]),
         }
     }
 
@@ -33,8 +35,8 @@ impl Body<'_> {
     {
         for i in 0..k {
             let location = self.location_of(s[p + i]);
-            inner[i] = location;
-            frame[i] = location;
+            inner[i] = location.0;
+            frame[i] = location.0;
         }
     }
 }

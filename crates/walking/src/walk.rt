@@ -1,6 +1,6 @@
 // The walk over blocks: a loop goes over a block's statements, runs of quiet ones in one move; only nesting and callees recurse. The free locations are
-// lent, and each walk leaves there what is free after it. A frame is lent too, as the locations of its slots, to the one block that may change it. They
-// are no struct: a callee has a frame of its own, and its caller's free locations.
+// lent, and each walk leaves there what is free after it. A frame is lent too, as the numbers of its slots' locations, to the one block that may change
+// it. They are no struct: a callee has a frame of its own, and its caller's free locations.
 ghost use Rattle.std.specs.Prelude.{◌≡◌};
 ghost use Rattle.rules.specs.Basics.{byte};
 ghost use Rattle.rules.specs.Region.{Region};
@@ -14,6 +14,7 @@ use super::positions::statement_end;
 use super::quiet::Quiet;
 use program::functions::FunctionTable;
 use route::distance;
+use rules::place::Location;
 use rules::positions::block_end;
 use rules::statements::Kind;
 use sets::LocationSet;
@@ -37,10 +38,10 @@ pub struct NoPath {
 
 impl Walk<'_> {
     // Whether no path over free locations joins two ends. On its own, so that the copy that it searches is no part of each block's stack.
-    fn no_path(&self, free: &LocationSet, a: u8, b: u8) -> bool
-        ensures { (R : Region) → RowsOf R self.now.rows.now → result ≡ no_path R (has free.now) a b }
+    fn no_path(&self, free: &LocationSet, a: Location, b: Location) -> bool
+        ensures { (R : Region) → RowsOf R self.now.rows.now → result ≡ no_path R (has free.now) a.0 b.0 }
     {
-        distance(self.rows, *free, a, b).is_none()
+        distance(self.rows, *free, a.0, b.0).is_none()
     }
 
     // The block at `at` of a body: its slots are where the frame says.
@@ -65,13 +66,16 @@ impl Walk<'_> {
             match kind {
                 Kind::Init | Kind::Magic => {
                     let location = body.location_of(self.bytes[p + 2]);
-                    frame[self.bytes[p + 1] as usize] = location;
-                    free.erase(location);
+                    frame[self.bytes[p + 1] as usize] = location.0;
+                    free.erase(location.0);
                 }
-                Kind::Free => free.insert(frame[self.bytes[p + 1] as usize]),
+                Kind::Free => {
+                    let location = Location(frame[self.bytes[p + 1] as usize]);
+                    free.insert(location.0);
+                }
                 Kind::Merge => {
-                    let a = frame[self.bytes[p + 3] as usize];
-                    let b = frame[self.bytes[p + 5] as usize];
+                    let a = Location(frame[self.bytes[p + 3] as usize]);
+                    let b = Location(frame[self.bytes[p + 5] as usize]);
                     if self.no_path(free, a, b) {
                         return Err(NoPath { place: p });
                     }

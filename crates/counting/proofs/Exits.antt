@@ -1,6 +1,6 @@
 -- What each way out of a statement and of a callee gives. A statement's size is that of its parts and its own one, so the capped sum of what the parts
 -- gave is its count; a call's is its callee's, and a callee's is that of its body. Each part starts with the memory that the part before it left.
-use mathlib.Core.Logic.{◌≢◌}
+use mathlib.Core.Logic.{◌⊎◌, ◌≢◌}
 use mathlib.Core.Path.{◌≡◌, sym, ap, subst, ◌∙◌}
 use native.Mathlib.Omega.{arith}
 use Prim.Native.Nat.{ℕ, ◌+◌, ◌<◌, ◌≤◌}
@@ -11,7 +11,7 @@ use Rattle.rules.specs.Syntax.{function, Program}
 use Rattle.rules.specs.Table.{size_of}
 use Rattle.rules.specs.Kinds.{byte_of}
 use Rattle.rules.specs.declared.statements.Kind.{Kind}
-use Rattle.rules.specs.declared.statements.Kind.TheVariants.{If, While, Call}
+use Rattle.rules.specs.declared.statements.Kind.TheVariants.{Init, Magic, Free, Gate, Measure, Merge, Ref, Get, Set, If, While, Call, Bool}
 use Rattle.rules.proofs.KindBytes.{byte_injective}
 use Rattle.theory.specs.Counts.{statement_size, block_size}
 use Rattle.program.specs.Heads.{entry}
@@ -37,6 +37,12 @@ fewer f l P = record { size = P.size; few = P.few; enough = omega (arith, l, P.e
 pub callee_body : {b : Body} {p : Program} {f : ℕ} {h : Head} → Placed b p → f < length p.functions → h ≡ entry b.functions.now f
     → (q : ℕ) × BlockBelow b.bytes.now f h.body (function p.functions f).body q
 callee_body {b} {p} {f} P l e = let w = P.body f l in (w.0, subst (λ y. BlockBelow b.bytes.now f y.body (function p.functions f).body w.0) (sym e) w.1)
+
+-- the kinds of operations
+pub operation_kind : {k : Kind}
+    → (k ≡ Init) ⊎ ((k ≡ Magic) ⊎ ((k ≡ Free) ⊎ ((k ≡ Gate) ⊎ ((k ≡ Measure) ⊎ ((k ≡ Merge) ⊎ ((k ≡ Ref) ⊎ ((k ≡ Get) ⊎ ((k ≡ Set) ⊎ (k ≡ Bool)))))))))
+    → (k ≢ If) × (k ≢ While) × (k ≢ Call)
+operation_kind h = (λ f. grind arith, λ f. grind arith, λ f. grind arith)
 
 module _ {b : Body} {at : ℕ} {m : Memory} where
   pub if_exit : {x y : Sum} {m' m'' : Memory} {k n : ℕ} → byte b.bytes.now at ≡ 10 → BlockFound b (at + 2) m x m' → BlockFound b x.next m' y m''

@@ -57,7 +57,8 @@ impl Body<'_> {
         ensures in_file { (at + 2 ≤ result.next) × (result.next ≤ length self.now.bytes.now) }
         ensures capped { result.count ≤ 65536 }
     {
-        match Kind::known(self.bytes[at]) {
+        let kind = Kind::known(self.bytes[at]);
+        match kind {
             Kind::If => {
                 let then = self.count_block(at + 2, memory);
                 let other = self.count_block(then.next, memory);
@@ -80,7 +81,16 @@ impl Body<'_> {
                     next: call_end(self.bytes, at),
                 }
             }
-            kind => Sum {
+            Kind::Init
+            | Kind::Magic
+            | Kind::Free
+            | Kind::Gate
+            | Kind::Measure
+            | Kind::Merge
+            | Kind::Ref
+            | Kind::Get
+            | Kind::Set
+            | Kind::Bool => Sum {
                 count: own_count(kind),
                 next: at + kind.size(),
             },

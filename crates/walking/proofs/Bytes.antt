@@ -4,7 +4,7 @@ use mathlib.Core.Path.{◌≡◌, refl, sym, ap, ◌∙◌}
 use native.Mathlib.Omega.{arith}
 use Prim.Native.Nat.{ℕ, ◌<◌}
 use Rattle.rules.specs.declared.statements.Kind.{Kind}
-use Rattle.rules.specs.declared.statements.Kind.TheVariants.{Init, Magic, Gate, Measure, Ref, Get, Set, Bool}
+use Rattle.rules.specs.declared.statements.Kind.TheVariants.{Init, Magic, Free, Gate, Measure, Merge, Ref, Get, Set, Bool}
 use Rattle.rules.specs.Kinds.{byte_of}
 use Rattle.walking.specs.Quiet.{Silent}
 
@@ -13,6 +13,12 @@ byte_as e h = sym e ∙ ap byte_of h
 
 pub init_byte : {k : Kind} {b : ℕ} → byte_of k ≡ b → (k ≡ Init) ⊎ (k ≡ Magic) → b < 3
 init_byte e = ⊎_elim (λ h. omega (arith, byte_as e h)) (λ h. omega (arith, byte_as e h))
+
+-- an operation: it has no block, and calls nothing
+pub operation_byte : (k : Kind) (b : ℕ) → byte_of k ≡ b
+    → (k ≡ Init) ⊎ ((k ≡ Magic) ⊎ ((k ≡ Free) ⊎ ((k ≡ Gate) ⊎ ((k ≡ Measure) ⊎ ((k ≡ Merge) ⊎ ((k ≡ Ref) ⊎ ((k ≡ Get) ⊎ ((k ≡ Set) ⊎ (k ≡ Bool)))))))))
+    → (b ≢ 10) × (b ≢ 11) × (b ≢ 12)
+operation_byte k b e h = (λ f. grind arith, λ f. grind arith, λ f. grind arith)
 
 -- an operation without a command
 abbrev pub IsSilent : Kind → Type 0

@@ -18,6 +18,15 @@ pub fn statement_end(s: &[u8], at: usize) -> usize
         Kind::If => block_end(s, block_end(s, at + 2)),
         Kind::While => block_end(s, at + 2),
         Kind::Call => call_end(s, at),
-        _ => at + kind.size(),
+        Kind::Init
+        | Kind::Magic
+        | Kind::Free
+        | Kind::Gate
+        | Kind::Measure
+        | Kind::Merge
+        | Kind::Ref
+        | Kind::Get
+        | Kind::Set
+        | Kind::Bool => at + kind.size(),
     }
 }

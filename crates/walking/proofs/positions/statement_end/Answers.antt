@@ -1,9 +1,8 @@
 -- The position after a statement: by its kind, from the statement that stands there.
 use native.Mathlib.Omega.{arith}
 use mathlib.Core.Path.{refl, sym, ◌∙◌}
-use Rattle.rules.specs.declared.statements.Kind.TheVariants.{If, While, Call}
-use Rattle.rules.proofs.KindBytes.{byte_injective}
 use Rattle.program.proofs.In.{statement_view, statement_byte}
+use Rattle.walking.proofs.Bytes.{operation_byte}
 use Rattle.walking.proofs.Views.{view_call, view_end}
 use Rattle.walking.proofs.Ends.{if_ends, while_ends}
 use Rattle.walking.proofs.positions.statement_end.Goals as goal
@@ -35,14 +34,8 @@ returns-in-While c = λ d S depths t q h. c.block_end-in-While.ensures ∙ sym (
 pub returns-in-Call : goal.returns-in-Call
 returns-in-Call c = λ d S depths t q h. c.call_end.ensures ∙ sym (view_call (statement_view h) (sym c.in-Call.ensures)).next
 
-pub returns-in_default : goal.returns-in_default
-returns-in_default c =
+pub returns-in-Init : goal.returns-in-Init
+returns-in-Init c =
     λ d S depths t q h.
-    let n = c.in_default in
-    let k = c.known-kind in
-    let end =
-    view_end (statement_view h)
-    (λ e. n.not-If (byte_injective _ If (k.ensures ∙ e)))
-    (λ e. n.not-While (byte_injective _ While (k.ensures ∙ e)))
-    (λ e. n.not-Call (byte_injective _ Call (k.ensures ∙ e))) in
-    rw (c.size.ensures.value, k.ensures) (sym end)
+    let n = operation_byte _ _ c.known-kind.ensures c.in-Init.is in
+    rw (c.size.ensures.value, c.known-kind.ensures) (sym (view_end (statement_view h) n.0 n.1 n.2))

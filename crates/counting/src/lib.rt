@@ -8,12 +8,13 @@ ghost use Rattle.program.specs.Heads.{Tabled};
 ghost use Rattle.counting.specs.Counting.{Sizes, Counts};
 
 use blocks::Body;
-use memory::Memory;
 use program::functions::FunctionTable;
 
 mod blocks;
 mod memory;
 mod sums;
+
+pub use memory::Memory;
 
 // The count of main, at most 65,536, and those of the functions: nothing where the program has no such function.
 #[derive(Clone, Copy, Debug, PartialEq, Eq)]

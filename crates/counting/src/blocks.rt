@@ -105,7 +105,7 @@ impl Body<'_> {
         ensures known { get_or memory.new.counts f None ≡ Some result }
         ensures capped { result ≤ 65536 }
     {
-        match memory.recall(f) {
+        match memory.recall(f as usize) {
             Some(count) if count <= MOST => count,
             _ => {
                 let callee = Body {
@@ -113,7 +113,7 @@ impl Body<'_> {
                     ..*self
                 };
                 let sum = callee.count_block(self.functions.head(f).body, memory);
-                memory.remember(f, sum.count);
+                memory.remember(f as usize, sum.count);
                 sum.count
             }
         }

@@ -18,19 +18,19 @@ impl Memory {
 
     // What is kept for function `f`.
     // (Below 16 by a clause: a type for a function's number would be made where it is looked up, with the same bound.)
-    pub fn recall(&self, f: u8) -> Option<usize>
+    pub fn recall(&self, f: usize) -> Option<usize>
         requires { f < 16 }
         ensures { result ≡ get_or self.now.counts f None }
     {
-        self.counts[f as usize]
+        self.counts[f]
     }
 
     // Function `f` counts `n`.
-    pub fn remember(&mut self, f: u8, n: usize)
+    pub fn remember(&mut self, f: usize, n: usize)
         requires { f < 16 }
         ensures noted { self.new ≡ noted self.old f n }
         ensures known { get_or self.new.counts f None ≡ Some n }
     {
-        self.counts[f as usize] = Some(n);
+        self.counts[f] = Some(n);
     }
 }

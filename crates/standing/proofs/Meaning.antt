@@ -15,11 +15,16 @@ use Rattle.rules.specs.Syntax.{Function, function, block, done}
 use Rattle.rules.specs.Unlisting.{Opened, Sofar, sized, owed, pending, least, added, opened, function_begun, main_begun, program_begun, else_begun}
 use Rattle.standing.specs.declared.state.Head.{Head}
 use Rattle.standing.specs.declared.state.Open.{Open}
-use Rattle.standing.specs.declared.state.Part.{Part}
-use Rattle.standing.specs.declared.state.Part.TheVariants.{Before, Functions, Main}
 use Rattle.standing.specs.declared.state.Standing.{Standing}
-use Rattle.standing.specs.Numbers.{no_head, no_block, head_of, places_of, fresh_of, begun_of, added_of, opened_of, closed_of, turned_of, function_of, main_of}
+use Rattle.standing.specs.Numbers.{no_head, no_block, head_of, Short, Few, fresh_of, begun_of, added_of, opened_of, closed_of, turned_of, function_of, main_of}
 use Rattle.standing.specs.Means.{outside, laid, Heads, Blocks, After, Means}
+
+-- Numbers that mean a program are small, and few.
+pub means_short : (c : Standing) (p : Sofar) → Means c p → Short c
+means_short c p m = (omega (arith, m.fits), omega (arith, m.fits))
+
+pub means_few : (c : Standing) (p : Sofar) → Means c p → Few c
+means_few c p m = (m.most, omega (arith, m.callees, m.heads.few))
 
 -- Lines inside functions and main change only what is known of blocks and bytes.
 abbrev inside : Standing → ℕ → List Open → ℕ → ℕ → Standing
@@ -82,17 +87,6 @@ module _ (c : Standing) (fs : List Function) (f : Function) (few : length fs < 1
         (λ g l. rw (more_same g l) (h.most_m g l)) (λ g e. rw (more_last g e) m);
   }
 
--- the function being read names its own locations
-function_places : (c : Standing) (k m : ℕ) → c.part ≡ Functions → head_of (function_of c k m) c.functions ≡ record { locations = k; arguments = m }
-    → places_of (function_of c k m) ≡ k
-function_places c k m e h =
-    ap (λ (x : Part). elim x [
-      | Before ↦ (head_of (function_of c k m) c.functions).locations
-      | Functions ↦ (head_of (function_of c k m) c.functions).locations
-      | Main ↦ 256
-    ]) e
-    ∙ ap (λ (x : Head). x.locations) h
-
 -- open blocks, likewise
 blocks_kept : (c d : Standing) (bs : List Opened) → ((i : ℕ) → i < length bs → get_or d.blocks i no_block ≡ get_or c.blocks i no_block)
     → Blocks c bs → Blocks d bs
@@ -125,6 +119,7 @@ heads_none c = record {
 pub means_begun : Means (begun_of fresh_of) program_begun
 unfolding Blocks After
 means_begun = record {
+  started = refl;
   places = refl;
   most = omega arith;
   callees = refl;
@@ -151,6 +146,7 @@ module _ (c : Standing) (p : Sofar) where
       → depth ≡ length bs → depth ≤ 8 → Blocks (inside c depth blocks used due) bs → used ≡ 6 + length (laid (within p bs bytes))
       → used + due ≡ least (within p bs bytes) → used + due ≤ 4096 → length blocks ≡ 8 → Means (inside c depth blocks used due) (within p bs bytes)
   means_inside depth blocks used due bs bytes m e l h u o f w = record {
+    started = m.started;
     places = m.places;
     most = m.most;
     callees = m.callees;
@@ -283,10 +279,9 @@ module _ (c : Standing) (p : Sofar) where
       let head : Head = record { locations = k; arguments = m } in
       let opens : Open = record { due = false; word = c.used + 2 } in
       let place : c.used + 2 ≡ 6 + length (outside [] ++ (p.bytes ++ (k ∷ m ∷ []))) = omega arith in
-      let places : places_of (function_of c k m) ≡ k =
-      function_places c k m t.0 (last_head c fs new f l g n h.heads_long t.2) in
       record {
-        places = places;
+        started = h.started;
+        places = refl;
         most = omega arith;
         callees = n;
         heads = heads_old c fs new f l g n h.heads_long t.2;
@@ -315,6 +310,7 @@ module _ (c : Standing) (p : Sofar) where
       let y : length (outside (b ∷ []) ++ []) ≡ length (outside (b ∷ [])) + 0 = laid_length (b ∷ []) [] in
       let opens : Open = record { due = false; word = c.used } in
       record {
+        started = h.started;
         places = refl;
         most = omega arith;
         callees = t.1;

@@ -1,12 +1,11 @@
 -- The numbers of the code stand for a state of the reader, and the bytes in the buffer are those of the program so far: a block's length word is 0 until
 -- the block has ended.
-use Rattle.std.specs.Prelude.{List, [], ◌∷◌, ◌++◌, ◌≡◌, ℕ, ◌+◌, ◌<◌, ◌≤◌, get_or, length}
+use Rattle.std.specs.Prelude.{true, false, List, [], ◌∷◌, ◌++◌, ◌≡◌, ℕ, ◌+◌, ◌<◌, ◌≤◌, get_or, length}
 use Rattle.std.proofs.Math.Option.{Option, none, some}
 use Rattle.rules.specs.Syntax.{Function, function}
 use Rattle.rules.specs.Unlisting.{Opened, Sofar, State, fresh, sofar, least}
-use Rattle.standing.specs.declared.state.Part.TheVariants.{Functions, Main}
 use Rattle.standing.specs.declared.state.Standing.{Standing}
-use Rattle.standing.specs.Numbers.{no_block, fresh_of, head_of, places_of}
+use Rattle.standing.specs.Numbers.{no_block, fresh_of, head_of}
 
 -- the bytes before the innermost block's own, behind the file's header
 abbrev pub outside : List Opened → List ℕ
@@ -37,12 +36,13 @@ module _ (c : Standing) where
 
   -- in main, or outside it with the functions there are after the one being read
   unfoldable pub After : Option (List Function) → Type 0
-  After none = (c.part ≡ Main) × (c.functions ≡ c.callees)
-  After (some fs) = (c.part ≡ Functions) × (c.functions ≡ length fs) × Heads fs
+  After none = (c.in_main ≡ true) × (c.functions ≡ c.callees)
+  After (some fs) = (c.in_main ≡ false) × (c.functions ≡ length fs) × Heads fs
 
   pub record Means (p : Sofar) : Type 0 where
-    pub places : places_of c ≡ p.scope.places
-    pub most : places_of c ≤ 256
+    pub started : c.started ≡ true
+    pub places : c.places ≡ p.scope.places
+    pub most : c.places ≤ 256
     pub callees : c.callees ≡ length p.scope.earlier
     pub heads : Heads p.scope.earlier
     pub after : After p.after

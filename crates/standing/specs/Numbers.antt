@@ -1,5 +1,5 @@
 -- What the code computes from the numbers of the program so far: how the numbers change with each line, and which statements may stand next.
-use Rattle.std.specs.Prelude.{Bool, true, false, ◌&&◌, ◌||◌, ℕ, suc, ◌+◌, ◌-◌, eqb, ltb, leb, get_or, set, replicate}
+use Rattle.std.specs.Prelude.{Bool, true, false, ◌&&◌, ◌||◌, ℕ, suc, ◌+◌, ◌-◌, ◌<◌, ◌≤◌, eqb, ltb, leb, get_or, set, replicate}
 use Rattle.rules.specs.declared.statements.Operand.{Operand}
 use Rattle.rules.specs.declared.statements.Operand.TheVariants.{Slot, Location, Gate, Basis, Value, Callee, CalleeK, CalleeM, Nothing}
 use Rattle.rules.specs.Basics.{chosen, all, up_to}
@@ -10,7 +10,6 @@ use Rattle.rules.specs.Grammar.{some_below}
 use Rattle.reading.specs.Cursor.{spelling, token_for}
 use Rattle.standing.specs.declared.state.Head.{Head}
 use Rattle.standing.specs.declared.state.Open.{Open}
-use Rattle.standing.specs.declared.state.Part.TheVariants.{Before, Functions, Main}
 use Rattle.standing.specs.declared.state.Standing.{Standing}
 
 -- what is kept of a function that has not been read, and of a block that is not open
@@ -23,9 +22,11 @@ no_block = record { due = false; word = 0 }
 -- the numbers before the first line, and after each kind of line
 abbrev pub fresh_of : Standing
 fresh_of = record {
-  part = Before;
+  started = false;
+  in_main = false;
   functions = 0;
   heads = replicate 16 no_head;
+  places = 0;
   callees = 0;
   depth = 0;
   blocks = replicate 8 no_block;
@@ -39,7 +40,7 @@ block_bytes b = chosen (eqb b 10) 4 (chosen (eqb b 11) 2 0)
 
 module _ (c : Standing) where
   abbrev pub begun_of : Standing
-  begun_of = record c { part = Functions }
+  begun_of = record c { started = true }
 
   abbrev pub added_of : ℕ → Standing
   added_of n = record c { used = c.used + n }
@@ -66,6 +67,7 @@ module _ (c : Standing) where
   function_of k m = record c {
     functions = c.functions + 1;
     heads = set c.heads c.functions (record { locations = k; arguments = m });
+    places = k;
     callees = c.functions;
     depth = 1;
     blocks = set c.blocks 0 (record { due = false; word = c.used + 2 });
@@ -74,7 +76,8 @@ module _ (c : Standing) where
 
   abbrev pub main_of : Standing
   main_of = record c {
-    part = Main;
+    in_main = true;
+    places = 256;
     callees = c.functions;
     depth = 1;
     blocks = set c.blocks 0 (record { due = false; word = c.used });
@@ -86,9 +89,12 @@ module _ (c : Standing) where
   abbrev pub head_of : ℕ → Head
   head_of f = get_or c.heads f no_head
 
-  -- places below this number may be named: in a function its locations, in main all
-  abbrev pub places_of : ℕ
-  places_of = elim c.part [ Before ↦ (head_of c.callees).locations | Functions ↦ (head_of c.callees).locations | Main ↦ 256 ]
+  -- what keeps its sums small, and its counts
+  abbrev pub Short : Type 0
+  Short = (c.used < 65536) × (c.owed < 65536)
+
+  abbrev pub Few : Type 0
+  Few = (c.places ≤ 256) × (c.callees ≤ 256)
 
   -- a file has room for n bytes more
   abbrev pub room_of : ℕ → Bool
@@ -101,7 +107,7 @@ module _ (c : Standing) where
   -- how many words there are for an operand
   abbrev pub count_of : Operand → ℕ
   count_of Slot = 32
-  count_of Location = places_of
+  count_of Location = c.places
   count_of Gate = 4
   count_of Basis = 2
   count_of Value = 2
@@ -124,7 +130,7 @@ module _ (c : Standing) where
 
   -- a call of function f has room, and places for its locations
   abbrev pub call_lives : ℕ → Bool
-  call_lives f = room_of (4 + (head_of f).locations + (head_of f).arguments) && (eqb (head_of f).locations 0 || ltb 0 places_of)
+  call_lives f = room_of (4 + (head_of f).locations + (head_of f).arguments) && (eqb (head_of f).locations 0 || ltb 0 c.places)
 
   -- an operand that is still to come has a word, or is not written
   abbrev pub worded_of : Operand → Bool

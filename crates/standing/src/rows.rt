@@ -4,7 +4,7 @@ ghost use Rattle.std.specs.Prelude.{true, ◌≡◌, ◌+◌, ◌≤◌, ◌<◌
 ghost use Rattle.rules.specs.Basics.{chosen};
 ghost use Rattle.rules.specs.Kinds.{byte_of};
 ghost use Rattle.rules.specs.Listing.{silent};
-ghost use Rattle.standing.specs.Numbers.{room_of, block_bytes, fits_of, count_of, worded_of, worded_from, unwritten_of, call_lives};
+ghost use Rattle.standing.specs.Numbers.{Short, Few, room_of, block_bytes, fits_of, count_of, worded_of, worded_from, unwritten_of, call_lives};
 ghost use Rattle.standing.specs.Numbers.{rest_lives, row_lives, statement_lives, name_begins, offers, operand_begins};
 
 use crate::state::{Head, Standing};
@@ -48,14 +48,15 @@ pub fn is_silent(operand: Operand) -> bool
 impl Standing {
     // Whether a file has room for `n` bytes more.
     pub fn room(&self, n: usize) -> bool
-        requires { n ≤ 1000 }
+        requires { Short self.now × (n ≤ 1000) }
         ensures { result ≡ room_of self.now n }
     {
-        self.used as usize + self.owed as usize + n <= ProgramHeader::MOST_BYTES
+        self.used + self.owed + n <= ProgramHeader::MOST_BYTES
     }
 
     // Whether a statement has room, and a depth for its blocks.
     pub fn fits(&self, kind: Kind) -> bool
+        requires { Short self.now }
         ensures { result ≡ fits_of self.now (byte_of kind) }
     {
         let blocks = block_bytes(kind);
@@ -64,15 +65,16 @@ impl Standing {
 
     // How many words there are for an operand. (`in_range` of `program` says the same of an operand byte; the rules have both, each for its reader.)
     pub fn count(&self, operand: Operand) -> usize
+        requires { Few self.now }
         ensures value { result ≡ count_of self.now operand }
         ensures most { result ≤ 256 }
     {
         match operand {
             Operand::Slot => ProgramHeader::SLOTS,
-            Operand::Location => self.places(),
+            Operand::Location => self.places,
             Operand::Gate => 4,
             Operand::Basis | Operand::Value => 2,
-            Operand::Callee => self.callees as usize,
+            Operand::Callee => self.callees,
             Operand::CalleeK | Operand::CalleeM | Operand::Nothing => 0,
         }
     }
@@ -97,6 +99,7 @@ impl Standing {
 
     // Whether a call of function `f` has room, and places for its locations.
     pub fn call_lives(&self, f: usize) -> bool
+        requires { Short self.now }
         ensures { result ≡ call_lives self.now f }
     {
         let Head {
@@ -104,11 +107,12 @@ impl Standing {
             arguments,
         } = self.head(f);
         self.room(4 + locations as usize + arguments as usize)
-            && (locations == 0 || 0 < self.places())
+            && (locations == 0 || 0 < self.places)
     }
 
     // Whether an operand that is still to come has a word, or is not written.
     fn worded(&self, operand: Operand) -> bool
+        requires { Few self.now }
         ensures { result ≡ worded_of self.now operand }
     {
         is_silent(operand) || 0 < self.count(operand)
@@ -116,6 +120,7 @@ impl Standing {
 
     // The same of each operand behind number `n`.
     fn worded_behind(&self, kind: Kind, n: usize) -> bool
+        requires { Few self.now }
         ensures { result ≡ worded_from self.now (byte_of kind) (n + 1) }
     {
         kind.operands()
@@ -126,6 +131,7 @@ impl Standing {
 
     // Whether any line goes on behind a statement's operands, of which the first is `first`: a call has lists.
     fn lists_live(&self, kind: Kind, first: usize) -> bool
+        requires { Short self.now }
         ensures { result ≡ chosen (eqb (byte_of kind) 12) (call_lives self.now first) true }
     {
         match kind {
@@ -146,22 +152,33 @@ impl Standing {
     }
 
     // Whether any line goes on behind operand number `n` of a statement, where the first is `first`.
-    pub fn rest_lives(&self, kind: Kind, n: usize, first: usize) -> bool
+    fn lives_behind(&self, kind: Kind, n: usize, first: usize) -> bool
+        requires { Short self.now × Few self.now }
         ensures { result ≡ rest_lives self.now (byte_of kind) (n + 1) first }
     {
         self.worded_behind(kind, n) && self.lists_live(kind, first)
     }
 
+    // The same with operand number `n`.
+    pub fn rest_lives(&self, kind: Kind, n: usize, first: usize) -> bool
+        requires { Short self.now × Few self.now × (0 < n) }
+        ensures { result ≡ rest_lives self.now (byte_of kind) n first }
+    {
+        self.lives_behind(kind, n - 1, first)
+    }
+
     // Whether any line goes on behind the name of a statement.
     pub fn row_lives(&self, kind: Kind) -> bool
+        requires { Short self.now × Few self.now }
         ensures { result ≡ row_lives self.now (byte_of kind) }
     {
         let words = self.count(kind.operand(1));
-        self.fits(kind) && (0..words).any(|v| self.rest_lives(kind, 1, v))
+        self.fits(kind) && (0..words).any(|v| self.rest_lives(kind, 2, v))
     }
 
     // Whether any statement may stand next.
     pub fn statement_lives(&self) -> bool
+        requires { Short self.now × Few self.now }
         ensures { result ≡ statement_lives self.now }
     {
         KINDS.iter().any(|kind| self.row_lives(*kind))
@@ -169,6 +186,7 @@ impl Standing {
 
     // Whether an unfinished name begins that of a statement behind which some line goes on.
     pub fn name_begins(&self, part: &[u8]) -> bool
+        requires { Short self.now × Few self.now }
         ensures { result ≡ name_begins self.now part.now }
     {
         KINDS.iter().any(|kind| begins(part, Token::Word(Word::Name(*kind)))
@@ -177,16 +195,16 @@ impl Standing {
 
     // Whether what is written begins word `v` for operand number `n` of a statement, behind which some line goes on.
     fn offers(&self, part: &[u8], kind: Kind, n: usize, first: usize, v: u8) -> bool
-        requires { 0 < n }
+        requires { Short self.now × Few self.now × (0 < n) }
         ensures { result ≡ offers self.now part.now (byte_of kind) n first v }
     {
         let first = if n == 1 { v as usize } else { first };
-        begins(part, word_for(kind.operand(n), v)) && self.rest_lives(kind, n, first)
+        begins(part, word_for(kind.operand(n), v)) && self.lives_behind(kind, n, first)
     }
 
     // Whether an unfinished operand number `n` of a statement begins one behind which some line goes on.
     pub fn operand_begins(&self, part: &[u8], kind: Kind, n: usize, first: usize) -> bool
-        requires { 0 < n }
+        requires { Short self.now × Few self.now × (0 < n) }
         ensures { result ≡ operand_begins self.now part.now (byte_of kind) n first }
     {
         // no `any`: tried, and the closure's part does not close, with five variables in it

@@ -1,7 +1,7 @@
 // The program so far, in numbers. Its bytes stand in the file's buffer, or nowhere while they are only counted: nothing here reads them.
 ghost use Rattle.std.specs.Prelude.{◌≡◌, ◌+◌, ◌≤◌, ◌<◌};
 ghost use Rattle.standing.specs.Numbers.{fresh_of, begun_of, added_of, opened_of, closed_of, turned_of, function_of, main_of};
-ghost use Rattle.standing.specs.Numbers.{head_of, places_of};
+ghost use Rattle.standing.specs.Numbers.{head_of};
 
 // How many locations and arguments a function has.
 #[derive(Clone, Copy, Debug, PartialEq, Eq)]
@@ -14,7 +14,7 @@ pub struct Head {
 #[derive(Clone, Copy, Debug, PartialEq, Eq)]
 pub struct Open {
     pub due: bool,
-    pub word: u16,
+    pub word: usize,
 }
 
 const NO_HEAD: Head = Head {
@@ -27,26 +27,20 @@ const NO_BLOCK: Open = Open {
     word: 0,
 };
 
-// Where the text is: before its first line, among the functions' lines, in main.
-#[derive(Clone, Copy, Debug, PartialEq, Eq)]
-pub enum Part {
-    Before,
-    Functions,
-    Main,
-}
-
 // What a listing has said so far. Which program the numbers mean, and how large they are, are clauses of the reader's functions and no invariant here: the
 // steps below (`added` to `main`) take and give any numbers, and may ask no more. No heap: a program has at most 15 functions, and 8 blocks are open.
 #[derive(Clone, Copy)]
 pub struct Standing {
-    pub part: Part,
-    pub functions: u8, // how many functions' lines have been read
+    pub started: bool, // the first line has been read
+    pub in_main: bool, // main's line has been read
+    pub functions: usize, // how many functions' lines have been read
     pub heads: [Head; 16],
-    pub callees: u8, // how many of the functions the block being read may call
+    pub places: usize, // what the block being read may name: places below this number, and
+    pub callees: usize, // so many functions
     pub depth: usize,
     pub blocks: [Open; 8], // by depth, the outermost first
-    pub used: u16, // up to where the file's bytes go
-    pub owed: u16, // how many more it will have at least: a due else and main each have a length word
+    pub used: usize, // up to where the file's bytes go
+    pub owed: usize, // how many more it will have at least: a due else and main each have a length word
 }
 
 impl Standing {
@@ -55,9 +49,11 @@ impl Standing {
         ensures { result ≡ fresh_of }
     {
         Standing {
-            part: Part::Before,
+            started: false,
+            in_main: false,
             functions: 0,
             heads: [NO_HEAD; 16],
+            places: 0,
             callees: 0,
             depth: 0,
             blocks: [NO_BLOCK; 8],
@@ -71,7 +67,7 @@ impl Standing {
         ensures { result ≡ begun_of self }
     {
         Standing {
-            part: Part::Functions,
+            started: true,
             ..self
         }
     }
@@ -82,7 +78,7 @@ impl Standing {
         ensures { result ≡ added_of self n }
     {
         Standing {
-            used: self.used + n as u16,
+            used: self.used + n,
             ..self
         }
     }
@@ -94,10 +90,10 @@ impl Standing {
     {
         self.blocks[self.depth] = Open {
             due,
-            word: self.used + n as u16,
+            word: self.used + n,
         };
         self.depth += 1;
-        self.used += n as u16 + 2;
+        self.used += n + 2;
         if due {
             self.owed += 2;
         }
@@ -134,12 +130,13 @@ impl Standing {
         requires { (self.used ≤ 10000) × (self.functions < 15) }
         ensures { result ≡ function_of self k m }
     {
-        self.heads[self.functions as usize] = Head {
+        self.heads[self.functions] = Head {
             locations: k,
             arguments: m,
         };
         self.callees = self.functions;
         self.functions += 1;
+        self.places = k as usize;
         self.depth = 1;
         self.blocks[0] = Open {
             due: false,
@@ -154,8 +151,9 @@ impl Standing {
         requires { self.used ≤ 10000 }
         ensures { result ≡ main_of self }
     {
-        self.part = Part::Main;
+        self.in_main = true;
         self.callees = self.functions;
+        self.places = 256;
         self.depth = 1;
         self.blocks[0] = Open {
             due: false,
@@ -173,14 +171,12 @@ impl Standing {
         self.heads.get(f).copied().unwrap_or(NO_HEAD)
     }
 
-    // Places below this number may be named: in a function its locations, in main all.
+    // Places below this number may be named.
     pub fn places(&self) -> usize
-        ensures value { result ≡ places_of self.now }
+        requires { self.now.places ≤ 256 }
+        ensures value { result ≡ self.now.places }
         ensures most { result ≤ 256 }
     {
-        match self.part {
-            Part::Before | Part::Functions => self.head(self.callees as usize).locations as usize,
-            Part::Main => 256,
-        }
+        self.places // in a function its locations, in main all
     }
 }

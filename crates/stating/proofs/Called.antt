@@ -16,7 +16,7 @@ use Rattle.rules.specs.Grammar.{Grammar, dead, stop, live}
 use Rattle.rules.specs.Unlisting.{Sofar, added, others, list, made}
 use Rattle.reading.specs.Cursor.{words_from}
 use Rattle.reading.specs.Hearing.{not, took, hears}
-use Rattle.standing.specs.Numbers.{room_of, places_of, unwritten_of}
+use Rattle.standing.specs.Numbers.{room_of, unwritten_of}
 use Rattle.standing.specs.Means.{Means}
 use Rattle.stating.specs.Statements.{Took-bytes, ReadsList, ReadsLists}
 use Rattle.standing.specs.declared.state.Standing.{Standing}
@@ -77,7 +77,7 @@ module _ (t : Text) (at end stop' first : ℕ) (c : Standing) (before : List ℕ
   ListsTook p k m bs r after = Took-bytes (hears (ltb end stop') (made p calls bs) (words_from t at end)) before (c.used + 4)
       (λ xs q. hears (ltb end stop') (stop (some (added p (bs ++ xs)))) (words_from t q end)) (k + m) r after
 
-  module _ (k m places : ℕ) (ek : k ≡ unwritten_of c CalleeK first) (em : m ≡ unwritten_of c CalleeM first) (ep : places ≡ places_of c) where
+  module _ (k m places : ℕ) (ek : k ≡ unwritten_of c CalleeK first) (em : m ≡ unwritten_of c CalleeM first) (ep : places ≡ c.places) where
     lists_are : (r : Result ℕ Unread) (after : List ℕ) → ((p : Sofar) → Means c p → ListsTook p k m (call_bytes first k m) r after)
         → ReadsLists t at end stop' first c before r after
     unfolding ReadsLists

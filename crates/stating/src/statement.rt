@@ -6,7 +6,7 @@ ghost use Rattle.rules.specs.Unlisting.{Sofar, statement_line};
 ghost use Rattle.rules.specs.Table.{size_of, operand_at};
 ghost use Rattle.rules.specs.Listing.{silent};
 ghost use Rattle.reading.specs.Hearing.{in_line, Onto, NumberOnto};
-ghost use Rattle.standing.specs.Numbers.{fits_of, count_of};
+ghost use Rattle.standing.specs.Numbers.{Short, Few, fits_of, count_of};
 ghost use Rattle.standing.specs.Means.{Means};
 ghost use Rattle.stating.specs.Statements.{ReadsNumbers, ReadsList, ReadsLists, ReadsOperand, ReadsOperands};
 ghost use Rattle.stating.specs.Statements.{OperandsOnto, OpensBlock, BehindOperands, ReadsLine, only};
@@ -42,7 +42,7 @@ pub fn read_operands(
     ensures reads_operands { in_line ReadsOperands line.now from (byte_of kind) c.now out.old result out.new }
     ensures onto { OperandsOnto from line.now.stop result }
 {
-    let used = c.used as usize;
+    let used = c.used;
     put(out, used, kind.byte());
     let mut at = from;
     let mut first = 0;
@@ -71,7 +71,8 @@ fn read_operand(
     first: usize,
     c: &Standing,
 ) -> Result<(u8, usize), Unread>
-    requires { (at ≤ line.now.stop) × (0 < n) × (n < size_of (byte_of kind)) × (silent (operand_at (byte_of kind) n) ≡ false) }
+    requires { (at ≤ line.now.stop) × (0 < n) × (n < size_of (byte_of kind)) × (silent (operand_at (byte_of kind) n) ≡ false) × Short c.now
+        × Few c.now }
     ensures reads_operand { in_line ReadsOperand line.now at (byte_of kind) n first c.now result }
     ensures onto { NumberOnto at line.now.stop (count_of c.now (operand_at (byte_of kind) n)) result }
 {
@@ -152,7 +153,7 @@ fn read_lists(
     if !c.room(4 + k + m) {
         return Err(Not);
     }
-    let i = c.used as usize + 4;
+    let i = c.used + 4;
     let to = read_list(line, at, Word::At, k, c.places(), out, i)?;
     read_list(line, to, Word::With, m, ProgramHeader::SLOTS, out, i + k)
 }
@@ -176,7 +177,7 @@ fn open_block(
         × (c.now.used + c.now.owed + 4 + chosen due 2 0 ≤ 4096) }
     ensures { in_line OpensBlock line.now at due c.now out.old result out.new }
 {
-    let used = c.used as usize;
+    let used = c.used;
     put(out, used + 2, 0);
     put(out, used + 3, 0);
     ends(line, at)?;

@@ -1,6 +1,6 @@
 -- The text has ended. In main the open blocks end one by one, unless an else is due, and the header is put before the bytes. The program that a block's
 -- end makes goes on to the same file.
-use mathlib.Core.Bool.{Bool, true, false}
+use mathlib.Core.Bool.{Bool, true, false, false≢true}
 use mathlib.Core.List.{List, [], ◌∷◌, ◌++◌, append-nil}
 use mathlib.Core.Option.{Option, none, some}
 use mathlib.Core.Path.{◌≡◌, refl, sym, ap, subst, ◌∙◌}
@@ -13,15 +13,14 @@ use Rattle.rules.specs.Unlisting.{Opened, Sofar, State, fresh, sofar, sized, end
 use Rattle.standing.specs.Numbers.{fresh_of, closed_of}
 use Rattle.standing.specs.Means.{outside, laid, laid_at, After, Means, Stands}
 use Rattle.unlisting.specs.Lines.{Closes, Ends, EndAs}
-use Rattle.standing.specs.declared.state.Part.TheVariants.{Before, Main}
 use Rattle.standing.specs.declared.state.Standing.{Standing}
 use Rattle.unlisting.proofs.Closing.{innermost, innermost_open, block_due}
 use Rattle.standing.proofs.Meaning.{means_closed, set_before}
-use Rattle.unlisting.proofs.Tops.{none_open, before_main, not_main, in_main}
+use Rattle.unlisting.proofs.Tops.{none_open, before_main, in_main}
 
 -- From the numbers and the buffer at first, blocks have been ended up to these: every state that those stood for goes on from a program that these mean.
 pub record Ending (c₀ : Standing) (out₀ : List ℕ) (c : Standing) (out : List ℕ) : Type 0 where
-  pub main : c.part ≡ Main
+  pub main : c.in_main ≡ true
   pub program : (p : Sofar) × Means c p
   pub used : c.used ≡ c₀.used
   pub goes : (σ : State) (D : List ℕ) → Stands c₀ σ → out₀ ≡ sets D 6 (laid_at σ)
@@ -34,7 +33,7 @@ sets_before D i j (x ∷ X) Y l =
     ap (λ (E : List ℕ). sets E (suc j) X) (set_before D i j x Y (omega arith)) ∙ sets_before (set D j x) i (suc j) X Y (omega arith)
 
 -- before main a file has not ended
-pub not_in_main : (c : Standing) (before after : List ℕ) → (c.part ≡ Main → ⊥) → Ends c before false after
+pub not_in_main : (c : Standing) (before after : List ℕ) → c.in_main ≡ false → Ends c before false after
 unfolding Ends EndAs Stands
 not_in_main c before after i = λ σ D s b. go σ s
   where
@@ -44,10 +43,10 @@ not_in_main c before after i = λ σ D s b. go σ s
         ap {B = Option (List ℕ)} (λ (x : Option (List Function)). elim x [
           | some fs ↦ none
           | none ↦ elim (ended p.open_blocks p.bytes) [ none ↦ none | some bs ↦ some (header (length p.scope.earlier) ++ bs) ]
-        ]) (before_main c p m (not_main c p m i)).1
+        ]) (before_main c p m i).1
 
 -- in main, at first
-pub ending_first : (c : Standing) (out : List ℕ) → c.part ≡ Main → (σ : State) × Stands c σ → Ending c out c out
+pub ending_first : (c : Standing) (out : List ℕ) → c.in_main ≡ true → (σ : State) × Stands c σ → Ending c out c out
 unfolding Stands
 ending_first c out i s = record {
   main = i;
@@ -57,7 +56,7 @@ ending_first c out i s = record {
 }
   where
     fresh_not : c ≡ fresh_of → ⊥
-    fresh_not e = let z : Before ≡ Main = sym (ap (λ (x : Standing). x.part) e) ∙ i in cc
+    fresh_not e = false≢true (sym (ap (λ (x : Standing). x.in_main) e) ∙ i)
 
     some_program : (σ : State) → Stands c σ → (p : Sofar) × Means c p
     some_program fresh e = absurd (fresh_not e)
@@ -91,6 +90,9 @@ module _ (c₀ : Standing) (out₀ : List ℕ) (c : Standing) (out : List ℕ) (
   functions_earlier p m =
       let a : After c none = subst (After c) (in_main c p m h.main) m.after in
       a.1 ∙ m.callees
+
+  pub ending_few : c.functions ≤ 15
+  ending_few = omega (arith, functions_earlier h.program.0 h.program.1, h.program.1.heads.few)
 
   -- an else is due
   pub ending_due : (after : List ℕ) → 0 < c.depth → (innermost_open c).due ≡ true → Ends c₀ out₀ false after

@@ -1,24 +1,21 @@
 -- The loop of a line goes from the innermost block outwards: blocks that have ended are closed, and the lines still offered are those that may follow then.
-use mathlib.Core.Bool.{Bool, true, false}
+use mathlib.Core.Bool.{Bool, true, false, false≢true}
 use mathlib.Core.List.{List, [], ◌∷◌, ◌++◌, append-nil}
-use mathlib.Core.Option.{Option, none, some}
 use mathlib.Core.Path.{◌≡◌, refl, sym, ap, subst, ◌∙◌}
 use Prim.Native.Nat.{ℕ, suc, ◌<◌}
 use lib.Dec.{ltb}
 use lib.ListN.{length}
 use lib.Seq.{sets}
 use Rattle.std.specs.Prelude.{Result, Ok, Err}
-use Rattle.rules.specs.Syntax.{Function}
 use Rattle.rules.specs.Words.{Text}
 use Rattle.rules.specs.Unlisting.{Opened, Sofar, State, fresh, sofar, sized, indent, statement_line, lines_after, lines}
 use Rattle.reading.specs.Cursor.{words_from}
 use Rattle.reading.specs.Hearing.{Hearing, hears, hears_one, onward, Indents, Blank, blanks}
 use Rattle.reading.specs.declared.cursor.Unread.{Unread}
 use Rattle.reading.specs.declared.cursor.Unread.TheVariants.{Not, Begun}
-use Rattle.standing.specs.declared.state.Part.TheVariants.{Before, Functions, Main}
 use Rattle.standing.specs.declared.state.Standing.{Standing}
 use Rattle.standing.specs.Numbers.{fresh_of, closed_of, statement_lives}
-use Rattle.standing.specs.Means.{outside, laid, laid_at, After, Means, Stands}
+use Rattle.standing.specs.Means.{outside, laid, laid_at, Means, Stands}
 use Rattle.standing.proofs.Lives.{statement_lives_lem}
 use Rattle.standing.proofs.Meaning.{block_depth, means_closed}
 use Rattle.stating.specs.Statements.{only, LineAs, ReadsLine}
@@ -47,20 +44,16 @@ innermost c p M h =
     }
 
 -- where the first line has been read, the numbers mean a program
-pub some_program : (c : Standing) (σ : State) → Stands c σ → (c.part ≡ Before → ⊥) → (p : Sofar) × (σ ≡ sofar p) × Means c p
+pub some_program : (c : Standing) (σ : State) → Stands c σ → c.started ≡ true → (p : Sofar) × (σ ≡ sofar p) × Means c p
 unfolding Stands
-some_program c fresh S h = absurd (h (ap (λ (x : Standing). x.part) S))
+some_program c fresh S h = absurd (false≢true (ap (λ (x : Standing). x.started) (sym S) ∙ h))
 some_program c (sofar p) S h = (p, refl, S)
 
 -- nothing has been read
-pub no_program : (c : Standing) (σ : State) → Stands c σ → c.part ≡ Before → (σ ≡ fresh) × (c ≡ fresh_of)
-unfolding Stands After
+pub no_program : (c : Standing) (σ : State) → Stands c σ → c.started ≡ false → (σ ≡ fresh) × (c ≡ fresh_of)
+unfolding Stands
 no_program c fresh S h = (refl, S)
-no_program c (sofar p) S h = absurd (go p.after S.after)
-  where
-    go : (a : Option (List Function)) → After c a → ⊥
-    go none e = let z : Main ≡ Before = sym e.0 ∙ h in cc
-    go (some fs) e = let z : Functions ≡ Before = sym e.0 ∙ h in cc
+no_program c (sofar p) S h = absurd (false≢true (sym h ∙ S.started))
 
 module _ (t : Text) (at end stop : ℕ) (from : Standing) (entry : List ℕ) where
   abbrev whole : Bool
@@ -159,7 +152,7 @@ module _ (t : Text) (at end stop : ℕ) (from : Standing) (entry : List ℕ) whe
       subst (λ (k : Hearing Sofar). LineAs k D r after) (sym is) (reads p D X.means (X.stand D s))
 
   -- a line after the first is any line, and so is the first
-  pub any_line : (from.part ≡ Before → ⊥) → (r : Result Standing Unread) (after : List ℕ) → ReadsLine t at end stop lines_of from entry r after
+  pub any_line : from.started ≡ true → (r : Result Standing Unread) (after : List ℕ) → ReadsLine t at end stop lines_of from entry r after
       → ReadsAny t at end stop from entry r after
   unfolding ReadsAny ReadsLine
   any_line h r after f σ D S s =
@@ -167,7 +160,7 @@ module _ (t : Text) (at end stop : ℕ) (from : Standing) (entry : List ℕ) whe
       subst (λ (τ : State). LineAs (hears_one whole (lines τ) ws) D r after) (sym P.1)
       (f P.0 D P.2 (s ∙ ap (λ (τ : State). sets D 6 (laid_at τ)) P.1))
 
-  pub first_any : from.part ≡ Before → (r : Result Standing Unread) → FirstLine t at end stop r → ReadsAny t at end stop from entry r entry
+  pub first_any : from.started ≡ false → (r : Result Standing Unread) → FirstLine t at end stop r → ReadsAny t at end stop from entry r entry
   unfolding ReadsAny FirstLine
   first_any h r f σ D S s =
       let P : (σ ≡ fresh) × (from ≡ fresh_of) = no_program from σ S h in

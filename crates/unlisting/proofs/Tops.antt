@@ -1,6 +1,6 @@
 -- Lines outside functions and main. No block is open there, so the bytes laid down are those of the functions so far, and a function has room exactly where
 -- the definition says. A function's line is asked for first.
-use mathlib.Core.Bool.{Bool, true, false}
+use mathlib.Core.Bool.{Bool, true, false, false≢true}
 use mathlib.Core.List.{List, [], ◌∷◌, ◌++◌, append_assoc, append-nil}
 use mathlib.Core.Option.{Option, none, some}
 use mathlib.Core.Path.{◌≡◌, refl, sym, ap, subst, ◌∙◌}
@@ -22,7 +22,6 @@ use Rattle.reading.specs.Hearing.{Hearing, not, begun, took, hears, hears_one, o
 use Rattle.reading.specs.declared.cursor.Unread.{Unread}
 use Rattle.reading.specs.declared.cursor.Unread.TheVariants.{Not, Begun}
 use Rattle.reading.proofs.Hearings.{begun_not_not, took_not_not, hears_one_lem, hears_both, live_word}
-use Rattle.standing.specs.declared.state.Part.TheVariants.{Functions, Main}
 use Rattle.standing.specs.declared.state.Standing.{Standing}
 use Rattle.standing.specs.Numbers.{room_of, function_of, main_of}
 use Rattle.standing.specs.Means.{outside, laid, After, Means}
@@ -40,30 +39,21 @@ module _ (c : Standing) (p : Sofar) (m : Means c p) where
       go [] e = refl
       go (o ∷ os) e = absurd (omega arith)
 
-  pub before_main : c.part ≡ Functions → (fs : List Function) × (p.after ≡ some fs)
+  pub before_main : c.in_main ≡ false → (fs : List Function) × (p.after ≡ some fs)
   unfolding After
   before_main i = go p.after m.after
     where
       go : (a : Option (List Function)) → After c a → (fs : List Function) × (a ≡ some fs)
-      go none h = absurd (let e : Functions ≡ Main = sym i ∙ h.0 in cc)
+      go none h = absurd (false≢true (sym i ∙ h.0))
       go (some fs) h = (fs, refl)
 
-  pub in_main : c.part ≡ Main → p.after ≡ none
+  pub in_main : c.in_main ≡ true → p.after ≡ none
   unfolding After
   in_main i = go p.after m.after
     where
       go : (a : Option (List Function)) → After c a → a ≡ none
       go none h = refl
-      go (some fs) h = absurd (let e : Functions ≡ Main = sym h.0 ∙ i in cc)
-
-  -- the first line has been read, so that it is among the functions or in main
-  pub not_main : (c.part ≡ Main → ⊥) → c.part ≡ Functions
-  unfolding After
-  not_main n = go p.after m.after
-    where
-      go : (a : Option (List Function)) → After c a → c.part ≡ Functions
-      go none h = absurd (n h.0)
-      go (some fs) h = h.0
+      go (some fs) h = absurd (false≢true (sym h.0 ∙ i))
 
   module _ (fs : List Function) (a : p.after ≡ some fs) where
     pub functions_are : (c.functions ≡ length fs) × (length fs ≤ 15)
@@ -95,7 +85,7 @@ module _ (c : Standing) (p : Sofar) (m : Means c p) where
           ∙ ap {B = List (Grammar Sofar)}
           (λ (b : Bool). elim x [ true ↦ elim b [ true ↦ function_line fs p.bytes ∷ [] | false ↦ [] ] | false ↦ [] ]) l
 
-pub functions_few : (c : Standing) (p : Sofar) → Means c p → c.part ≡ Functions → c.functions ≤ 15
+pub functions_few : (c : Standing) (p : Sofar) → Means c p → c.in_main ≡ false → c.functions ≤ 15
 functions_few c p m i =
     let a : (fs : List Function) × (p.after ≡ some fs) = before_main c p m i in
     omega (arith, functions_are c p m a.0 a.1)
@@ -112,7 +102,7 @@ live_arguments fs F k =
     live_word arguments (ask none (up_to 0 (most_arguments k) decimal) λ m. stop (some (function_begun fs F k m)))
     ∙ live_decimals (most_arguments k) (λ m. stop (some (function_begun fs F k m))) (omega arith) refl
 
-module _ (c : Standing) (i : c.part ≡ Functions) (p : Sofar) (m : Means c p) where
+module _ (c : Standing) (i : c.in_main ≡ false) (p : Sofar) (m : Means c p) where
   abbrev fs : List Function
   fs = (before_main c p m i).0
 
@@ -209,19 +199,19 @@ hears_left whole (g ∷ gs) hs ws h e n = go (hears whole g ws) (hears_left whol
     go (took a) rec q = q
 
 module _ (t : Text) (at end full : ℕ) (c : Standing) where
-  tops_as : (i : c.part ≡ Functions) (p : Sofar) → Means c p → tops_of p ≡ functions_of p ++ mains_of p
+  tops_as : (i : c.in_main ≡ false) (p : Sofar) → Means c p → tops_of p ≡ functions_of p ++ mains_of p
   tops_as i p m =
       let a : (fs : List Function) × (p.after ≡ some fs) = before_main c p m i in
       ap (λ (x : Option (List Function)). top_lines x p.bytes) a.1
       ∙ sym (ap (λ (gs : List (Grammar Sofar)). gs ++ mains_of p) (functions_as c p m a.0 a.1)
       ∙ ap (λ (gs : List (Grammar Sofar)). function_lines a.0 p.bytes ++ gs) (mains_as c p m a.0 a.1))
 
-  pub nothing_in_main : (before after : List ℕ) → c.part ≡ Main → ReadsLine t at end full tops_of c before (Err Not) after
+  pub nothing_in_main : (before after : List ℕ) → c.in_main ≡ true → ReadsLine t at end full tops_of c before (Err Not) after
   unfolding hears_one ReadsLine LineAs
   nothing_in_main before after i = λ p D m b.
       ap (λ (x : Option (List Function)). hears_one (ltb end full) (top_lines x p.bytes) (words_from t at end)) (in_main c p m i)
 
-  module _ (i : c.part ≡ Functions) (before : List ℕ) where
+  module _ (i : c.in_main ≡ false) (before : List ℕ) where
     pub main_after : (between after : List ℕ) (r : Result Standing Unread) → ReadsLine t at end full functions_of c before (Err Not) between
         → between ≡ before → ReadsLine t at end full mains_of c between r after → ReadsLine t at end full tops_of c before r after
     unfolding ReadsLine LineAs

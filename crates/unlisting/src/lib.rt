@@ -38,7 +38,7 @@ fn read_lines(text: &[u8], out: &mut [u8]) -> Result<usize, Refusal>
         at = line.stop;
     }
     if finish(&c, out) {
-        Ok(usize::from(c.used))
+        Ok(c.used)
     } else {
         Err(no_line(at))
     }

@@ -1,6 +1,6 @@
 // Which line may stand next: the first; a statement of the innermost block, the else that is due, or what may follow once that block has ended;
 // outside blocks a function or main.
-ghost use Rattle.std.specs.Prelude.{true, ◌∷◌, [], ◌≡◌, ◌+◌, ◌-◌, ◌/◌, ◌%◌, ◌≤◌, ◌<◌, get_or, Err};
+ghost use Rattle.std.specs.Prelude.{true, false, ◌∷◌, [], ◌≡◌, ◌+◌, ◌-◌, ◌/◌, ◌%◌, ◌≤◌, ◌<◌, get_or, Err};
 ghost use Rattle.std.proofs.lemmas.List.Edits.{sets};
 ghost use Rattle.rules.specs.Unlisting.{Sofar, State};
 ghost use Rattle.reading.specs.Hearing.{in_line, Onto, NumberOnto};
@@ -16,7 +16,7 @@ use reading::line::Line;
 use reading::words::Token;
 use rules::program::{FunctionHeader, ProgramHeader};
 use rules::words::Word;
-use standing::state::{Part, Standing};
+use standing::state::Standing;
 use stating::statement::{ends, statement_line};
 
 // Bytes one after the other.
@@ -43,7 +43,7 @@ pub fn put_innermost(c: &Standing, out: &mut [u8])
     ensures { Closes c.now out.old out.new }
 {
     let word = c.blocks[c.depth - 1].word;
-    put_length(out, word as usize, c.used - word - 2);
+    put_length(out, word, (c.used - word - 2) as u16);
 }
 
 // `program 1`
@@ -88,29 +88,29 @@ fn read_arguments(line: &Line, at: usize, k: u8) -> Result<(u8, usize), Unread>
 
 // A function's line, where one may stand.
 fn function_line(line: &Line, at: usize, c: &Standing, out: &mut [u8]) -> Result<Standing, Unread>
-    requires { (at ≤ line.now.stop) × ((p : Sofar) × Means c.now p) × (c.now.depth ≡ 0) × (c.now.part ≡ Part.Functions) }
+    requires { (at ≤ line.now.stop) × ((p : Sofar) × Means c.now p) × (c.now.depth ≡ 0) × (c.now.in_main ≡ false) }
     ensures reads { in_line ReadsLine line.now at functions_of c.now out.old result out.new }
     ensures unchanged { result ≡ Err Unread.Not → out.new ≡ out.old }
 {
-    if !c.room(4) || c.functions as usize == ProgramHeader::MOST_FUNCTIONS {
+    if !c.room(4) || c.functions == ProgramHeader::MOST_FUNCTIONS {
         return Err(Unread::Not);
     }
-    let at = function_words(line, at, c.functions)?;
+    let at = function_words(line, at, c.functions as u8)?;
     let (k, at) = line.number_below(at, FunctionHeader::MOST_LOCATIONS + 1)?;
     let (m, at) = read_arguments(line, at, k)?;
     ends(line, at)?;
-    put_bytes(out, c.used as usize, &[k, m, 0, 0]);
+    put_bytes(out, c.used, &[k, m, 0, 0]);
     Ok(c.function(k, m))
 }
 
 // `main`
 fn main_line(line: &Line, at: usize, c: &Standing, out: &mut [u8]) -> Result<Standing, Unread>
-    requires { (at ≤ line.now.stop) × ((p : Sofar) × Means c.now p) × (c.now.depth ≡ 0) × (c.now.part ≡ Part.Functions) }
+    requires { (at ≤ line.now.stop) × ((p : Sofar) × Means c.now p) × (c.now.depth ≡ 0) × (c.now.in_main ≡ false) }
     ensures { in_line ReadsLine line.now at mains_of c.now out.old result out.new }
 {
     let at = line.expect(at, Token::Word(Word::Main), true)?;
     ends(line, at)?;
-    put_length(out, c.used as usize, 0);
+    put_length(out, c.used, 0);
     Ok(c.main())
 }
 
@@ -119,7 +119,7 @@ fn top_line(line: &Line, at: usize, c: &Standing, out: &mut [u8]) -> Result<Stan
     requires { (at ≤ line.now.stop) × ((p : Sofar) × Means c.now p) × (c.now.depth ≡ 0) }
     ensures { in_line ReadsLine line.now at tops_of c.now out.old result out.new }
 {
-    if c.part == Part::Main {
+    if c.in_main {
         return Err(Unread::Not);
     }
     match function_line(line, at, c, out) {
@@ -138,7 +138,7 @@ fn else_line(line: &Line, at: usize, c: &Standing, out: &mut [u8]) -> Result<Sta
     let at = line.expect(at, Token::Word(Word::Else), true)?;
     ends(line, at)?;
     put_innermost(c, out);
-    put_length(out, c.used as usize, 0);
+    put_length(out, c.used, 0);
     Ok(c.turned())
 }
 
@@ -169,10 +169,10 @@ pub fn read_line(line: &Line, at: usize, c: &Standing, out: &mut [u8]) -> Result
     requires { (at ≤ line.now.stop) × ((σ : State) × Stands c.now σ) }
     ensures { in_line ReadsAny line.now at c.now out.old result out.new }
 {
-    if c.part == Part::Before {
-        first_line(line, at, c)
-    } else {
+    if c.started {
         next_line(line, at, c, out)
+    } else {
+        first_line(line, at, c)
     }
 }
 
@@ -181,7 +181,7 @@ pub fn finish(from: &Standing, out: &mut [u8]) -> bool
     requires { (σ : State) × Stands from.now σ }
     ensures { Ends from.now out.old result out.new }
 {
-    if from.part != Part::Main {
+    if !from.in_main {
         return false;
     }
     let mut c = *from;
@@ -193,6 +193,6 @@ pub fn finish(from: &Standing, out: &mut [u8]) -> bool
         put_innermost(&c, out);
         c = c.closed();
     }
-    put_bytes(out, 0, &[b'Q', b'L', b'S', 0, 1, c.functions]);
+    put_bytes(out, 0, &[b'Q', b'L', b'S', 0, 1, c.functions as u8]);
     true
 }

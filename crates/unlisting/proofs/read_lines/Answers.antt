@@ -31,7 +31,7 @@ loop-at-preserved c =
 pub returns-then-finish : goal.returns-then-finish
 returns-then-finish c =
     let end = end_yes _ _ _ _ _ c.loop-at.invariant.1 c.loop-at-test.false _ _ c.finish.ensures c.if-finish.true in
-    record { answer = rw c.from.ensures end.0; bytes = end.1 }
+    record { answer = end.0; bytes = end.1 }
 
 pub returns-else-finish : goal.returns-else-finish
 returns-else-finish c =

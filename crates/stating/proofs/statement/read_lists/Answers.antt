@@ -1,9 +1,14 @@
 -- Where there is room for both lists: the callee's locations, then its arguments' slots.
 use mathlib.Core.Path.{refl, sym, ap, ◌∙◌}
+use borrow.Author.Rules.{rules}
 use Rattle.standing.specs.declared.state.Head.{Head}
+use Rattle.standing.proofs.Meaning.{means_short}
 use Rattle.stating.proofs.Passed.{passed_as}
 use Rattle.stating.proofs.Called.{lists_full, lists_err, lists_read}
 use Rattle.stating.proofs.statement.read_lists.Goals as goal
+
+pub room-requires : goal.room-requires
+room-requires c = (means_short _ _ c.requires.1.1, search rules)
 
 pub returns-then-not-room-clause-reads_lists : goal.returns-then-not-room-clause-reads_lists
 returns-then-not-room-clause-reads_lists c =

@@ -4,6 +4,7 @@ use lib.ListN.{set}
 use Rattle.rules.specs.declared.statements.Operand.{Operand}
 use Rattle.rules.specs.Listing.{silent}
 use Rattle.standing.specs.Numbers.{unwritten_of}
+use Rattle.standing.proofs.Meaning.{means_short, means_few}
 use Rattle.stating.proofs.Passed.{passed_as}
 use Rattle.stating.proofs.Operating.{first_now, first_before, operands_none, operands_err, operands_word, operands_silent, operands_all}
 use Rattle.stating.proofs.statement.read_operands.Goals.{then-n-eq1, else-n-eq1}
@@ -21,6 +22,17 @@ loop-n-preserved-then-is_silent c = record {
       (sym (ap silent c.operand-operand.ensures) ∙ sym c.is_silent.ensures ∙ c.if-is_silent.true)
       (c.unwritten.ensures ∙ ap (λ (o : Operand). unwritten_of c.args.c.now o c.loop-n.first) c.operand-operand.ensures) c.put-then-is_silent.ensures;
 }
+
+pub read_operand-requires : goal.read_operand-requires
+read_operand-requires c =
+    let means = c.requires.1.1 in (
+      c.loop-n.invariant.within,
+      omega arith,
+      omega (arith, c.size-n-end.ensures, c.loop-n-test.true),
+      sym (ap silent c.operand-operand.ensures) ∙ sym c.is_silent.ensures ∙ c.if-is_silent.false,
+      means_short _ _ means,
+      means_few _ _ means,
+    )
 
 pub returns-in_err-v-clause-reads_operands : goal.returns-in_err-v-clause-reads_operands
 returns-in_err-v-clause-reads_operands c =

@@ -1,9 +1,16 @@
 -- The name of a statement that fits, its operands, and what it makes of the program.
 use mathlib.Core.Path.{sym, ◌∙◌}
 use Rattle.reading.specs.Cursor.{part}
+use Rattle.standing.proofs.Meaning.{means_short, means_few}
 use Rattle.stating.proofs.Passed.{passed_as}
 use Rattle.stating.proofs.Stating.{line_nothing, line_begun, line_unbegun, line_unknown, line_unfit, line_operands, callee_there, line_statement}
 use Rattle.stating.proofs.statement.statement_line.Goals as goal
+
+pub name_begins-requires : goal.name_begins-requires
+name_begins-requires c = (means_short _ _ c.requires.1.1, means_few _ _ c.requires.1.1)
+
+pub fits-requires : goal.fits-requires
+fits-requires c = means_short _ _ c.requires.1.1
 
 pub returns-in-Unfinished : goal.returns-in-Unfinished
 unfolding part

@@ -14,5 +14,8 @@ returns-then-c c = ending_due _ _ _ _ c.loop-c.invariant _ c.loop-c-test.true c.
 pub loop-c-preserved : goal.loop-c-preserved
 loop-c-preserved c = ending_next _ _ _ _ c.loop-c.invariant _ _ c.loop-c-test.true c.if-c.false c.put_innermost.ensures c.closed-c.ensures
 
+pub overflow_cast-c : goal.overflow_cast-c
+overflow_cast-c c = omega (arith, ending_few _ _ _ _ c.loop-c.invariant)
+
 pub returns : goal.returns
 returns c = ending_header _ _ _ _ c.loop-c.invariant _ (omega (arith, c.loop-c-test.false)) c.put_bytes.ensures

@@ -1,10 +1,17 @@
 -- A function's line: its words, its numbers, and then it must end; its head and an empty length word are put.
-use Rattle.std.proofs.Common.{◌∙◌, sym, arith}
+use Rattle.std.proofs.Common.{◌∙◌, sym, arith, rules}
+use Rattle.standing.proofs.Meaning.{means_short}
 use Rattle.stating.specs.Statements.{LineAs, ReadsLine}
 use Rattle.unlisting.proofs.Said.{line_unread, line_taken, ends_heard}
 use Rattle.unlisting.proofs.Tops.{room_none, number_none, words_heard, locations_heard, arguments_heard, function_means, function_laid, functions_few}
 use Rattle.unlisting.proofs.lines.function_line.Goals as goal
 use Rattle.unlisting.proofs.lines.function_line.Goals.{then-not-room-via-then-not-room, then-not-room-via-else-not-room+then-c-eq-MOST_FUNCTIONS}
+
+pub room-requires : goal.room-requires
+room-requires c = (means_short _ _ c.requires.1.1, search rules)
+
+pub overflow_cast-c : goal.overflow_cast-c
+overflow_cast-c c = omega (arith, functions_few _ _ c.requires.1.1 c.requires.3)
 
 pub returns-then-not-room-clause-reads : goal.returns-then-not-room-clause-reads
 unfolding ReadsLine LineAs

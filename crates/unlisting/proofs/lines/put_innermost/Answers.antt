@@ -9,6 +9,9 @@ overflow_sub-c c = omega (arith, innermost_word _ _ c.requires.0.1 c.requires.1)
 pub overflow_sub-c-2 : goal.overflow_sub-c-2
 overflow_sub-c-2 c = omega (arith, innermost_word _ _ c.requires.0.1 c.requires.1)
 
+pub overflow_cast-c : goal.overflow_cast-c
+overflow_cast-c c = omega (arith, c.requires.0.1.fits)
+
 pub put_length-requires : goal.put_length-requires
 put_length-requires c = omega (arith, c.requires.0.1.fits, innermost_word _ _ c.requires.0.1 c.requires.1)
 

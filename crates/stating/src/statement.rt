@@ -158,11 +158,11 @@ fn read_lists(
     read_list(line, to, Word::With, m, ProgramHeader::SLOTS, out, i + k)
 }
 
-// The line must end here.
-pub fn ends(line: &Line, at: usize) -> Result<(), Unread>
-    ensures { result ≡ chosen (ltb line.now.end at) (Ok tt) (Err Unread.Not) }
+// A line that ends at `end` must end here.
+pub fn ends(at: usize, end: usize) -> Result<(), Unread>
+    ensures { result ≡ chosen (ltb end at) (Ok tt) (Err Unread.Not) }
 {
-    if line.end < at { Ok(()) } else { Err(Not) }
+    if end < at { Ok(()) } else { Err(Not) }
 }
 
 // A statement that holds a block: the place of its length word is put, and the line must end.
@@ -180,7 +180,7 @@ fn open_block(
     let used = c.used;
     put(out, used + 2, 0);
     put(out, used + 3, 0);
-    ends(line, at)?;
+    ends(at, line.end)?;
     Ok(c.opened(2, due))
 }
 
@@ -206,7 +206,7 @@ fn behind_operands(
                 arguments,
             } = c.head(first);
             let to = read_lists(line, at, first, c, out)?;
-            ends(line, to)?;
+            ends(to, line.end)?;
             Ok(c.added(4 + locations as usize + arguments as usize))
         }
         Kind::Init
@@ -219,7 +219,7 @@ fn behind_operands(
         | Kind::Get
         | Kind::Set
         | Kind::Bool => {
-            ends(line, at)?;
+            ends(at, line.end)?;
             Ok(c.added(kind.size()))
         }
     }

@@ -53,7 +53,7 @@ fn first_line(line: &Line, at: usize, c: &Standing) -> Result<Standing, Unread>
 {
     let at = line.expect(at, Token::Word(Word::Program), true)?;
     let at = line.expect(at, Token::Decimal(1), true)?;
-    ends(line, at)?;
+    ends(at, line.end)?;
     Ok(c.begun())
 }
 
@@ -98,7 +98,7 @@ fn function_line(line: &Line, at: usize, c: &Standing, out: &mut [u8]) -> Result
     let at = function_words(line, at, c.functions as u8)?;
     let (k, at) = line.number_below(at, FunctionHeader::MOST_LOCATIONS + 1)?;
     let (m, at) = read_arguments(line, at, k)?;
-    ends(line, at)?;
+    ends(at, line.end)?;
     put_bytes(out, c.used, &[k, m, 0, 0]);
     Ok(c.function(k, m))
 }
@@ -109,7 +109,7 @@ fn main_line(line: &Line, at: usize, c: &Standing, out: &mut [u8]) -> Result<Sta
     ensures { in_line ReadsLine line.now at mains_of c.now out.old result out.new }
 {
     let at = line.expect(at, Token::Word(Word::Main), true)?;
-    ends(line, at)?;
+    ends(at, line.end)?;
     put_length(out, c.used, 0);
     Ok(c.main())
 }
@@ -136,7 +136,7 @@ fn else_line(line: &Line, at: usize, c: &Standing, out: &mut [u8]) -> Result<Sta
 {
     let at = line.indent(at, c.depth - 1, true)?;
     let at = line.expect(at, Token::Word(Word::Else), true)?;
-    ends(line, at)?;
+    ends(at, line.end)?;
     put_innermost(c, out);
     put_length(out, c.used, 0);
     Ok(c.turned())

@@ -3,6 +3,7 @@
 ghost use Rattle.std.specs.Prelude.{true, ◌≡◌, ◌+◌, ◌≤◌, ◌<◌, eqb};
 ghost use Rattle.rules.specs.Basics.{chosen};
 ghost use Rattle.rules.specs.Kinds.{byte_of};
+ghost use Rattle.rules.specs.Table.{operand_at};
 ghost use Rattle.rules.specs.Listing.{silent};
 ghost use Rattle.standing.specs.Numbers.{Short, Few, room_of, block_bytes, fits_of, count_of, worded_of, worded_from, unwritten_of, call_lives};
 ghost use Rattle.standing.specs.Numbers.{rest_lives, row_lives, statement_lives, name_begins, offers, operand_begins};
@@ -193,13 +194,21 @@ impl Standing {
             && self.row_lives(*kind))
     }
 
-    // Whether what is written begins word `v` for operand number `n` of a statement, behind which some line goes on.
-    fn offers(&self, part: &[u8], kind: Kind, n: usize, first: usize, v: u8) -> bool
-        requires { Short self.now × Few self.now × (0 < n) }
+    // Whether what is written begins word `v` for operand number `n` of a statement, which is `operand`, and some line goes on behind it.
+    fn offers(
+        &self,
+        part: &[u8],
+        kind: Kind,
+        operand: Operand,
+        n: usize,
+        first: usize,
+        v: u8,
+    ) -> bool
+        requires { Short self.now × Few self.now × (operand ≡ operand_at (byte_of kind) n) }
         ensures { result ≡ offers self.now part.now (byte_of kind) n first v }
     {
         let first = if n == 1 { v as usize } else { first };
-        begins(part, word_for(kind.operand(n), v)) && self.lives_behind(kind, n, first)
+        begins(part, word_for(operand, v)) && self.lives_behind(kind, n, first)
     }
 
     // Whether an unfinished operand number `n` of a statement begins one behind which some line goes on.
@@ -207,9 +216,10 @@ impl Standing {
         requires { Short self.now × Few self.now × (0 < n) }
         ensures { result ≡ operand_begins self.now part.now (byte_of kind) n first }
     {
-        // no `any`: tried, and the closure's part does not close, with five variables in it
-        for v in 0..self.count(kind.operand(n)) {
-            if self.offers(part, kind, n, first, v as u8) {
+        let operand = kind.operand(n);
+        // no `any`: tried, and the closure's part does not close, with six variables in it
+        for v in 0..self.count(operand) {
+            if self.offers(part, kind, operand, n, first, v as u8) {
                 return true;
             }
         }

@@ -12,7 +12,7 @@ returns-then-offers c =
     let a = c.args in
     let offered = offers a.self.now a.part.now (byte_of a.kind) a.n a.first in
     one_found c.count-v-end.result offered c.loop-v.v c.loop-v-test.true (sym c.offers.ensures ∙ c.if-offers.true)
-    ∙ ap (λ (n : ℕ). some_below n offered) (c.count-v-end.ensures.value ∙ ap (count_of a.self.now) c.operand.ensures)
+    ∙ ap (λ (n : ℕ). some_below n offered) (c.count-v-end.ensures.value ∙ ap (count_of a.self.now) c.operand-operand.ensures)
 
 pub loop-v-preserved : goal.loop-v-preserved
 loop-v-preserved c =
@@ -26,4 +26,4 @@ returns c =
     let a = c.args in
     let offered = offers a.self.now a.part.now (byte_of a.kind) a.n a.first in
     none_found c.count-v-end.result offered (λ j l. c.loop-v.invariant j (omega arith))
-    ∙ ap (λ (n : ℕ). some_below n offered) (c.count-v-end.ensures.value ∙ ap (count_of a.self.now) c.operand.ensures)
+    ∙ ap (λ (n : ℕ). some_below n offered) (c.count-v-end.ensures.value ∙ ap (count_of a.self.now) c.operand-operand.ensures)

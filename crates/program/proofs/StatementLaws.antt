@@ -2,6 +2,7 @@
 -- of the position after it: so its position is that of its fixed part, its last block or its list.
 use mathlib.Core.Bool.{Bool, true, false}
 use mathlib.Core.List.{List, [], ◌++◌, append-nil}
+use mathlib.Core.Logic.{◌⊎◌}
 use mathlib.Core.Option.{none, some}
 use mathlib.Core.Path.{◌≡◌, refl, sym, ap, ◌∙◌}
 use native.Mathlib.Omega.{arith}
@@ -45,6 +46,12 @@ after_lists i x p true (ok a) (ok c) = refl
 after_lists i x p true (ok a) (refused y) = refl
 after_lists i x p true (refused y) n = refl
 after_lists i x p false m n = refl
+
+-- the kinds of operations: they have no block and no list
+pub no_inner : {k : Kind}
+    → (k ≡ Init) ⊎ ((k ≡ Magic) ⊎ ((k ≡ Free) ⊎ ((k ≡ Gate) ⊎ ((k ≡ Measure) ⊎ ((k ≡ Merge) ⊎ ((k ≡ Ref) ⊎ ((k ≡ Get) ⊎ ((k ≡ Set) ⊎ (k ≡ Constant)))))))))
+    → (k ≡ If → ⊥) × (k ≡ While → ⊥) × (k ≡ Call → ⊥)
+no_inner h = (λ f. grind arith, λ f. grind arith, λ f. grind arith)
 
 module _ (s : List ℕ) (d : Side) (S : Scope) (depths i e : ℕ) where
   abbrev inner : ℕ → ℕ → Check (Read (Block d))

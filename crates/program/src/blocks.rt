@@ -70,6 +70,15 @@ fn read_statement(
         }
         Kind::While => read_block(s, next, end, depths, scope),
         Kind::Call => operands::call_list(s, at, end, scope.places),
-        _ => Ok(next),
+        Kind::Init
+        | Kind::Magic
+        | Kind::Free
+        | Kind::Gate
+        | Kind::Measure
+        | Kind::Merge
+        | Kind::Ref
+        | Kind::Get
+        | Kind::Set
+        | Kind::Bool => Ok(next),
     }
 }

@@ -6,7 +6,7 @@ use Rattle.answers.specs.declared.Fault.{Fault}
 use Rattle.answers.specs.Check.{refused, refusal, number_of}
 use Rattle.answers.proofs.Passed.{passed_on}
 use Rattle.rules.specs.Kinds.{byte_of}
-use Rattle.program.proofs.StatementLaws.{st_none, st_refused, st_operation, st_while, st_if, st_if_refused, st_call, fixed_between}
+use Rattle.program.proofs.StatementLaws.{no_inner, st_none, st_refused, st_operation, st_while, st_if, st_if_refused, st_call, fixed_between}
 use Rattle.rules.proofs.KindBytes.{byte_above, byte_below}
 use Rattle.program.proofs.BlockLaws.{block_short, block_deep, block_long, block_enter, rest_end, rest_more, rest_refused}
 use borrow.Author.Rules.{rules}
@@ -88,12 +88,12 @@ read_statement-returns-in-Call-clause-position t c d S h =
     let b = sym c.in-Ok.ensures.ok ∙ ap byte_of c.in-Call.is in
     c.call_list.ensures.position ∙ sym (st_call _ _ _ _ _ _ _ _ b (sym (c.in_ok-next.ensures.position S h)) h.places_are)
 
-pub read_statement-returns-in_default : goal.read_statement-returns-in_default
-read_statement-returns-in_default t c =
+pub read_statement-returns-in-Init : goal.read_statement-returns-in-Init
+read_statement-returns-in-Init t c =
     let kind = c.in-Ok.kind in
     let b = c.in-Ok.ensures.ok in
-    let n = c.in_default in
+    let n = no_inner c.in-Init.is in
     let f = c.in_ok-next.ensures in record {
-      position = (λ d S h. f.position S h ∙ sym (st_operation _ _ _ _ _ _ kind b n.not-If n.not-While n.not-Call));
+      position = (λ d S h. f.position S h ∙ sym (st_operation _ _ _ _ _ _ kind b n.0 n.1 n.2));
       between = fixed_between _ _ _ (Ok _) f.behind_fixed (byte_above kind b) (byte_below kind b);
     }

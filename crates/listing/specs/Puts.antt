@@ -1,6 +1,7 @@
 -- Text that is put where a writer stands, character by character. A character past the buffer's end goes nowhere, and the position is counted on, so that
 -- putting a text measures it whatever the buffer is.
-use Rattle.std.specs.Prelude.{List, [], ◌∷◌, ◌≡◌, ℕ, ◌+◌, ◌-◌, ◌^◌, set, min}
+use Rattle.std.specs.Prelude.{List, [], ◌∷◌, ◌≡◌, ℕ, ◌+◌, ◌-◌, ◌^◌, set, min, length}
+use Rattle.std.proofs.lemmas.List.Edits.{sets}
 use Rattle.rules.specs.Words.{Text}
 use Rattle.listing.specs.declared.writer.Writer.{Writer}
 
@@ -24,6 +25,11 @@ put_all (c ∷ t) p = put_all t (put_one c p)
 pub record Puts (before : Writer) (text : Text) (after : Writer) : Type 0 where
   pub same_buffer : after.buffer.ghost_name ≡ before.buffer.ghost_name
   pub page_after : page after ≡ put_all text (page before)
+
+-- a text is put into a buffer from `at` on, up to r
+pub record PutsAt (before : List ℕ) (at : ℕ) (text : Text) (r : ℕ) (after : List ℕ) : Type 0 where
+  pub bytes : after ≡ sets before at text
+  pub end : r ≡ at + length text
 
 -- a text is put into a buffer from its start on, up to r
 pub record Fills (before : List ℕ) (text : Text) (r : ℕ) (after : List ℕ) : Type 0 where

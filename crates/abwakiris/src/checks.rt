@@ -5,9 +5,11 @@ ghost use Rattle.rules.specs.Device.{Device};
 ghost use Rattle.rules.specs.Region.{region_of};
 ghost use Rattle.rules.specs.Promises.{check_of};
 ghost use Rattle.device.specs.Reader.{Reads};
+ghost use Rattle.abwakiris.specs.Packed.{packed_counted};
 ghost use Rattle.abwakiris.specs.Checking.{checked_in};
 
 use crate::jobs::job_of;
+use crate::packed::packed;
 use answers::{Counted, File, Refusal};
 use device::file::DeviceFile;
 use judge::judge;
@@ -21,6 +23,13 @@ pub fn check(device: &[u8], program: &[u8], job: u64) -> Result<Counted, Refusal
     let job = job_of(job)?;
     let device = device::read_device(device)?;
     check_in(device, program, job)
+}
+
+// Value: the command count, and 65,536 times the number left live.
+pub fn abwakiris_check(device: &[u8], program: &[u8], job: u64) -> u64
+    ensures { result ≡ packed_counted (check_of device.now program.now job) }
+{
+    packed(check(device, program, job))
 }
 
 // On a device that was read, for a job that is one.

@@ -68,7 +68,7 @@ fn file_code(file: File) -> u64
     }
 }
 
-fn packed_refusal(x: Refusal) -> u64
+pub fn packed_refusal(x: Refusal) -> u64
     ensures { result ≡ packed_refusal x }
 {
     x.place as u64 % 4294967296 + x.number as u64 * 4294967296 + file_code(x.file) * 1099511627776

@@ -7,9 +7,11 @@ ghost use Rattle.rules.specs.Path as path;
 ghost use Rattle.rules.specs.Promises.{route_of};
 ghost use Rattle.sets.specs.Sets.{has};
 ghost use Rattle.device.specs.Reader.{Reads, RowsOf};
+ghost use Rattle.abwakiris.specs.Packed.{packed_value};
 ghost use Rattle.abwakiris.specs.Routing.{asked, told, Finds, Routes};
 
 use crate::jobs::job_of;
+use crate::packed::packed;
 use answers::{Fault, Refusal};
 use device::file::DeviceFile;
 use device::free::free_in;
@@ -31,6 +33,22 @@ pub fn route(
     let job = job_of(job)?;
     let device = device::read_device(device)?;
     route_in(device, job, occupancy, first, second, buffer)
+}
+
+// Value: the number of locations.
+pub fn abwakiris_route(
+    device: &[u8],
+    job: u64,
+    occupancy: &[u8],
+    first: u64,
+    second: u64,
+    buffer: &mut [u8],
+) -> u64
+    ensures answer { result ≡ packed_value (route_of device.now job occupancy.now first second buffer.old).answer }
+    ensures written { buffer.new
+        ≡ (route_of device.now job occupancy.now first second buffer.old).buffer }
+{
+    packed(route(device, job, occupancy, first, second, buffer))
 }
 
 // On a device that was read, for a job that is one.

@@ -1,4 +1,4 @@
-// The library for C: one export for each call, its answer packed, with the same promise.
+// The library for C: one export for each call, under the same name, with the same promise.
 #![tactic(auto)]
 
 ghost use Rattle.std.specs.Prelude.{◌≡◌};
@@ -7,7 +7,6 @@ ghost use Rattle.rules.specs.Promises.{read_listing_of, write_listing_of};
 ghost use Rattle.rules.specs.Promises.{route_of, run_of};
 ghost use Rattle.abwakiris.specs.Packed.{packed_counted, packed_moved, packed_read, packed_value};
 
-use abwakiris::packed::packed;
 use abwakiris::{checks, listings, reads, routes, runs};
 
 // Value: n, the number of locations.
@@ -15,7 +14,7 @@ use abwakiris::{checks, listings, reads, routes, runs};
 pub extern "C" fn abwakiris_read_device(bytes: &[u8]) -> u64
     ensures { result ≡ packed_value (read_device_of bytes.now) }
 {
-    packed(reads::read_device(bytes))
+    reads::abwakiris_read_device(bytes)
 }
 
 // Value 0.
@@ -23,7 +22,7 @@ pub extern "C" fn abwakiris_read_device(bytes: &[u8]) -> u64
 pub extern "C" fn abwakiris_read_program(bytes: &[u8]) -> u64
     ensures { result ≡ packed_read (read_program_of bytes.now) }
 {
-    packed(reads::read_program(bytes))
+    reads::abwakiris_read_program(bytes)
 }
 
 // Value: the command count, and 65,536 times the number left live.
@@ -31,7 +30,7 @@ pub extern "C" fn abwakiris_read_program(bytes: &[u8]) -> u64
 pub extern "C" fn abwakiris_check(device: &[u8], program: &[u8], job: u64) -> u64
     ensures { result ≡ packed_counted (check_of device.now program.now job) }
 {
-    packed(checks::check(device, program, job))
+    checks::abwakiris_check(device, program, job)
 }
 
 // Value: the number of locations.
@@ -48,7 +47,7 @@ pub extern "C" fn abwakiris_route(
     ensures written { buffer.new
         ≡ (route_of device.now job occupancy.now first second buffer.old).buffer }
 {
-    packed(routes::route(device, job, occupancy, first, second, buffer))
+    routes::abwakiris_route(device, job, occupancy, first, second, buffer)
 }
 
 // Value: how many steps job 1 moved, and 65,536 times how many job 2 moved.
@@ -71,7 +70,7 @@ pub extern "C" fn abwakiris_run(
         ≡ (run_of device.now first.now second.now schedule.now records.old map.old
         ).map }
 {
-    packed(runs::run(device, first, second, schedule, records, map))
+    runs::abwakiris_run(device, first, second, schedule, records, map)
 }
 
 // Value: the bytes of the text.
@@ -80,7 +79,7 @@ pub extern "C" fn abwakiris_write_listing(program: &[u8], text: &mut [u8]) -> u6
     ensures answer { result ≡ packed_value (write_listing_of program.now text.old).answer }
     ensures written { text.new ≡ (write_listing_of program.now text.old).buffer }
 {
-    packed(listings::write_listing(program, text))
+    listings::abwakiris_write_listing(program, text)
 }
 
 // Value: the bytes of the program.
@@ -89,5 +88,5 @@ pub extern "C" fn abwakiris_read_listing(text: &[u8], program: &mut [u8]) -> u64
     ensures answer { result ≡ packed_value (read_listing_of text.now program.old).answer }
     ensures written { program.new ≡ (read_listing_of text.now program.old).buffer }
 {
-    packed(listings::read_listing(text, program))
+    listings::abwakiris_read_listing(text, program)
 }

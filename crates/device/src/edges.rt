@@ -14,7 +14,7 @@ fn rises(s: &[u8], start: usize, i: usize) -> bool
     ensures { result ≡ increases (edge_before s.now start i) (edge_at s.now (start + 2 * i)) }
 {
     let at = start + 2 * i;
-    i == 0 || (s[at - 2], s[at - 1]) < (s[at], s[at + 1])
+    i == 0 || s[at - 2] < s[at] || s[at - 2] == s[at] && s[at - 1] < s[at + 1]
 }
 
 // Whether edge number i joins two locations, the smaller first, and comes after the one before it.

@@ -86,13 +86,13 @@ all_kept false s e = refl
 
 -- ---- a turn
 pub advanced_start : {rows : Rows} {N F : ℕ → Bool} (left out : LocationSet) → ((y : ℕ) → has out y ≡ false)
-    → Advanced rows N F (has left) 0 (record { left = left; joined = out; any = false })
+    → Advanced rows N F (has left) 0 (record { left = left; joined = out; any = 0 })
 advanced_start left out e =
     record {
       taken = λ y h. absurd (omega arith);
       later = λ y h. refl;
       next = joined_start e;
-      some = λ n. absurd (clash n refl);
+      some = λ n. absurd (n refl);
       none = λ a y h. absurd (omega arith);
       apart = λ y h. absurd (omega arith);
     }
@@ -162,14 +162,14 @@ module _ {rows : Rows} {N F L : ℕ → Bool} (i : ℕ) {t : Turn} (u : Advanced
     -- none of which is
     pub advanced_more : {left' out' : LocationSet} → (bit_and a (get_or t.left.words i 0) ≡ 0 → ⊥) → bit_and (bit_and a (get_or t.left.words i 0)) f ≡ 0
         → Put t.left i (bit_xor (get_or t.left.words i 0) (bit_and a (get_or t.left.words i 0))) left' → Joined rows N (i * 64 + 64) out'
-        → Advanced rows N F L (i * 64 + 64) (record { left = left'; joined = out'; any = true })
+        → Advanced rows N F L (i * 64 + 64) (record { left = left'; joined = out'; any = bit_and a (get_or t.left.words i 0) })
     advanced_more {left'} some z p o =
         record {
           taken = λ y l. ⊎_elim (λ k. p.under y k ∙ u.taken y k) (λ k. loses y k l) (side y (i * 64));
           later = λ y l. p.above y l ∙ u.later y (omega arith);
           next = o;
           some = λ _. let b = word_some s small some in (i * 64 + b.0, s.bit b.0 b.1 ∙ eq-eqb _ 1 b.2);
-          none = λ e. absurd (clash refl e);
+          none = λ e. absurd (some e);
           apart = λ y l q r. ⊎_elim (λ k. u.apart y k q r) (λ k. clash (both_and (N y) (F y) q r) (word_none both z y k l)) (side y (i * 64));
         }
       where
@@ -195,7 +195,7 @@ module _ {rows : Rows} {N F : ℕ → Bool} (J : ℕ → Bool) (before : Locatio
       gone : has before y ≡ false → (has before y && not (N y)) ≡ false
       gone e = rw e
 
-  pub level_none : t.any ≡ false → (y : ℕ) → has before y ≡ true → J y ≡ true → ⊥
+  pub level_none : t.any ≡ 0 → (y : ℕ) → has before y ≡ true → J y ≡ true → ⊥
   level_none a y l j = clash (n y ∙ both_and (J y) (has before y) j l) (u.none a y (has_lt before y l))
 
   pub level_apart : (y : ℕ) → N y ≡ true → F y ≡ true → ⊥

@@ -21,13 +21,13 @@ pub record Joined (rows : Rows) (S : ℕ → Bool) (n : ℕ) (out : LocationSet)
   pub all : (x y : ℕ) → x < n → S x ≡ true → has (row_of rows x) y ≡ true → has out y ≡ true
 
 -- an end's turn that meets nothing: N is its new level, F what the other end's newest level is joined to, L what was left before; t has what is left
--- afterwards, what N is joined to, and whether N has a location
+-- afterwards, what N is joined to, and 0 exactly where N has no location
 pub record Advanced (rows : Rows) (N F L : ℕ → Bool) (n : ℕ) (t : Turn) : Type 0 where
   pub taken : (y : ℕ) → y < n → has t.left y ≡ (L y && not (N y))
   pub later : (y : ℕ) → n ≤ y → has t.left y ≡ L y
   pub next : Joined rows N n t.joined
-  pub some : t.any ≡ true → (y : ℕ) × (N y ≡ true)
-  pub none : t.any ≡ false → (y : ℕ) → y < n → N y ≡ false
+  pub some : (t.any ≡ 0 → ⊥) → (y : ℕ) × (N y ≡ true)
+  pub none : t.any ≡ 0 → (y : ℕ) → y < n → N y ≡ false
   pub apart : (y : ℕ) → y < n → N y ≡ true → F y ≡ true → ⊥
 
 -- a turn, none where N meets F

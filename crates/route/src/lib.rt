@@ -46,7 +46,7 @@ pub fn distance(rows: &Rows, free: LocationSet, a: u8, b: u8) -> Option<u8>
         let Some(turn) = advance(rows, joined, other, left) else {
             return Some(k);
         };
-        if !turn.any {
+        if turn.any == 0 {
             return None;
         }
         left = turn.left;

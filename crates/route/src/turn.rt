@@ -8,13 +8,13 @@ use super::joined::join_word;
 use sets::LocationSet;
 use sets::rows::Rows;
 
-// What is left after a turn, what the new level is joined to, and whether the level has any location: a fact of the level, which as a case of its own would
-// be tested in each word.
+// What is left after a turn, what the new level is joined to, and some word of the level that is not 0, or 0 where the level has no location: as a bool it
+// takes a register more, and the search over a line a third longer; as a case of its own it would be tested in each word.
 #[derive(Clone, Copy)]
 pub struct Turn {
     pub left: LocationSet,
     pub joined: LocationSet,
-    pub any: bool,
+    pub any: u64,
 }
 
 // The turn of the end whose newest level is joined to a set, while the other end's is joined to another. The words are four calls: as a loop over them,
@@ -30,7 +30,7 @@ pub fn advance(
     let start = Turn {
         left,
         joined: LocationSet::empty(),
-        any: false,
+        any: 0,
     };
     let first = advance_word(rows, joined, other, 0, start)?;
     let second = advance_word(rows, joined, other, 1, first)?;
@@ -64,7 +64,7 @@ fn advance_word(
     Some(Turn {
         left: put(to.left, i, to.left.words[n] ^ new),
         joined: join_word(rows, i, new, own),
-        any: true,
+        any: new,
     })
 }
 

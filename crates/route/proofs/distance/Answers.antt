@@ -1,4 +1,4 @@
-use mathlib.Core.Bool.{Bool, true, false, not, ◌&&◌}
+use mathlib.Core.Bool.{Bool, true, false, ◌&&◌}
 use mathlib.Core.Logic.{inl}
 use mathlib.Core.Path.{◌≡◌, refl, sym, ap, ◌∙◌}
 use native.Mathlib.Omega.{arith}
@@ -8,7 +8,6 @@ use Rattle.rules.specs.Region.{Region, joined}
 use Rattle.sets.specs.declared.LocationSet.{LocationSet}
 use Rattle.sets.specs.declared.rows.Rows.{Rows}
 use Rattle.sets.specs.Sets.{has}
-use Rattle.sets.proofs.Bools.{not_of}
 use Rattle.sets.proofs.SetLaws.{has_lt}
 use Rattle.device.specs.Reader.{RowsOf}
 use Rattle.route.specs.declared.turn.Turn.{Turn}
@@ -37,14 +36,10 @@ loop-k-init c =
 abbrev level : LocationSet → LocationSet → ℕ → Bool
 level to left y = has to y && has left y
 
-not_off : (t : Bool) → not t ≡ false → t ≡ true
-not_off true e = refl
-not_off false e = sym e
-
 -- a turn that meets nothing
 module _ {rows : Rows} (to other left : LocationSet) {t : Turn} (u : Advanced rows (level to left) (has other) (has left) 256 t) where
   -- a level takes one at least
-  shrinks : t.any ≡ true → count (has t.left) 256 < count (has left) 256
+  shrinks : (t.any ≡ 0 → ⊥) → count (has t.left) 256 < count (has left) 256
   shrinks a =
       let s = u.some a in
       let n = level_left (has to) (has left) (λ y. refl) s.0 s.1 in
@@ -67,30 +62,30 @@ returns-in_default c =
     λ R w. ap Some l.invariant.1 ∙ turns_found R i c.if-a-b.false (l.invariant.3 R w) t.0 n.1 n.0 t.2
 
 -- there is no next level
-pub returns-then-not-turn : goal.returns-then-not-turn
-returns-then-not-turn c =
+pub returns-then-turn-eq0 : goal.returns-then-turn-eq0
+returns-then-turn-eq0 c =
     let l = c.loop-k in
     let i : Inner (has c.args.free) c.args.a c.args.b (has c.remove-left.result) =
     inner_of c.remove.result c.remove-left.result c.remove.ensures c.remove-left.ensures in
     let u = c.in-Some.ensures (level l.joined l.left) (λ y. refl) in
-    let e = level_none (has l.joined) l.left (λ y. refl) u (not_of _ c.if-not-turn.true) in
+    let e = level_none (has l.joined) l.left (λ y. refl) u c.if-turn-eq0.true in
     λ R w. turns_none R i c.if-a-b.false (l.invariant.3 R w) e
 
 pub loop-k-preserved : goal.loop-k-preserved
 loop-k-preserved c =
     let l = c.loop-k in
     let u = c.in-Some.ensures (level l.joined l.left) (λ y. refl) in
-    let s = shrinks l.joined l.other l.left u (not_off _ c.if-not-turn.false) in
+    let s = shrinks l.joined l.other l.left u c.if-turn-eq0.false in
     (l.invariant.0 + 1, omega (arith, l.invariant.1), omega (arith, l.invariant.2), λ R w. onward l.joined l.other l.left u w (l.invariant.3 R w))
 
 -- the levels have taken all locations
-pub returns-else-not-turn : goal.returns-else-not-turn
-returns-else-not-turn c =
+pub returns-else-turn-eq0 : goal.returns-else-turn-eq0
+returns-else-turn-eq0 c =
     let l = c.loop-k in
     let i : Inner (has c.args.free) c.args.a c.args.b (has c.remove-left.result) =
     inner_of c.remove.result c.remove-left.result c.remove.ensures c.remove-left.ensures in
     let u = c.in-Some.ensures (level l.joined l.left) (λ y. refl) in
-    let s = shrinks l.joined l.other l.left u (not_off _ c.if-not-turn.false) in
+    let s = shrinks l.joined l.other l.left u c.if-turn-eq0.false in
     let left = c.in-Some.turn.left in
     λ R w. turns_none R i c.if-a-b.false (onward l.joined l.other l.left u w (l.invariant.3 R w))
     (λ y h _. let n = count_some (has left) 256 y (has_lt left y h) h in absurd (omega (arith, l.invariant.1, l.invariant.2)))

@@ -31,8 +31,6 @@ const NO_BLOCK: Open = Open {
 // steps below (`added` to `main`) take and give any numbers, and may ask no more. No heap: a program has at most 15 functions, and 8 blocks are open.
 #[derive(Clone, Copy)]
 pub struct Standing {
-    pub started: bool, // the first line has been read
-    pub in_main: bool, // main's line has been read
     pub functions: usize, // how many functions' lines have been read
     pub heads: [Head; 16],
     pub places: usize, // what the block being read may name: places below this number, and
@@ -41,6 +39,8 @@ pub struct Standing {
     pub blocks: [Open; 8], // by depth, the outermost first
     pub used: usize, // up to where the file's bytes go
     pub owed: usize, // how many more it will have at least: a due else and main each have a length word
+    pub started: bool, // the first line has been read
+    pub in_main: bool, // main's line has been read
 }
 
 impl Standing {
@@ -73,14 +73,12 @@ impl Standing {
     }
 
     // A statement of `n` bytes that holds no block.
-    pub fn added(self, n: usize) -> Self
+    pub fn added(mut self, n: usize) -> Self
         requires { self.used + n ≤ 10000 }
         ensures { result ≡ added_of self n }
     {
-        Standing {
-            used: self.used + n,
-            ..self
-        }
+        self.used += n;
+        self
     }
 
     // A block is opened behind a statement of `n` bytes and its own length word.

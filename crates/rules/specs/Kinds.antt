@@ -1,8 +1,9 @@
 -- The statement kinds and the words of a listing by name: the byte of each kind, what the table says of it, and the text of each word. The table is by
 -- statement byte, and says what each of them means.
-use Rattle.std.specs.Prelude.{List, [], ◌∷◌, ℕ, get_or, Option, Some, None}
+use Rattle.std.specs.Prelude.{List, [], ◌∷◌, ◌++◌, ℕ, get_or, Option, Some, None}
 use Rattle.std.proofs.Math.Option.{none, some}
 use Rattle.rules.specs.declared.statements.Operand.{Operand}
+use Rattle.rules.specs.declared.statements.Operand.TheVariants.{Slot, Location, Gate as Gates, Basis, Value, Callee, CalleeK, CalleeM}
 use Rattle.rules.specs.declared.statements.Kind.{Kind}
 use Rattle.rules.specs.declared.statements.Kind.TheVariants.{Init, Magic, Free, Gate, Measure, Merge, Ref, Get, Set, If, While, Call, Bool}
 use Rattle.rules.specs.declared.words.Word.{Word}
@@ -30,6 +31,11 @@ byte_of Bool = 13
 abbrev pub operands_of : ℕ → List Operand
 operands_of b = elim (row_of b) [ none ↦ [] | some r ↦ r.operands ]
 
+-- the operands of all kinds in one row, those of a kind side by side
+abbrev pub operand_row : List Operand
+operand_row =
+    Slot ∷ Location ∷ Gates ∷ Slot ∷ Basis ∷ Slot ∷ Basis ∷ Slot ∷ Slot ∷ Value ∷ Callee ∷ CalleeK ∷ CalleeM ∷ []
+
 -- the text of a word
 abbrev pub text_of : Word → Text
 text_of Empty = []
@@ -46,6 +52,14 @@ text_of Z = get_or names.gates 1 []
 text_of H = get_or names.gates 2 []
 text_of S = get_or names.gates 3 []
 text_of (Name kind) = name_of (byte_of kind)
+
+-- the letters of all words in one row, those of a word side by side
+abbrev pub letter_row : Text
+letter_row =
+    names.program ++ names.function ++ names.locations ++ names.arguments ++ names.main ++ names.else ++ names.at ++ names.with
+    ++ get_or names.gates 0 [] ++ get_or names.gates 1 [] ++ get_or names.gates 2 [] ++ get_or names.gates 3 []
+    ++ names.init_name ++ names.magic_name ++ names.free_name ++ names.gate_name ++ names.measure_name ++ names.merge_name
+    ++ names.ref_name ++ names.get_name ++ names.set_name ++ names.if_name ++ names.while_name ++ names.call_name ++ names.bool_name
 
 -- the word of gate or basis number g
 abbrev pub gate_word : ℕ → Option Word

@@ -1,8 +1,8 @@
 // The one table of the thirteen statement kinds: by kind its byte and what its operands are.
-ghost use Rattle.std.specs.Prelude.{◌≡◌, ◌+◌, ◌≤◌, ◌<◌, IfOk, IfErr};
+ghost use Rattle.std.specs.Prelude.{◌≡◌, ◌+◌, ◌-◌, ◌≤◌, ◌<◌, IfOk, IfErr, drop, take};
 ghost use Rattle.rules.specs.Table.{size_of, operand_at};
 ghost use Rattle.answers.specs.declared.Fault.TheVariants.{NoStatement};
-ghost use Rattle.rules.specs.Kinds.{byte_of, operands_of};
+ghost use Rattle.rules.specs.Kinds.{byte_of, operands_of, operand_row};
 
 use crate::statements::Operand::{Basis, Callee, CalleeK, CalleeM, Gate, Location, Slot, Value};
 use answers::Fault;
@@ -38,6 +38,11 @@ pub enum Kind {
     Call = 12,
     Bool = 13,
 }
+
+// The operands of all kinds in one row: those of a kind stand side by side in it, and may be those of another too.
+const OPERANDS: [Operand; 13] = [
+    Slot, Location, Gate, Slot, Basis, Slot, Basis, Slot, Slot, Value, Callee, CalleeK, CalleeM,
+];
 
 // All of them, in the order of their bytes.
 pub const KINDS: [Kind; 13] = [
@@ -100,24 +105,33 @@ impl Kind {
         self as u8
     }
 
-    // What the operands of the fixed part are, in their order.
+    // What the operands of the fixed part are, in their order: a part of the one row of all of them.
     pub fn operands(self) -> &'static [Operand]
         ensures { result.now ≡ operands_of (byte_of self) }
     {
+        let (from, to) = self.span();
+        &OPERANDS[from..to]
+    }
+
+    // Where its operands stand in the row. Numbers, and no slices: a table of slices is data that a program must mend when it is loaded.
+    fn span(self) -> (usize, usize)
+        ensures part { take (result.1 - result.0) (drop result.0 operand_row) ≡ operands_of (byte_of self) }
+        ensures within { (result.0 ≤ result.1) × (result.1 ≤ 13) }
+    {
         match self {
-            Kind::Init => &[Slot, Location],
-            Kind::Magic => &[Slot, Location],
-            Kind::Free => &[Slot],
-            Kind::Gate => &[Gate, Slot],
-            Kind::Measure => &[Slot, Basis, Slot],
-            Kind::Merge => &[Slot, Basis, Slot, Basis, Slot],
-            Kind::Ref => &[Slot, Slot],
-            Kind::Get => &[Slot, Slot],
-            Kind::Set => &[Slot, Slot],
-            Kind::If => &[Slot],
-            Kind::While => &[Slot],
-            Kind::Call => &[Callee, CalleeK, CalleeM],
-            Kind::Bool => &[Slot, Value],
+            Kind::Init => (0, 2),
+            Kind::Magic => (0, 2),
+            Kind::Free => (0, 1),
+            Kind::Gate => (2, 4),
+            Kind::Measure => (3, 6),
+            Kind::Merge => (3, 8),
+            Kind::Ref => (7, 9),
+            Kind::Get => (7, 9),
+            Kind::Set => (7, 9),
+            Kind::If => (0, 1),
+            Kind::While => (0, 1),
+            Kind::Call => (10, 13),
+            Kind::Bool => (8, 10),
         }
     }
 

@@ -1,6 +1,6 @@
 // The words of a listing, and their letters.
-ghost use Rattle.std.specs.Prelude.{◌≡◌, ◌≤◌, ◌<◌, length};
-ghost use Rattle.rules.specs.Kinds.{text_of, gate_word, numbered};
+ghost use Rattle.std.specs.Prelude.{◌≡◌, ◌+◌, ◌-◌, ◌≤◌, ◌<◌, length, drop, take};
+ghost use Rattle.rules.specs.Kinds.{text_of, letter_row, gate_word, numbered};
 ghost use Rattle.rules.specs.Table.{word_of};
 
 use crate::statements::Kind;
@@ -23,6 +23,10 @@ pub enum Word {
     S,
     Name(Kind),
 }
+
+// All words, one behind the other.
+const LETTERS: [u8; 104] =
+    *b"programfunctionlocationsargumentsmainelseatwithXZHSinitmagicfreegatemeasuremergerefgetsetifwhilecallbool";
 
 // The four gates; bases are the first two.
 const GATES: [Word; 4] = [Word::X, Word::Z, Word::H, Word::S];
@@ -71,47 +75,57 @@ impl Word {
         GATES.get(number as usize).copied()
     }
 
+    // Its characters: a part of the one row of all of them.
     pub fn letters(self) -> &'static [u8]
         ensures value { result.now ≡ text_of self }
         ensures few { length result.now ≤ 9 }
     {
+        let (from, to) = self.span();
+        &LETTERS[from..to]
+    }
+
+    // Where its characters stand in the row. Numbers, and no slices: a table of slices is data that a program must mend when it is loaded.
+    fn span(self) -> (usize, usize)
+        ensures part { take (result.1 - result.0) (drop result.0 letter_row) ≡ text_of self }
+        ensures within { (result.0 ≤ result.1) × (result.1 ≤ result.0 + 9) × (result.1 ≤ 104) }
+    {
         match self {
-            Word::Empty => b"",
-            Word::Program => b"program",
-            Word::Function => b"function",
-            Word::Locations => b"locations",
-            Word::Arguments => b"arguments",
-            Word::Main => b"main",
-            Word::Else => b"else",
-            Word::At => b"at",
-            Word::With => b"with",
-            Word::X => b"X",
-            Word::Z => b"Z",
-            Word::H => b"H",
-            Word::S => b"S",
-            Word::Name(kind) => name(kind),
+            Word::Empty => (0, 0),
+            Word::Program => (0, 7),
+            Word::Function => (7, 15),
+            Word::Locations => (15, 24),
+            Word::Arguments => (24, 33),
+            Word::Main => (33, 37),
+            Word::Else => (37, 41),
+            Word::At => (41, 43),
+            Word::With => (43, 47),
+            Word::X => (47, 48),
+            Word::Z => (48, 49),
+            Word::H => (49, 50),
+            Word::S => (50, 51),
+            Word::Name(kind) => name_span(kind),
         }
     }
 }
 
-// The name of a statement kind.
-fn name(kind: Kind) -> &'static [u8]
-    ensures value { result.now ≡ text_of (Word.Name kind) }
-    ensures few { length result.now ≤ 9 }
+// The same of the name of a statement kind.
+fn name_span(kind: Kind) -> (usize, usize)
+    ensures part { take (result.1 - result.0) (drop result.0 letter_row) ≡ text_of (Word.Name kind) }
+    ensures within { (result.0 ≤ result.1) × (result.1 ≤ result.0 + 9) × (result.1 ≤ 104) }
 {
     match kind {
-        Kind::Init => b"init",
-        Kind::Magic => b"magic",
-        Kind::Free => b"free",
-        Kind::Gate => b"gate",
-        Kind::Measure => b"measure",
-        Kind::Merge => b"merge",
-        Kind::Ref => b"ref",
-        Kind::Get => b"get",
-        Kind::Set => b"set",
-        Kind::If => b"if",
-        Kind::While => b"while",
-        Kind::Call => b"call",
-        Kind::Bool => b"bool",
+        Kind::Init => (51, 55),
+        Kind::Magic => (55, 60),
+        Kind::Free => (60, 64),
+        Kind::Gate => (64, 68),
+        Kind::Measure => (68, 75),
+        Kind::Merge => (75, 80),
+        Kind::Ref => (80, 83),
+        Kind::Get => (83, 86),
+        Kind::Set => (86, 89),
+        Kind::If => (89, 91),
+        Kind::While => (91, 96),
+        Kind::Call => (96, 100),
+        Kind::Bool => (100, 104),
     }
 }

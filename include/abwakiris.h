@@ -19,8 +19,8 @@
  *
  * Threads: no state is kept between calls, so every call may be made from any thread at once, with its own buffers.
  *
- * Stack, in bytes at most, measured on x86-64 at -O3, not proved: read_device 136, read_program 2,704, check 39,144, route 9,080, run 22,936,
- * write_listing 3,024, read_listing 1,393. So 64 KiB were enough for any call.
+ * Stack, in bytes at most, measured on x86-64 at -O3, not proved: read_device 136, read_program 2,824, check 39,128, route 9,080, run 22,920,
+ * write_listing 3,144, read_listing 2,256. So 64 KiB were enough for any call.
  *
  * Linking: the archive is x86-64-v2 code for Linux, so the processor must have SSE4.2 and POPCNT; nothing in it looks for them. By `nm` its only symbols
  * from outside are memcpy and memset, so it allocates nothing; by `size` it has code and constants, and no data and no bss.

@@ -4,7 +4,7 @@
 //! refusal every buffer that was lent holds the bytes it held before; bytes past what a call writes stay as they are.
 //!
 //! No state is kept between calls, so every call may be made from any thread at once. The most stack that a call took, as measured on x86-64,
-//! is 39,144 bytes, for a check.
+//! is 39,128 bytes, for a check.
 //!
 //! Device G has 2 rows of 3 locations, all owned by job 1; program A makes two qubits in corners, measures them together and frees them.
 //!

@@ -42,18 +42,20 @@ pub fn distance(rows: &Rows, free: LocationSet, a: u8, b: u8) -> Option<u8>
     }
     let mut joined = rows.row(b);
     let mut left = free.remove(a).remove(b);
-    for k in 2..=255 {
+    let mut k: usize = 2;
+    // no range counts this loop: a count that is tested at each turn takes a register from the sets, and far ends on a line take a third longer
+    loop {
         let Some(turn) = advance(rows, joined, other, left) else {
-            return Some(k);
+            return Some(k as u8);
         };
         if turn.any == 0 {
             return None;
         }
+        k += 1;
         left = turn.left;
         joined = other;
         other = turn.joined;
     }
-    None
 }
 
 // The route from a to b through free locations, into the buffer: how many locations it has. Where there is none, or the buffer is too short, the buffer

@@ -1,4 +1,4 @@
-use mathlib.Core.Bool.{Bool, true, false, ◌&&◌}
+use mathlib.Core.Bool.{Bool, ◌&&◌}
 use mathlib.Core.Logic.{inl}
 use mathlib.Core.Path.{◌≡◌, refl, sym, ap, ◌∙◌}
 use native.Mathlib.Omega.{arith}
@@ -24,8 +24,8 @@ returns-then-contains c =
     λ R w. ends_joined R (has a.free) a.a a.b c.if-a-b.false
     (sym (w.row a.a a.b) ∙ ap (λ r. has r a.b) (sym c.row-other.ensures) ∙ sym c.contains.ensures ∙ c.if-contains.true)
 
-pub loop-k-init : goal.loop-k-init
-loop-k-init c =
+pub loop-turn-init : goal.loop-turn-init
+loop-turn-init c =
     let s = c.remove-left in
     let i : Inner (has c.args.free) c.args.a c.args.b (has s.result) = inner_of c.remove.result s.result c.remove.ensures s.ensures in
     let e = sym c.contains.ensures ∙ c.if-contains.false in
@@ -51,10 +51,19 @@ module _ {rows : Rows} (to other left : LocationSet) {t : Turn} (u : Advanced ro
       turns_next w t.joined v (λ y. refl) (level_lt (has to) left (λ y. refl) u) (level_apart (has to) left (λ y. refl) u)
       (all_taken (has to) left (λ y. refl) u) u.next
 
+-- where the next level meets something a location is left, so the levels are fewer than the locations
+pub overflow_cast-result : goal.overflow_cast-result
+overflow_cast-result c =
+    let l = c.loop-turn in
+    let t = c.in_default.ensures (level l.joined l.left) (λ y. refl) in
+    let n = level_left (has l.joined) (has l.left) (λ y. refl) t.0 t.1 in
+    let s = count_some (has l.left) 256 t.0 (has_lt l.left t.0 n.1) n.1 in
+    record { fits = omega (arith, l.invariant.1, l.invariant.2, s) }
+
 -- the next level meets what the other end's newest is joined to
 pub returns-in_default : goal.returns-in_default
 returns-in_default c =
-    let l = c.loop-k in
+    let l = c.loop-turn in
     let i : Inner (has c.args.free) c.args.a c.args.b (has c.remove-left.result) =
     inner_of c.remove.result c.remove-left.result c.remove.ensures c.remove-left.ensures in
     let t = c.in_default.ensures (level l.joined l.left) (λ y. refl) in
@@ -64,28 +73,22 @@ returns-in_default c =
 -- there is no next level
 pub returns-then-turn-eq0 : goal.returns-then-turn-eq0
 returns-then-turn-eq0 c =
-    let l = c.loop-k in
+    let l = c.loop-turn in
     let i : Inner (has c.args.free) c.args.a c.args.b (has c.remove-left.result) =
     inner_of c.remove.result c.remove-left.result c.remove.ensures c.remove-left.ensures in
     let u = c.in-Some.ensures (level l.joined l.left) (λ y. refl) in
     let e = level_none (has l.joined) l.left (λ y. refl) u c.if-turn-eq0.true in
     λ R w. turns_none R i c.if-a-b.false (l.invariant.3 R w) e
 
-pub loop-k-preserved : goal.loop-k-preserved
-loop-k-preserved c =
-    let l = c.loop-k in
+pub loop-turn-smaller : goal.loop-turn-smaller
+loop-turn-smaller c =
+    let l = c.loop-turn in
+    let u = c.in-Some.ensures (level l.joined l.left) (λ y. refl) in
+    shrinks l.joined l.other l.left u c.if-turn-eq0.false
+
+pub loop-turn-preserved : goal.loop-turn-preserved
+loop-turn-preserved c =
+    let l = c.loop-turn in
     let u = c.in-Some.ensures (level l.joined l.left) (λ y. refl) in
     let s = shrinks l.joined l.other l.left u c.if-turn-eq0.false in
     (l.invariant.0 + 1, omega (arith, l.invariant.1), omega (arith, l.invariant.2), λ R w. onward l.joined l.other l.left u w (l.invariant.3 R w))
-
--- the levels have taken all locations
-pub returns-else-turn-eq0 : goal.returns-else-turn-eq0
-returns-else-turn-eq0 c =
-    let l = c.loop-k in
-    let i : Inner (has c.args.free) c.args.a c.args.b (has c.remove-left.result) =
-    inner_of c.remove.result c.remove-left.result c.remove.ensures c.remove-left.ensures in
-    let u = c.in-Some.ensures (level l.joined l.left) (λ y. refl) in
-    let s = shrinks l.joined l.other l.left u c.if-turn-eq0.false in
-    let left = c.in-Some.turn.left in
-    λ R w. turns_none R i c.if-a-b.false (onward l.joined l.other l.left u w (l.invariant.3 R w))
-    (λ y h _. let n = count_some (has left) 256 y (has_lt left y h) h in absurd (omega (arith, l.invariant.1, l.invariant.2)))

@@ -8,6 +8,9 @@ use Rattle.route.proofs.Sizes.{count}
 use Rattle.route.proofs.Turns.{Turns}
 use Rattle.route.proofs.distance.Given as goal
 
-abbrev pub invariant-loop-k : goal.invariant-loop-k
-invariant-loop-k l = (m : ℕ) × (l.k ≡ m + 1) × (m + count (has l.left) 256 ≤ 255)
+abbrev pub invariant-loop-turn : goal.invariant-loop-turn
+invariant-loop-turn l = (m : ℕ) × (l.k ≡ m + 1) × (m + count (has l.left) 256 ≤ 255)
     × ((R : Region) → RowsOf R l.rows → Turns (joined R) (has l.initial.left) l.a l.b (has l.joined) (has l.other) (has l.left) m)
+
+abbrev pub decreases-loop-turn : goal.decreases-loop-turn
+decreases-loop-turn l = count (has l.left) 256

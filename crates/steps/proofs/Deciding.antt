@@ -10,7 +10,7 @@ use lib.ListN.{length, replicate}
 use Rattle.std.specs.Prelude.{Result, Ok}
 use Rattle.answers.specs.declared.Fault.{Fault}
 use Rattle.rules.specs.declared.statements.Kind.{Kind}
-use Rattle.rules.specs.declared.statements.Kind.TheVariants.{Init, Magic, Free, Gate, Measure, Merge, Ref, Get, Set, Bool as Truth}
+use Rattle.rules.specs.declared.statements.Kind.TheVariants.{Init, Magic, Free, Gate, Measure, Merge, Ref, Get, Set, If, While, Call, Bool as Truth}
 use Rattle.rules.specs.Kinds.{byte_of}
 use Rattle.rules.specs.declared.place.Location.{Location}
 use Rattle.rules.specs.Basics.{byte, word}
@@ -20,6 +20,7 @@ use Rattle.rules.specs.Program.{Scope}
 use Rattle.rules.specs.Slots.{unbound}
 use Rattle.rules.specs.Machine as rules
 use Rattle.rules.specs.Machine.{themselves, Item, statements_before, block_before}
+use Rattle.rules.proofs.KindBytes.{byte_injective}
 use Rattle.sets.specs.declared.LocationSet.{LocationSet}
 use Rattle.sets.specs.declared.rows.Rows.{Rows}
 use Rattle.program.specs.declared.functions.FunctionTable.{FunctionTable}
@@ -54,10 +55,18 @@ starts_there C =
     let b = statement_byte N.here in (b.0, b.1, omega (arith, b.2, b.3), N.size)
 
 -- the kinds of operations are no block's
-pub no_block : (k : Kind) (b : ℕ) → byte_of k ≡ b
+pub operation_no_block : (k : Kind) (b : ℕ) → byte_of k ≡ b
     → (k ≡ Init) ⊎ ((k ≡ Magic) ⊎ ((k ≡ Free) ⊎ ((k ≡ Gate) ⊎ ((k ≡ Measure) ⊎ ((k ≡ Merge) ⊎ ((k ≡ Ref) ⊎ ((k ≡ Get) ⊎ ((k ≡ Set) ⊎ (k ≡ Truth)))))))))
     → NoBlock b
-no_block k b e h = record { no_if = λ f. grind arith; no_while = λ f. grind arith; no_call = λ f. grind arith }
+operation_no_block k b e h = record { no_if = λ f. grind arith; no_while = λ f. grind arith; no_call = λ f. grind arith }
+
+-- a statement of another kind than if, while and call is no block's
+pub no_block : (k : Kind) (b : ℕ) → byte_of k ≡ b → (k ≡ If → ⊥) → (k ≡ While → ⊥) → (k ≡ Call → ⊥) → NoBlock b
+no_block k b e x y z = record {
+  no_if = λ h. x (byte_injective k If (e ∙ h));
+  no_while = λ h. y (byte_injective k While (e ∙ h));
+  no_call = λ h. z (byte_injective k Call (e ∙ h));
+}
 
 -- what the kinds promise is what a step promises
 module _ (s : List ℕ) (t : FunctionTable) (at : ℕ) (rows : Rows) (owned : LocationSet) (map : List ℕ) (v : Bool) (j i : Job) (r : Result Effect Fault) where

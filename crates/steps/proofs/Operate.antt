@@ -9,7 +9,7 @@ use Prim.Native.Nat.{ℕ, ◌+◌, ◌<◌}
 use lib.Dec.{eqb}
 use lib.ListN.{length}
 use Rattle.rules.specs.declared.statements.Kind.{Kind}
-use Rattle.rules.specs.declared.statements.Kind.TheVariants.{Init, Magic, If, While, Call, Bool as Truth}
+use Rattle.rules.specs.declared.statements.Kind.TheVariants.{Init, Magic, Free, Gate, Measure, Merge, Ref, Get, Set, If, While, Call, Bool as Truth}
 use Rattle.rules.specs.Kinds.{byte_of}
 use Rattle.rules.specs.declared.place.Location.{Location}
 use Rattle.rules.specs.Basics.{byte}
@@ -22,7 +22,8 @@ use Rattle.program.proofs.In.{statement_byte}
 use Rattle.steps.specs.declared.job.Job.{Job}
 use Rattle.steps.specs.State.{place_of, slots_of, located_in}
 use Rattle.steps.specs.Performing.{Answer, Tells, Performs, Inits, Merges, Operable, Operates}
-use Rattle.steps.proofs.Seen.{IsInit, IsFree, IsGate, IsMeasure, IsMerge, IsNew, IsGet, IsSet, IsConstant, init_seen, free_seen, gate_seen, measure_seen, merge_seen, new_seen, get_seen, set_seen, constant_seen}
+use Rattle.steps.proofs.Seen.{IsInit, IsFree, IsGate, IsMeasure, IsMerge, IsNew, IsGet, IsSet, IsConstant}
+use Rattle.steps.proofs.Seen.{init_seen, free_seen, gate_seen, measure_seen, merge_seen, new_seen, get_seen, set_seen, constant_seen}
 
 -- the statement's byte, by the kind that the code has found
 pub byte_is : (k l : Kind) (b : ℕ) → byte_of k ≡ b → k ≡ l → b ≡ byte_of l
@@ -38,11 +39,16 @@ module _ {s : List ℕ} {at : ℕ} {j : Job} (O : Operable s at j) where
   byte_there = let b = statement_byte O.here in (b.0, b.1, omega (arith, b.2, b.3))
 
   -- the last arm's kind: none of the three that are named beside it stands there
-  pub last_byte : (k : Kind) → byte_of k ≡ byte s at → (k ≡ Truth) ⊎ ((k ≡ If) ⊎ ((k ≡ While) ⊎ (k ≡ Call))) → byte s at ≡ 13
-  last_byte k e (inl z) = byte_is k Truth _ e z
-  last_byte k e (inr (inl z)) = absurd (O.no_if (byte_is k If _ e z))
-  last_byte k e (inr (inr (inl z))) = absurd (O.no_while (byte_is k While _ e z))
-  last_byte k e (inr (inr (inr z))) = absurd (O.no_call (byte_is k Call _ e z))
+  pub last_arm_byte : (k : Kind) → byte_of k ≡ byte s at → (k ≡ Truth) ⊎ ((k ≡ If) ⊎ ((k ≡ While) ⊎ (k ≡ Call))) → byte s at ≡ 13
+  last_arm_byte k e (inl z) = byte_is k Truth _ e z
+  last_arm_byte k e (inr (inl z)) = absurd (O.no_if (byte_is k If _ e z))
+  last_arm_byte k e (inr (inr (inl z))) = absurd (O.no_while (byte_is k While _ e z))
+  last_arm_byte k e (inr (inr (inr z))) = absurd (O.no_call (byte_is k Call _ e z))
+
+  -- a statement of a kind that is none of these nine, where no block's stands, is a constant's
+  pub last_byte : (k : Kind) → byte_of k ≡ byte s at → (k ≡ Init → ⊥) → (k ≡ Magic → ⊥) → (k ≡ Free → ⊥) → (k ≡ Gate → ⊥) → (k ≡ Measure → ⊥)
+      → (k ≡ Merge → ⊥) → (k ≡ Ref → ⊥) → (k ≡ Get → ⊥) → (k ≡ Set → ⊥) → byte s at ≡ 13
+  last_byte k e a b c d f g h i l = grind arith
 
   pub init_there : byte s at < 3 → IsInit s O.S O.depths at O.t O.p
   init_there k = init_seen O.here k

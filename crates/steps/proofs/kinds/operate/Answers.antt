@@ -2,7 +2,8 @@
 use mathlib.Core.Path.{refl}
 use native.Mathlib.Omega.{arith}
 use Rattle.rules.specs.declared.statements.Kind.TheVariants.{Free, Gate, Measure, Merge, Ref, Get, Set}
-use Rattle.steps.proofs.Operate.{byte_is, init_byte, last_byte, byte_there, init_there, free_there, gate_there, measure_there, merge_there, new_there, get_there, set_there, constant_there}
+use Rattle.steps.proofs.Operate.{byte_is, init_byte, last_arm_byte, byte_there, init_there, free_there, gate_there, measure_there, merge_there}
+use Rattle.steps.proofs.Operate.{new_there, get_there, set_there, constant_there}
 use Rattle.steps.proofs.Operate.{free_goes, new_goes, get_goes, set_goes, constant_goes, init_goes, measure_goes, merge_goes, gate_goes}
 use Rattle.steps.proofs.kinds.operate.Goals as goal
 
@@ -61,10 +62,10 @@ pub slot-requires-in-Set-2 : goal.slot-requires-in-Set-2
 slot-requires-in-Set-2 c = let f = set_there c.requires (byte_is _ Set _ c.known.ensures c.in-Set.is) in (omega (arith, f.0), f.2)
 
 pub slot-requires-in-Bool : goal.slot-requires-in-Bool
-slot-requires-in-Bool c = let f = constant_there c.requires (last_byte c.requires _ c.known.ensures c.in-Bool.is) in (omega (arith, f.0), f.1)
+slot-requires-in-Bool c = let f = constant_there c.requires (last_arm_byte c.requires _ c.known.ensures c.in-Bool.is) in (omega (arith, f.0), f.1)
 
 pub bounds-s-at-in-Bool : goal.bounds-s-at-in-Bool
-bounds-s-at-in-Bool c = let f = constant_there c.requires (last_byte c.requires _ c.known.ensures c.in-Bool.is) in omega (arith, f.0)
+bounds-s-at-in-Bool c = let f = constant_there c.requires (last_arm_byte c.requires _ c.known.ensures c.in-Bool.is) in omega (arith, f.0)
 
 pub returns-in-Init : goal.returns-in-Init
 returns-in-Init c = init_goes c.args.s.now _ _ _ _ c.args.floor.now.map.now _ _ _ c.slot.ensures _ refl (init_byte _ _ c.known.ensures c.in-Init.is) _
@@ -100,4 +101,4 @@ returns-in-Set c = set_goes c.args.s.now _ _ _ _ c.args.floor.now.map.now _ _ _ 
 
 pub returns-in-Bool : goal.returns-in-Bool
 returns-in-Bool c = constant_goes c.args.s.now _ _ _ _ c.args.floor.now.map.now _ _ _ c.slot-in-Bool.ensures _ refl
-    (last_byte c.requires _ c.known.ensures c.in-Bool.is) c.constant.ensures
+    (last_arm_byte c.requires _ c.known.ensures c.in-Bool.is) c.constant.ensures

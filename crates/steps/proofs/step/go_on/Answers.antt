@@ -1,7 +1,7 @@
 -- A law for each kind: what it promises is what a step promises.
 use Rattle.rules.specs.declared.statements.Kind.TheVariants.{If, While, Call}
 use Rattle.steps.proofs.Operate.{byte_is}
-use Rattle.steps.proofs.Deciding.{starts_there, no_block, by_anyway, by_call, by_operation}
+use Rattle.steps.proofs.Deciding.{starts_there, operation_no_block, by_anyway, by_call, by_operation}
 use Rattle.steps.proofs.step.go_on.Goals as goal
 
 pub bounds-s-at : goal.bounds-s-at
@@ -20,7 +20,7 @@ pub call-requires : goal.call-requires
 call-requires c = (c.requires.0, c.requires.1, byte_is _ Call _ c.known.ensures c.in-Call.is)
 
 pub operation-requires : goal.operation-requires
-operation-requires c = (c.requires.1, no_block _ _ c.known.ensures c.in-Init.is)
+operation-requires c = (c.requires.1, operation_no_block _ _ c.known.ensures c.in-Init.is)
 
 pub returns-in-If : goal.returns-in-If
 returns-in-If c = by_anyway c.args.s.now _ _ c.args.floor.now.rows.now _ c.args.floor.now.map.now _ _ _ _ c.branch-s.ensures

@@ -27,7 +27,7 @@ use Rattle.rules.specs.Unlisting.{made, blocks_of, row_line, statement_line}
 use Rattle.rules.proofs.Basics.{length_up_to, get_d_up_to_zero}
 use Rattle.reading.specs.Cursor.{spelling, token_for}
 use Rattle.reading.specs.Hearing.{Hearing, not, begun, hears}
-use Rattle.standing.specs.Numbers.{head_of, block_bytes, room_of, fits_of, count_of, unwritten_of, call_lives}
+use Rattle.standing.specs.Numbers.{head_of, block_bytes, room_of, fits_of, words_of, count_of, unwritten_of, call_lives}
 use Rattle.standing.specs.Numbers.{rest_lives, row_lives, statement_lives, name_begins, operand_begins}
 use Rattle.standing.specs.Means.{Means}
 use Rattle.standing.specs.From.{from_operand}
@@ -164,16 +164,16 @@ module _ (c : Standing) (p : Sofar) (means : Means c p) where
   pub room_is : (n : ℕ) → room_of c n ≡ leb (least p + n) 4096
   room_is n = ap (λ (m : ℕ). leb (m + n) 4096) means.owed
 
-  pub count_is : (o : Operand) → count_of c o ≡ count p.scope o
-  count_is Slot = refl
-  count_is Location = means.places
-  count_is Gate = refl
-  count_is Basis = refl
-  count_is Value = refl
-  count_is Callee = means.callees
-  count_is CalleeK = refl
-  count_is CalleeM = refl
-  count_is Nothing = refl
+  pub words_is : (o : Operand) → words_of c o ≡ count p.scope o
+  words_is Slot = refl
+  words_is Location = means.places
+  words_is Gate = refl
+  words_is Basis = refl
+  words_is Value = refl
+  words_is Callee = means.callees
+  words_is CalleeK = refl
+  words_is CalleeM = refl
+  words_is Nothing = refl
 
   pub count_most : (o : Operand) → count p.scope o ≤ 256
   count_most Slot = omega arith
@@ -185,6 +185,9 @@ module _ (c : Standing) (p : Sofar) (means : Means c p) where
   count_most CalleeK = omega arith
   count_most CalleeM = omega arith
   count_most Nothing = omega arith
+
+  pub count_is : (o : Operand) → count_of c o ≡ count p.scope o
+  count_is o = omega (arith, words_is o, count_most o)
 
   known : (f : ℕ) → f < c.callees → f < length p.scope.earlier
   known f l = omega (arith, means.callees)

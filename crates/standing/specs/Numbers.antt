@@ -1,5 +1,5 @@
 -- What the code computes from the numbers of the program so far: how the numbers change with each line, and which statements may stand next.
-use Rattle.std.specs.Prelude.{Bool, true, false, ◌&&◌, ◌||◌, ℕ, suc, ◌+◌, ◌-◌, ◌<◌, ◌≤◌, eqb, ltb, leb, get_or, set, replicate}
+use Rattle.std.specs.Prelude.{Bool, true, false, ◌&&◌, ◌||◌, ℕ, suc, ◌+◌, ◌-◌, ◌<◌, ◌≤◌, eqb, ltb, leb, get_or, set, replicate, min}
 use Rattle.rules.specs.declared.statements.Operand.{Operand}
 use Rattle.rules.specs.declared.statements.Operand.TheVariants.{Slot, Location, Gate, Basis, Value, Callee, CalleeK, CalleeM, Nothing}
 use Rattle.rules.specs.Basics.{chosen, all, up_to}
@@ -89,7 +89,11 @@ module _ (c : Standing) where
   abbrev pub head_of : ℕ → Head
   head_of f = get_or c.heads f no_head
 
-  -- what keeps its sums small, and its counts
+  -- places below this number may be named: in a function its locations, in main all
+  abbrev pub places_of : ℕ
+  places_of = chosen c.in_main 256 (head_of c.callees).locations
+
+  -- its sums are small, and a byte says each place and each function; so it is with the numbers of a program
   abbrev pub Short : Type 0
   Short = (c.used < 65536) × (c.owed < 65536)
 
@@ -104,17 +108,21 @@ module _ (c : Standing) where
   abbrev pub fits_of : ℕ → Bool
   fits_of b = room_of (size_of b + block_bytes b) && (eqb (block_bytes b) 0 || ltb c.depth 8)
 
-  -- how many words there are for an operand
+  -- how many words an operand would have if it were no byte
+  abbrev pub words_of : Operand → ℕ
+  words_of Slot = 32
+  words_of Location = c.places
+  words_of Gate = 4
+  words_of Basis = 2
+  words_of Value = 2
+  words_of Callee = c.callees
+  words_of CalleeK = 0
+  words_of CalleeM = 0
+  words_of Nothing = 0
+
+  -- how many words there are for an operand: it is one byte, so that there are no more than 256
   abbrev pub count_of : Operand → ℕ
-  count_of Slot = 32
-  count_of Location = c.places
-  count_of Gate = 4
-  count_of Basis = 2
-  count_of Value = 2
-  count_of Callee = c.callees
-  count_of CalleeK = 0
-  count_of CalleeM = 0
-  count_of Nothing = 0
+  count_of o = min (words_of o) 256
 
   -- an operand that is not written, where f is the first
   abbrev pub unwritten_of : Operand → ℕ → ℕ

@@ -3,3 +3,5 @@
 
 pub mod rows;
 pub mod state;
+#[cfg(test)]
+mod tests;

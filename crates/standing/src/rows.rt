@@ -5,7 +5,7 @@ ghost use Rattle.rules.specs.Basics.{chosen};
 ghost use Rattle.rules.specs.Kinds.{byte_of};
 ghost use Rattle.rules.specs.Table.{operand_at};
 ghost use Rattle.rules.specs.Listing.{silent};
-ghost use Rattle.standing.specs.Numbers.{Short, Few, room_of, block_bytes, fits_of, count_of, worded_of, worded_from, unwritten_of, call_lives};
+ghost use Rattle.standing.specs.Numbers.{Short, Few, room_of, block_bytes, fits_of, words_of, count_of, worded_of, worded_from, unwritten_of, call_lives};
 ghost use Rattle.standing.specs.Numbers.{rest_lives, row_lives, statement_lives, name_begins, offers, operand_begins};
 
 use crate::state::{Head, Standing};
@@ -49,26 +49,43 @@ pub fn is_silent(operand: Operand) -> bool
 impl Standing {
     // Whether a file has room for `n` bytes more.
     pub fn room(&self, n: usize) -> bool
+        requires { n ≤ 1000 }
+        ensures { result ≡ room_of self.now n }
+    {
+        // each number alone first: a sum of any two may be more than a usize holds
+        self.used <= ProgramHeader::MOST_BYTES
+            && self.owed <= ProgramHeader::MOST_BYTES
+            && self.program_room(n)
+    }
+
+    // The same where the numbers are small, as a program's are.
+    pub fn program_room(&self, n: usize) -> bool
         requires { Short self.now × (n ≤ 1000) }
         ensures { result ≡ room_of self.now n }
     {
         self.used + self.owed + n <= ProgramHeader::MOST_BYTES
     }
 
-    // Whether a statement has room, and a depth for its blocks.
+    // Whether a statement has room, and a depth for its blocks. `room(0)` comes first: where it holds the numbers are small, and elsewhere nothing fits.
     pub fn fits(&self, kind: Kind) -> bool
+        ensures { result ≡ fits_of self.now (byte_of kind) }
+    {
+        self.room(0) && self.program_fits(kind)
+    }
+
+    // The same where the numbers are small, as a program's are.
+    pub fn program_fits(&self, kind: Kind) -> bool
         requires { Short self.now }
         ensures { result ≡ fits_of self.now (byte_of kind) }
     {
         let blocks = block_bytes(kind);
-        self.room(kind.size() + blocks) && (blocks == 0 || self.depth < ProgramHeader::DEEPEST)
+        self.program_room(kind.size() + blocks)
+            && (blocks == 0 || self.depth < ProgramHeader::DEEPEST)
     }
 
-    // How many words there are for an operand. (`in_range` of `program` says the same of an operand byte; the rules have both, each for its reader.)
-    pub fn count(&self, operand: Operand) -> usize
-        requires { Few self.now }
-        ensures value { result ≡ count_of self.now operand }
-        ensures most { result ≤ 256 }
+    // How many words an operand would have if it were no byte: of places and functions as many as the numbers say.
+    fn words(&self, operand: Operand) -> usize
+        ensures { result ≡ words_of self.now operand }
     {
         match operand {
             Operand::Slot => ProgramHeader::SLOTS,
@@ -78,6 +95,24 @@ impl Standing {
             Operand::Callee => self.callees,
             Operand::CalleeK | Operand::CalleeM | Operand::Nothing => 0,
         }
+    }
+
+    // How many words there are for an operand: at most 256, as it is one byte. (`in_range` of `program` says the same of an operand byte; the rules have both,
+    // each for its reader.)
+    pub fn count(&self, operand: Operand) -> usize
+        ensures value { result ≡ count_of self.now operand }
+        ensures most { result ≤ 256 }
+    {
+        self.words(operand).min(256)
+    }
+
+    // The same where there are at most 256, as in a program.
+    pub fn program_count(&self, operand: Operand) -> usize
+        requires { Few self.now }
+        ensures value { result ≡ count_of self.now operand }
+        ensures most { result ≤ 256 }
+    {
+        self.words(operand)
     }
 
     // What an operand that is not written is, where the first of the statement is `first`; 0 for one that is written: who calls has asked `is_silent`, so an
@@ -100,7 +135,6 @@ impl Standing {
 
     // Whether a call of function `f` has room, and places for its locations.
     pub fn call_lives(&self, f: usize) -> bool
-        requires { Short self.now }
         ensures { result ≡ call_lives self.now f }
     {
         let Head {
@@ -113,15 +147,13 @@ impl Standing {
 
     // Whether an operand that is still to come has a word, or is not written.
     fn worded(&self, operand: Operand) -> bool
-        requires { Few self.now }
         ensures { result ≡ worded_of self.now operand }
     {
-        is_silent(operand) || 0 < self.count(operand)
+        is_silent(operand) || 0 < self.words(operand)
     }
 
     // The same of each operand behind number `n`.
     fn worded_behind(&self, kind: Kind, n: usize) -> bool
-        requires { Few self.now }
         ensures { result ≡ worded_from self.now (byte_of kind) (n + 1) }
     {
         kind.operands()
@@ -132,7 +164,6 @@ impl Standing {
 
     // Whether any line goes on behind a statement's operands, of which the first is `first`: a call has lists.
     fn lists_live(&self, kind: Kind, first: usize) -> bool
-        requires { Short self.now }
         ensures { result ≡ chosen (eqb (byte_of kind) 12) (call_lives self.now first) true }
     {
         match kind {
@@ -153,24 +184,21 @@ impl Standing {
     }
 
     // Whether any line goes on behind operand number `n` of a statement, where the first is `first`.
-    fn lives_behind(&self, kind: Kind, n: usize, first: usize) -> bool
-        requires { Short self.now × Few self.now }
+    pub fn lives_behind(&self, kind: Kind, n: usize, first: usize) -> bool
         ensures { result ≡ rest_lives self.now (byte_of kind) (n + 1) first }
     {
         self.worded_behind(kind, n) && self.lists_live(kind, first)
     }
 
-    // The same with operand number `n`.
+    // The same with operand number `n`. Number 0 is the statement's byte, for which nothing is asked.
     pub fn rest_lives(&self, kind: Kind, n: usize, first: usize) -> bool
-        requires { Short self.now × Few self.now × (0 < n) }
         ensures { result ≡ rest_lives self.now (byte_of kind) n first }
     {
-        self.lives_behind(kind, n - 1, first)
+        self.lives_behind(kind, n.saturating_sub(1), first)
     }
 
     // Whether any line goes on behind the name of a statement.
     pub fn row_lives(&self, kind: Kind) -> bool
-        requires { Short self.now × Few self.now }
         ensures { result ≡ row_lives self.now (byte_of kind) }
     {
         let words = self.count(kind.operand(1));
@@ -179,7 +207,6 @@ impl Standing {
 
     // Whether any statement may stand next.
     pub fn statement_lives(&self) -> bool
-        requires { Short self.now × Few self.now }
         ensures { result ≡ statement_lives self.now }
     {
         KINDS.iter().any(|kind| self.row_lives(*kind))
@@ -187,7 +214,6 @@ impl Standing {
 
     // Whether an unfinished name begins that of a statement behind which some line goes on.
     pub fn name_begins(&self, part: &[u8]) -> bool
-        requires { Short self.now × Few self.now }
         ensures { result ≡ name_begins self.now part.now }
     {
         KINDS.iter().any(|kind| begins(part, Token::Word(Word::Name(*kind)))
@@ -204,7 +230,7 @@ impl Standing {
         first: usize,
         v: u8,
     ) -> bool
-        requires { Short self.now × Few self.now × (operand ≡ operand_at (byte_of kind) n) }
+        requires { operand ≡ operand_at (byte_of kind) n }
         ensures { result ≡ offers self.now part.now (byte_of kind) n first v }
     {
         let first = if n == 1 { v as usize } else { first };
@@ -213,7 +239,7 @@ impl Standing {
 
     // Whether an unfinished operand number `n` of a statement begins one behind which some line goes on.
     pub fn operand_begins(&self, part: &[u8], kind: Kind, n: usize, first: usize) -> bool
-        requires { Short self.now × Few self.now × (0 < n) }
+        requires { 0 < n }
         ensures { result ≡ operand_begins self.now part.now (byte_of kind) n first }
     {
         let operand = kind.operand(n);

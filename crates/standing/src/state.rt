@@ -1,7 +1,7 @@
 // The program so far, in numbers. Its bytes stand in the file's buffer, or nowhere while they are only counted: nothing here reads them.
 ghost use Rattle.std.specs.Prelude.{◌≡◌, ◌+◌, ◌≤◌, ◌<◌};
 ghost use Rattle.standing.specs.Numbers.{fresh_of, begun_of, added_of, opened_of, closed_of, turned_of, function_of, main_of};
-ghost use Rattle.standing.specs.Numbers.{head_of};
+ghost use Rattle.standing.specs.Numbers.{head_of, places_of};
 
 // How many locations and arguments a function has.
 #[derive(Clone, Copy, Debug, PartialEq, Eq)]
@@ -169,8 +169,20 @@ impl Standing {
         self.heads.get(f).copied().unwrap_or(NO_HEAD)
     }
 
-    // Places below this number may be named.
+    // Places below this number may be named: in main all, in a function its locations, as its head has them. The field of that name is not read.
     pub fn places(&self) -> usize
+        ensures value { result ≡ places_of self.now }
+        ensures most { result ≤ 256 }
+    {
+        if self.in_main {
+            256
+        } else {
+            self.head(self.callees).locations as usize
+        }
+    }
+
+    // The same by that field, which `rows` goes by. Nothing here says that both agree.
+    pub fn program_places(&self) -> usize
         requires { self.now.places ≤ 256 }
         ensures value { result ≡ self.now.places }
         ensures most { result ≤ 256 }

@@ -24,7 +24,7 @@ use Rattle.rules.proofs.Basics.{all_up_to}
 use Rattle.rules.proofs.Tests.{T→eq, and_left, and_right}
 use Rattle.reading.specs.Cursor.{part, words_from, below, Valued}
 use Rattle.reading.specs.Hearing.{Hearing, not, begun, hears, NextWord}
-use Rattle.standing.specs.Numbers.{count_of, unwritten_of, operand_begins}
+use Rattle.standing.specs.Numbers.{words_of, count_of, unwritten_of, operand_begins}
 use Rattle.standing.specs.Means.{Means}
 use Rattle.stating.specs.Statements.{OperandsAs, ReadsOperands, ReadsOperand}
 use Rattle.standing.specs.From.{from_operand}
@@ -35,7 +35,7 @@ use Rattle.reading.specs.declared.cursor.Next.TheVariants.{Nothing as NoWord, Un
 use Rattle.reading.proofs.Hearings.{hears_ask, hears_nothing}
 use Rattle.standing.proofs.Thirteen.{row_size, row_operand}
 use Rattle.standing.proofs.Meaning.{sets_behind}
-use Rattle.standing.proofs.Lives.{count_is, count_most, unwritten_k, unwritten_m, operand_begins_lem}
+use Rattle.standing.proofs.Lives.{words_is, count_is, count_most, unwritten_k, unwritten_m, operand_begins_lem}
 use Rattle.stating.proofs.Listed.{operand_asks}
 
 -- only a call has operands that are not written, and those are its last two
@@ -217,11 +217,12 @@ module _ (t : Text) (at end stop b n first : ℕ) (c : Standing) (low : 0 < n) (
           word_is (Some v) valued p row xs mean is many
           ∙ ap (λ (z : Bool). placed p row xs (chosen z (some v) none)) (le-ltb v (count_of c (operand_at b n)) h)
 
-      pub operand_word : v < count_of c (operand_at b n) → ReadsOperand t at end stop b n first c (Ok (v, to + 1))
+      pub operand_word : v < words_of c (operand_at b n) → ReadsOperand t at end stop b n first c (Ok (v, to + 1))
       unfolding ReadsOperand
       operand_word h p row xs mean is many =
+          let below : v < count_of c (operand_at b n) = omega (arith, h, words_is c p mean (operand_at b n), count_is c p mean (operand_at b n)) in
           word_is (Some v) valued p row xs mean is many
-          ∙ ap (λ (z : Bool). placed p row xs (chosen z (some v) none)) (lt-ltb v (count_of c (operand_at b n)) h)
+          ∙ ap (λ (z : Bool). placed p row xs (chosen z (some v) none)) (lt-ltb v (count_of c (operand_at b n)) below)
 
 -- the operands before number n have been read, up to a position
 pub record OperandsRead (t : Text) (from end stop b : ℕ) (c : Standing) (before : List ℕ) (at first n : ℕ) (after : List ℕ) : Type 0 where
@@ -262,7 +263,7 @@ module _ (t : Text) (from end stop b : ℕ) (c : Standing) (before : List ℕ) w
 
     -- one more that is written; the first of the operands is kept
     pub operands_word : (v to kept : ℕ) (then : List ℕ) → 0 < n → n < size_of b → silent (operand_at b n) ≡ false
-        → ReadsOperand t at end stop b n first c (Ok (v, to)) → v < count_of c (operand_at b n) → kept ≡ chosen (eqb n 1) v first
+        → ReadsOperand t at end stop b n first c (Ok (v, to)) → v < words_of c (operand_at b n) → kept ≡ chosen (eqb n 1) v first
         → then ≡ set after (c.used + n) v → OperandsRead t from end stop b c before to kept (n + 1) then
     unfolding ReadsOperand
     operands_word v to kept then low inside spoken next f k put =
@@ -285,8 +286,8 @@ module _ (t : Text) (from end stop b : ℕ) (c : Standing) (before : List ℕ) w
               ap (λ (x : List ℕ). x ++ (v ∷ [])) (no_bytes read.bytes none)
               ∙ ap (λ (x : ℕ). x ∷ []) (sym (kept_one h)) ∙ ap (λ (x : ℕ). take x (call_operands c kept)) (sym single);
           callee = λ h _.
-              let least : count_of c (operand_at b n) ≡ c.callees = ap (λ (x : ℕ). count_of c (operand_at x n)) h
-              ∙ ap (λ (x : ℕ). count_of c (operand_at 12 x)) (one h) in
+              let least : words_of c (operand_at b n) ≡ c.callees = ap (λ (x : ℕ). words_of c (operand_at x n)) h
+              ∙ ap (λ (x : ℕ). words_of c (operand_at 12 x)) (one h) in
               omega (arith, kept_one h);
         }
 

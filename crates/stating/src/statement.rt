@@ -6,7 +6,7 @@ ghost use Rattle.rules.specs.Unlisting.{Sofar, statement_line};
 ghost use Rattle.rules.specs.Table.{size_of, operand_at};
 ghost use Rattle.rules.specs.Listing.{silent};
 ghost use Rattle.reading.specs.Hearing.{in_line, Onto, NumberOnto};
-ghost use Rattle.standing.specs.Numbers.{Short, Few, fits_of, count_of};
+ghost use Rattle.standing.specs.Numbers.{Few, fits_of, count_of};
 ghost use Rattle.standing.specs.Means.{Means};
 ghost use Rattle.stating.specs.Statements.{ReadsNumbers, ReadsList, ReadsLists, ReadsOperand, ReadsOperands};
 ghost use Rattle.stating.specs.Statements.{OperandsOnto, OpensBlock, BehindOperands, ReadsLine, only};
@@ -71,8 +71,7 @@ fn read_operand(
     first: usize,
     c: &Standing,
 ) -> Result<(u8, usize), Unread>
-    requires { (at ≤ line.now.stop) × (0 < n) × (n < size_of (byte_of kind)) × (silent (operand_at (byte_of kind) n) ≡ false) × Short c.now
-        × Few c.now }
+    requires { (at ≤ line.now.stop) × (0 < n) × (n < size_of (byte_of kind)) × (silent (operand_at (byte_of kind) n) ≡ false) × Few c.now }
     ensures reads_operand { in_line ReadsOperand line.now at (byte_of kind) n first c.now result }
     ensures onto { NumberOnto at line.now.stop (count_of c.now (operand_at (byte_of kind) n)) result }
 {
@@ -82,7 +81,7 @@ fn read_operand(
             Err(Begun)
         }
         Next::To(to) => match words::value(&line.text[at..to], operand) {
-            Some(v) if v < c.count(operand) => Ok((v as u8, to + 1)),
+            Some(v) if v < c.program_count(operand) => Ok((v as u8, to + 1)),
             _ => Err(Not),
         },
         _ => Err(Not),
@@ -150,11 +149,11 @@ fn read_lists(
     } = c.head(first);
     let k = locations as usize;
     let m = arguments as usize;
-    if !c.room(4 + k + m) {
+    if !c.program_room(4 + k + m) {
         return Err(Not);
     }
     let i = c.used + 4;
-    let to = read_list(line, at, Word::At, k, c.places(), out, i)?;
+    let to = read_list(line, at, Word::At, k, c.program_places(), out, i)?;
     read_list(line, to, Word::With, m, ProgramHeader::SLOTS, out, i + k)
 }
 
@@ -238,7 +237,7 @@ pub fn statement_line(
     match line.next_word(at) {
         Next::Unfinished if c.name_begins(&line.text[at..line.end]) => { Err(Begun) }
         Next::To(to) => match words::kind_named(&line.text[at..to]) {
-            Some(kind) if c.fits(kind) => {
+            Some(kind) if c.program_fits(kind) => {
                 let operands = read_operands(line, to + 1, kind, c, out)?;
                 behind_operands(line, operands.to, kind, operands.first, c, out)
             }

@@ -92,7 +92,7 @@ fn function_line(line: &Line, at: usize, c: &Standing, out: &mut [u8]) -> Result
     ensures reads { in_line ReadsLine line.now at functions_of c.now out.old result out.new }
     ensures unchanged { result ≡ Err Unread.Not → out.new ≡ out.old }
 {
-    if !c.room(4) || c.functions == ProgramHeader::MOST_FUNCTIONS {
+    if !c.program_room(4) || c.functions == ProgramHeader::MOST_FUNCTIONS {
         return Err(Unread::Not);
     }
     let at = function_words(line, at, c.functions as u8)?;

@@ -7,23 +7,23 @@ use Rattle.stating.proofs.Passed.{passed_as}
 use Rattle.stating.proofs.Called.{lists_full, lists_err, lists_read}
 use Rattle.stating.proofs.statement.read_lists.Goals as goal
 
-pub room-requires : goal.room-requires
-room-requires c = (means_short _ _ c.requires.1.1, search rules)
+pub program_room-requires : goal.program_room-requires
+program_room-requires c = (means_short _ _ c.requires.1.1, search rules)
 
-pub returns-then-not-room-clause-reads_lists : goal.returns-then-not-room-clause-reads_lists
-returns-then-not-room-clause-reads_lists c =
+pub returns-then-not-program_room-clause-reads_lists : goal.returns-then-not-program_room-clause-reads_lists
+returns-then-not-program_room-clause-reads_lists c =
     lists_full _ _ _ _ c.args.first c.args.c.now _ _ _ _ (ap (λ (h : Head). h.locations) c.head-locations.ensures)
-    (ap (λ (h : Head). h.arguments) c.head-locations.ensures) refl _ (sym c.room.ensures ∙ c.if-not-room.true)
+    (ap (λ (h : Head). h.arguments) c.head-locations.ensures) refl _ (sym c.program_room.ensures ∙ c.if-not-program_room.true)
 
 pub returns-in_err-to-clause-reads_lists : goal.returns-in_err-to-clause-reads_lists
 returns-in_err-to-clause-reads_lists c =
     rw (passed_as _ c.from_residual.ensures.1)
     (lists_err _ _ _ _ c.args.first c.args.c.now _ _ _ _ (ap (λ (h : Head). h.locations) c.head-locations.ensures)
-    (ap (λ (h : Head). h.arguments) c.head-locations.ensures) c.places.ensures.value _ _ (sym c.room.ensures ∙ c.if-not-room.false)
+    (ap (λ (h : Head). h.arguments) c.head-locations.ensures) c.program_places.ensures.value _ _ (sym c.program_room.ensures ∙ c.if-not-program_room.false)
     c.in_err-to.ensures.reads_list)
 
 pub returns-clause-reads_lists : goal.returns-clause-reads_lists
 returns-clause-reads_lists c =
     lists_read _ _ _ _ c.args.first c.args.c.now _ _ _ _ (ap (λ (h : Head). h.locations) c.head-locations.ensures)
-    (ap (λ (h : Head). h.arguments) c.head-locations.ensures) c.places.ensures.value _ _ _ _ (sym c.room.ensures ∙ c.if-not-room.false)
+    (ap (λ (h : Head). h.arguments) c.head-locations.ensures) c.program_places.ensures.value _ _ _ _ (sym c.program_room.ensures ∙ c.if-not-program_room.false)
     c.in_ok-to.ensures.reads_list c.read_list-2.ensures.reads_list

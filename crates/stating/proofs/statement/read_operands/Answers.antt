@@ -4,7 +4,7 @@ use lib.ListN.{set}
 use Rattle.rules.specs.declared.statements.Operand.{Operand}
 use Rattle.rules.specs.Listing.{silent}
 use Rattle.standing.specs.Numbers.{unwritten_of}
-use Rattle.standing.proofs.Meaning.{means_short, means_few}
+use Rattle.standing.proofs.Meaning.{means_few}
 use Rattle.stating.proofs.Passed.{passed_as}
 use Rattle.stating.proofs.Operating.{first_now, first_before, operands_none, operands_err, operands_word, operands_silent, operands_all}
 use Rattle.stating.proofs.statement.read_operands.Goals.{then-n-eq1, else-n-eq1}
@@ -24,15 +24,13 @@ loop-n-preserved-then-is_silent c = record {
 }
 
 pub read_operand-requires : goal.read_operand-requires
-read_operand-requires c =
-    let means = c.requires.1.1 in (
-      c.loop-n.invariant.within,
-      omega arith,
-      omega (arith, c.size-n-end.ensures, c.loop-n-test.true),
-      sym (ap silent c.operand-operand.ensures) ∙ sym c.is_silent.ensures ∙ c.if-is_silent.false,
-      means_short _ _ means,
-      means_few _ _ means,
-    )
+read_operand-requires c = (
+  c.loop-n.invariant.within,
+  omega arith,
+  omega (arith, c.size-n-end.ensures, c.loop-n-test.true),
+  sym (ap silent c.operand-operand.ensures) ∙ sym c.is_silent.ensures ∙ c.if-is_silent.false,
+  means_few _ _ c.requires.1.1,
+)
 
 pub returns-in_err-v-clause-reads_operands : goal.returns-in_err-v-clause-reads_operands
 returns-in_err-v-clause-reads_operands c =
@@ -45,7 +43,7 @@ loop-n-preserved c = record {
   within = omega (arith, c.in_ok-v.ensures.onto);
   read = operands_word _ _ _ _ _ _ _ _ _ _ _ c.loop-n.invariant.read _ _ _ _ (omega arith) (omega (arith, c.size-n-end.ensures, c.loop-n-test.true))
       (sym (ap silent c.operand-operand.ensures) ∙ sym c.is_silent.ensures ∙ c.if-is_silent.false)
-      c.in_ok-v.ensures.reads_operand c.in_ok-v.ensures.onto.0
+      c.in_ok-v.ensures.reads_operand (omega (arith, c.in_ok-v.ensures.onto.0))
       (elim c.if-n-eq1.branch [
         | then-n-eq1 w ↦ first_now _ _ _ _ w.if-n-eq1.true w.first-is
         | else-n-eq1 w ↦ first_before _ _ _ _ w.if-n-eq1.false w.first-is

@@ -1,16 +1,13 @@
 -- The name of a statement that fits, its operands, and what it makes of the program.
 use mathlib.Core.Path.{sym, ◌∙◌}
 use Rattle.reading.specs.Cursor.{part}
-use Rattle.standing.proofs.Meaning.{means_short, means_few}
+use Rattle.standing.proofs.Meaning.{means_short}
 use Rattle.stating.proofs.Passed.{passed_as}
 use Rattle.stating.proofs.Stating.{line_nothing, line_begun, line_unbegun, line_unknown, line_unfit, line_operands, callee_there, line_statement}
 use Rattle.stating.proofs.statement.statement_line.Goals as goal
 
-pub name_begins-requires : goal.name_begins-requires
-name_begins-requires c = (means_short _ _ c.requires.1.1, means_few _ _ c.requires.1.1)
-
-pub fits-requires : goal.fits-requires
-fits-requires c = means_short _ _ c.requires.1.1
+pub program_fits-requires : goal.program_fits-requires
+program_fits-requires c = means_short _ _ c.requires.1.1
 
 pub returns-in-Unfinished : goal.returns-in-Unfinished
 unfolding part
@@ -26,7 +23,7 @@ returns-in_default-2 c = line_nothing _ _ _ _ _ _ _ c.in_default.ensures
 pub returns-in_default-kind_named : goal.returns-in_default-kind_named
 unfolding part
 returns-in_default-kind_named c =
-    line_unfit _ _ _ _ _ _ _ c.in-To.ensures _ c.in-Some.ensures _ (sym c.fits.ensures ∙ c.if-fits.false)
+    line_unfit _ _ _ _ _ _ _ c.in-To.ensures _ c.in-Some.ensures _ (sym c.program_fits.ensures ∙ c.if-program_fits.false)
 
 pub returns-in_default-kind_named-2 : goal.returns-in_default-kind_named-2
 unfolding part
@@ -36,7 +33,7 @@ pub returns-in_err-operands-in-Some : goal.returns-in_err-operands-in-Some
 unfolding part
 returns-in_err-operands-in-Some c =
     rw (passed_as _ c.from_residual.ensures.1)
-    (line_operands _ _ _ _ _ _ _ c.in-To.ensures _ c.in-Some.ensures (sym c.fits.ensures ∙ c.if-fits.true) _ _ _
+    (line_operands _ _ _ _ _ _ _ c.in-To.ensures _ c.in-Some.ensures (sym c.program_fits.ensures ∙ c.if-program_fits.true) _ _ _
     c.in_err-operands-in-Some.ensures.reads_operands)
 
 pub behind_operands-requires : goal.behind_operands-requires
@@ -44,13 +41,13 @@ unfolding part
 behind_operands-requires c = (
   c.in_ok-operands-in-Some.ensures.onto.1,
   c.requires.1,
-  sym c.fits.ensures ∙ c.if-fits.true,
-  callee_there _ _ _ _ _ _ _ c.in-To.ensures _ c.in-Some.ensures (sym c.fits.ensures ∙ c.if-fits.true) _ _
+  sym c.program_fits.ensures ∙ c.if-program_fits.true,
+  callee_there _ _ _ _ _ _ _ c.in-To.ensures _ c.in-Some.ensures (sym c.program_fits.ensures ∙ c.if-program_fits.true) _ _
       c.in_ok-operands-in-Some.ensures.reads_operands c.requires.1.0 c.requires.1.1,
 )
 
 pub returns-in_ok-operands-in-Some : goal.returns-in_ok-operands-in-Some
 unfolding part
 returns-in_ok-operands-in-Some c =
-    line_statement _ _ _ _ _ _ _ c.in-To.ensures _ c.in-Some.ensures (sym c.fits.ensures ∙ c.if-fits.true) _ _
+    line_statement _ _ _ _ _ _ _ c.in-To.ensures _ c.in-Some.ensures (sym c.program_fits.ensures ∙ c.if-program_fits.true) _ _
     c.in_ok-operands-in-Some.ensures.reads_operands _ _ c.behind_operands.ensures

@@ -5,47 +5,55 @@ use Rattle.stating.specs.Statements.{LineAs, ReadsLine}
 use Rattle.unlisting.proofs.Said.{line_unread, line_taken, ends_heard}
 use Rattle.unlisting.proofs.Tops.{room_none, number_none, words_heard, locations_heard, arguments_heard, function_means, function_laid, functions_few}
 use Rattle.unlisting.proofs.lines.function_line.Goals as goal
-use Rattle.unlisting.proofs.lines.function_line.Goals.{then-not-room-via-then-not-room, then-not-room-via-else-not-room+then-c-eq-MOST_FUNCTIONS}
+use Rattle.unlisting.proofs.lines.function_line.Goals.{then-not-program_room-via-then-not-program_room}
+use Rattle.unlisting.proofs.lines.function_line.Goals.{then-not-program_room-via-else-not-program_room+then-c-eq-MOST_FUNCTIONS}
 
-pub room-requires : goal.room-requires
-room-requires c = (means_short _ _ c.requires.1.1, search rules)
+pub program_room-requires : goal.program_room-requires
+program_room-requires c = (means_short _ _ c.requires.1.1, search rules)
 
 pub overflow_cast-c : goal.overflow_cast-c
 overflow_cast-c c = omega (arith, functions_few _ _ c.requires.1.1 c.requires.3)
 
-pub returns-then-not-room-clause-reads : goal.returns-then-not-room-clause-reads
+pub returns-then-not-program_room-clause-reads : goal.returns-then-not-program_room-clause-reads
 unfolding ReadsLine LineAs
-returns-then-not-room-clause-reads c = λ p D m b. elim c.then-not-room.branch [
-  | then-not-room-via-then-not-room w ↦ room_none _ c.requires.3 p m _ _ _ _ c.requires.2 (sym c.room.ensures ∙ w.if-not-room.true)
-  | then-not-room-via-else-not-room+then-c-eq-MOST_FUNCTIONS w ↦
-      number_none _ c.requires.3 p m _ _ _ _ c.requires.2 (sym c.room.ensures ∙ w.if-not-room.false) w.if-c-eq-MOST_FUNCTIONS.true
+returns-then-not-program_room-clause-reads c = λ p D m b. elim c.then-not-program_room.branch [
+  | then-not-program_room-via-then-not-program_room w ↦
+      let room = sym c.program_room.ensures ∙ w.if-not-program_room.true in
+      room_none _ c.requires.3 p m _ _ _ _ c.requires.2 room
+  | then-not-program_room-via-else-not-program_room+then-c-eq-MOST_FUNCTIONS w ↦
+      let room = sym c.program_room.ensures ∙ w.if-not-program_room.false in
+      number_none _ c.requires.3 p m _ _ _ _ c.requires.2 room w.if-c-eq-MOST_FUNCTIONS.true
 ]
 
 pub returns-in_err-at-clause-reads : goal.returns-in_err-at-clause-reads
 unfolding ReadsLine
 returns-in_err-at-clause-reads c = λ p D m b.
+    let room = sym c.program_room.ensures ∙ c.if-not-program_room.false in
     line_unread _ D _ _ _ c.from_residual.ensures.1
-    (words_heard _ c.requires.3 p m _ _ _ _ c.requires.2 _ (sym c.room.ensures ∙ c.if-not-room.false) c.if-c-eq-MOST_FUNCTIONS.false c.in_err-at.ensures.words)
+    (words_heard _ c.requires.3 p m _ _ _ _ c.requires.2 _ room c.if-c-eq-MOST_FUNCTIONS.false c.in_err-at.ensures.words)
 
 pub returns-in_err-k-clause-reads : goal.returns-in_err-k-clause-reads
 unfolding ReadsLine
 returns-in_err-k-clause-reads c = λ p D m b.
+    let room = sym c.program_room.ensures ∙ c.if-not-program_room.false in
     line_unread _ D _ _ _ c.from_residual-in_err-k.ensures.1
-    (words_heard _ c.requires.3 p m _ _ _ _ c.requires.2 _ (sym c.room.ensures ∙ c.if-not-room.false) c.if-c-eq-MOST_FUNCTIONS.false c.in_ok-at.ensures.words
+    (words_heard _ c.requires.3 p m _ _ _ _ c.requires.2 _ room c.if-c-eq-MOST_FUNCTIONS.false c.in_ok-at.ensures.words
     ∙ locations_heard _ c.requires.3 p m _ _ _ _ _ c.in_err-k.ensures.numbers)
 
 pub returns-in_err-m-clause-reads : goal.returns-in_err-m-clause-reads
 unfolding ReadsLine
 returns-in_err-m-clause-reads c = λ p D m b.
+    let room = sym c.program_room.ensures ∙ c.if-not-program_room.false in
     line_unread _ D _ _ _ c.from_residual-in_err-m.ensures.1
-    (words_heard _ c.requires.3 p m _ _ _ _ c.requires.2 _ (sym c.room.ensures ∙ c.if-not-room.false) c.if-c-eq-MOST_FUNCTIONS.false c.in_ok-at.ensures.words
+    (words_heard _ c.requires.3 p m _ _ _ _ c.requires.2 _ room c.if-c-eq-MOST_FUNCTIONS.false c.in_ok-at.ensures.words
     ∙ locations_heard _ c.requires.3 p m _ _ _ _ _ c.in_ok-k.ensures.numbers ∙ arguments_heard _ c.requires.3 p m _ _ _ _ _ _ c.in_err-m.ensures.arguments)
 
 pub returns-in_err-ends-clause-reads : goal.returns-in_err-ends-clause-reads
 unfolding ReadsLine
 returns-in_err-ends-clause-reads c = λ p D m b.
+    let room = sym c.program_room.ensures ∙ c.if-not-program_room.false in
     line_unread _ D _ _ _ c.from_residual-in_err-ends.ensures.1
-    (words_heard _ c.requires.3 p m _ _ _ _ c.requires.2 _ (sym c.room.ensures ∙ c.if-not-room.false) c.if-c-eq-MOST_FUNCTIONS.false c.in_ok-at.ensures.words
+    (words_heard _ c.requires.3 p m _ _ _ _ c.requires.2 _ room c.if-c-eq-MOST_FUNCTIONS.false c.in_ok-at.ensures.words
     ∙ locations_heard _ c.requires.3 p m _ _ _ _ _ c.in_ok-k.ensures.numbers ∙ arguments_heard _ c.requires.3 p m _ _ _ _ _ _ c.in_ok-m.ensures.arguments
     ∙ ends_heard _ _ _ _ _ _ c.in_err-ends.ensures c.in_ok-m.ensures.onto.2)
 
@@ -57,7 +65,7 @@ function-requires c =
 pub returns-clause-reads : goal.returns-clause-reads
 unfolding ReadsLine
 returns-clause-reads c = λ p D m b.
-    let room = sym c.room.ensures ∙ c.if-not-room.false in
+    let room = sym c.program_room.ensures ∙ c.if-not-program_room.false in
     let few = c.if-c-eq-MOST_FUNCTIONS.false in
     line_taken _ D _ _ _
     (words_heard _ c.requires.3 p m _ _ _ _ c.requires.2 _ room few c.in_ok-at.ensures.words

@@ -1,12 +1,6 @@
 use Rattle.std.proofs.Common.{arith}
-use Rattle.standing.proofs.Meaning.{means_short, means_few}
 use Rattle.unlisting.proofs.Outward.{line_statement, line_begun, line_else, reached_more, line_top}
 use Rattle.unlisting.proofs.lines.next_line.Goals as goal
-
-pub statement_lives-requires : goal.statement_lives-requires
-statement_lives-requires c =
-    let means = (c.loop-c.invariant c.requires.1.0 c.requires.1.1).means in
-    (means_short _ _ means, means_few _ _ means)
 
 pub returns-in-Ok : goal.returns-in-Ok
 returns-in-Ok c =

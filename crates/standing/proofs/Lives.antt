@@ -66,7 +66,8 @@ worded S o = silent o || ltb 0 (count S o)
 
 module _ {A : Type 0} (S : Scope) where
   -- some line goes on with an operand that is written, or begins with part of its word
-  operand_lives : (f : ℕ) (o : Operand) (k : ℕ → Grammar A) → silent o ≡ false → live (operand S f o k) ≡ some_below (count S o) (λ v. live (k v))
+  operand_lives : (f : ℕ) (o : Operand) (k : ℕ → Grammar A) → silent o ≡ false
+      → live (operand S f o k) ≡ some_below (count S o) (λ v. live (k v))
   operand_lives f o k e = go o e
     where
       asked : (o : Operand) → some_below (length (words_for S o)) (λ v. live (k v)) ≡ some_below (count S o) (λ v. live (k v))

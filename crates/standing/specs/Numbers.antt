@@ -93,7 +93,7 @@ module _ (c : Standing) where
   abbrev pub places_of : ℕ
   places_of = chosen c.in_main 256 (head_of c.callees).locations
 
-  -- its sums are small, and a byte says each place and each function; so it is with the numbers of a program
+  -- what holds of the numbers of a program: their sums are small, and a byte is enough for each place and each function
   abbrev pub Short : Type 0
   Short = (c.used < 65536) × (c.owed < 65536)
 

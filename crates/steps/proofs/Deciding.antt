@@ -42,7 +42,8 @@ use Rattle.steps.proofs.Entering.{steady}
 use Rattle.steps.proofs.Returning.{finished}
 
 -- a job of a program that was read and tabled is ready
-pub ready : {s : List ℕ} {p : Program} {J : rules.Job} {t : FunctionTable} {j : Job} → ProgramIn s p → Heads p.functions t → Stands s p J j → Ready s t j
+pub ready : {s : List ℕ} {p : Program} {J : rules.Job} {t : FunctionTable} {j : Job} → ProgramIn s p → Heads p.functions t
+    → Stands s p J j → Ready s t j
 ready {s} {p} {J} P H St = record { p = p; J = J; program = P; heads = H; stands = St }
 
 -- the statement to come is in the file
@@ -54,10 +55,13 @@ starts_there C =
     let N = coming C in
     let b = statement_byte N.here in (b.0, b.1, omega (arith, b.2, b.3), N.size)
 
--- the kinds of operations are no block's
-pub operation_no_block : (k : Kind) (b : ℕ) → byte_of k ≡ b
-    → (k ≡ Init) ⊎ ((k ≡ Magic) ⊎ ((k ≡ Free) ⊎ ((k ≡ Gate) ⊎ ((k ≡ Measure) ⊎ ((k ≡ Merge) ⊎ ((k ≡ Ref) ⊎ ((k ≡ Get) ⊎ ((k ≡ Set) ⊎ (k ≡ Truth)))))))))
-    → NoBlock b
+-- the kinds of operations, and that they are no block's
+abbrev pub Operation : Kind → Type 0
+Operation k =
+    (k ≡ Init) ⊎ ((k ≡ Magic) ⊎ ((k ≡ Free) ⊎ ((k ≡ Gate) ⊎ ((k ≡ Measure)
+    ⊎ ((k ≡ Merge) ⊎ ((k ≡ Ref) ⊎ ((k ≡ Get) ⊎ ((k ≡ Set) ⊎ (k ≡ Truth)))))))))
+
+pub operation_no_block : (k : Kind) (b : ℕ) → byte_of k ≡ b → Operation k → NoBlock b
 operation_no_block k b e h = record { no_if = λ f. grind arith; no_while = λ f. grind arith; no_call = λ f. grind arith }
 
 -- a statement of another kind than if, while and call is no block's
@@ -69,7 +73,8 @@ no_block k b e x y z = record {
 }
 
 -- what the kinds promise is what a step promises
-module _ (s : List ℕ) (t : FunctionTable) (at : ℕ) (rows : Rows) (owned : LocationSet) (map : List ℕ) (v : Bool) (j i : Job) (r : Result Effect Fault) where
+module _ (s : List ℕ) (t : FunctionTable) (at : ℕ) (rows : Rows) (owned : LocationSet) (map : List ℕ) (v : Bool) (j i : Job)
+    (r : Result Effect Fault) where
   pub by_anyway : Anyway s at j i r → Goes s t at rows owned map v j i r
   by_anyway A p J R occ P H St O W M = A p J R v (free_in R occ) P St
 

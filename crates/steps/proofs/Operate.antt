@@ -46,8 +46,9 @@ module _ {s : List ℕ} {at : ℕ} {j : Job} (O : Operable s at j) where
   last_arm_byte k e (inr (inr (inr z))) = absurd (O.no_call (byte_is k Call _ e z))
 
   -- a statement of a kind that is none of these nine, where no block's stands, is a constant's
-  pub last_byte : (k : Kind) → byte_of k ≡ byte s at → (k ≡ Init → ⊥) → (k ≡ Magic → ⊥) → (k ≡ Free → ⊥) → (k ≡ Gate → ⊥) → (k ≡ Measure → ⊥)
-      → (k ≡ Merge → ⊥) → (k ≡ Ref → ⊥) → (k ≡ Get → ⊥) → (k ≡ Set → ⊥) → byte s at ≡ 13
+  pub last_byte : (k : Kind) → byte_of k ≡ byte s at → (k ≡ Init → ⊥) → (k ≡ Magic → ⊥) → (k ≡ Free → ⊥)
+      → (k ≡ Gate → ⊥) → (k ≡ Measure → ⊥) → (k ≡ Merge → ⊥) → (k ≡ Ref → ⊥) → (k ≡ Get → ⊥) → (k ≡ Set → ⊥)
+      → byte s at ≡ 13
   last_byte k e a b c d f g h i l = grind arith
 
   pub init_there : byte s at < 3 → IsInit s O.S O.depths at O.t O.p
@@ -132,7 +133,8 @@ module _ (s : List ℕ) (at : ℕ) (j : Job) (rows : Rows) (owned : LocationSet)
           (subst (λ (z : ℕ). Performs j.top.slots v (λ d. measure z (byte s (at + 2)) (byte s (at + 3))) r) ex
           (subst (λ (z : ℕ). Performs j.top.slots v (λ d. measure x (byte s (at + 2)) z) r) ey (P (byte s (at + 2)))))
 
-      pub merge_goes : byte s at ≡ 6 → (z : ℕ) → z ≡ byte s (at + 5) → Merges j.top.slots x y z rows owned map v r → Operates s at j rows owned map v r
+      pub merge_goes : byte s at ≡ 6 → (z : ℕ) → z ≡ byte s (at + 5) → Merges j.top.slots x y z rows owned map v r
+          → Operates s at j rows owned map v r
       merge_goes k z ez G d S depths t p σ R fs occ h N O W M φs rest =
           subst (λ (u : Statement d). Tells r φs rest (move R fs v (free_in R occ) (slots_of j.top.slots) φs (run σ u) rest)) (sym (merge_seen h k).4)
           (operands (byte s (at + 1)) (byte s (at + 3)) (byte s (at + 5)) ex ey ez)

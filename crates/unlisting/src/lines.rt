@@ -131,7 +131,8 @@ fn top_line(line: &Line, at: usize, c: &Standing, out: &mut [u8]) -> Result<Stan
 
 // The else of the innermost block.
 fn else_line(line: &Line, at: usize, c: &Standing, out: &mut [u8]) -> Result<Standing, Unread>
-    requires { (at ≤ line.now.stop) × ((p : Sofar) × Means c.now p) × (0 < c.now.depth) × ((get_or c.now.blocks (c.now.depth - 1) no_block).due ≡ true) }
+    requires { (at ≤ line.now.stop) × ((p : Sofar) × Means c.now p) × (0 < c.now.depth)
+        × ((get_or c.now.blocks (c.now.depth - 1) no_block).due ≡ true) }
     ensures { in_line ReadsLine line.now at (only else_line) c.now out.old result out.new }
 {
     let at = line.indent(at, c.depth - 1, true)?;

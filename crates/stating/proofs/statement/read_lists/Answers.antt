@@ -12,18 +12,24 @@ program_room-requires c = (means_short _ _ c.requires.1.1, search rules)
 
 pub returns-then-not-program_room-clause-reads_lists : goal.returns-then-not-program_room-clause-reads_lists
 returns-then-not-program_room-clause-reads_lists c =
-    lists_full _ _ _ _ c.args.first c.args.c.now _ _ _ _ (ap (λ (h : Head). h.locations) c.head-locations.ensures)
-    (ap (λ (h : Head). h.arguments) c.head-locations.ensures) refl _ (sym c.program_room.ensures ∙ c.if-not-program_room.true)
+    let k = ap (λ (h : Head). h.locations) c.head-locations.ensures in
+    let m = ap (λ (h : Head). h.arguments) c.head-locations.ensures in
+    let none = sym c.program_room.ensures ∙ c.if-not-program_room.true in
+    lists_full _ _ _ _ c.args.first c.args.c.now _ _ _ _ k m refl _ none
 
 pub returns-in_err-to-clause-reads_lists : goal.returns-in_err-to-clause-reads_lists
 returns-in_err-to-clause-reads_lists c =
+    let k = ap (λ (h : Head). h.locations) c.head-locations.ensures in
+    let m = ap (λ (h : Head). h.arguments) c.head-locations.ensures in
+    let room = sym c.program_room.ensures ∙ c.if-not-program_room.false in
+    let places = c.program_places.ensures.value in
     rw (passed_as _ c.from_residual.ensures.1)
-    (lists_err _ _ _ _ c.args.first c.args.c.now _ _ _ _ (ap (λ (h : Head). h.locations) c.head-locations.ensures)
-    (ap (λ (h : Head). h.arguments) c.head-locations.ensures) c.program_places.ensures.value _ _ (sym c.program_room.ensures ∙ c.if-not-program_room.false)
-    c.in_err-to.ensures.reads_list)
+    (lists_err _ _ _ _ c.args.first c.args.c.now _ _ _ _ k m places _ _ room c.in_err-to.ensures.reads_list)
 
 pub returns-clause-reads_lists : goal.returns-clause-reads_lists
 returns-clause-reads_lists c =
-    lists_read _ _ _ _ c.args.first c.args.c.now _ _ _ _ (ap (λ (h : Head). h.locations) c.head-locations.ensures)
-    (ap (λ (h : Head). h.arguments) c.head-locations.ensures) c.program_places.ensures.value _ _ _ _ (sym c.program_room.ensures ∙ c.if-not-program_room.false)
-    c.in_ok-to.ensures.reads_list c.read_list-2.ensures.reads_list
+    let k = ap (λ (h : Head). h.locations) c.head-locations.ensures in
+    let m = ap (λ (h : Head). h.arguments) c.head-locations.ensures in
+    let room = sym c.program_room.ensures ∙ c.if-not-program_room.false in
+    let places = c.program_places.ensures.value in
+    lists_read _ _ _ _ c.args.first c.args.c.now _ _ _ _ k m places _ _ _ _ room c.in_ok-to.ensures.reads_list c.read_list-2.ensures.reads_list

@@ -1,7 +1,6 @@
 -- Operand number n stands behind number n - 1; number 0, the statement's byte, is no operand.
-use Rattle.std.proofs.Common.{ℕ, zero, suc, ◌+◌, ◌-◌, ◌≡◌, refl, ap, ◌∙◌, arith}
+use Rattle.std.proofs.Common.{ℕ, zero, suc, ◌+◌, ◌-◌, ◌≡◌, ap, ◌∙◌, arith}
 use Rattle.rules.specs.declared.statements.Kind.{Kind}
-use Rattle.rules.specs.declared.statements.Kind.TheVariants.{Init, Magic, Free, Gate, Measure, Merge, Ref, Get, Set, If, While, Call, Bool}
 use Rattle.rules.specs.Kinds.{byte_of}
 use Rattle.standing.specs.declared.state.Standing.{Standing}
 use Rattle.standing.specs.Numbers.{rest_lives}
@@ -9,19 +8,7 @@ use Rattle.standing.proofs.state.Standing.rest_lives.Goals as goal
 
 module _ (s : Standing) (f : ℕ) where
   with_byte : (k : Kind) → rest_lives s (byte_of k) 1 f ≡ rest_lives s (byte_of k) 0 f
-  with_byte Init = refl
-  with_byte Magic = refl
-  with_byte Free = refl
-  with_byte Gate = refl
-  with_byte Measure = refl
-  with_byte Merge = refl
-  with_byte Ref = refl
-  with_byte Get = refl
-  with_byte Set = refl
-  with_byte If = refl
-  with_byte While = refl
-  with_byte Call = refl
-  with_byte Bool = refl
+  with_byte k = grind arith
 
   with_operand : (k : Kind) (n m : ℕ) → m ≡ n - 1 → rest_lives s (byte_of k) (m + 1) f ≡ rest_lives s (byte_of k) n f
   with_operand k zero m e = ap (λ (i : ℕ). rest_lives s (byte_of k) i f) (omega arith) ∙ with_byte k
